@@ -1,0 +1,337 @@
+-- Rows being filled with products. The idea: up to 8 products the rows are at every moment the cells of the sum that they read as, so that
+-- two of them are the same row exactly where they are the same product; and capping a list at each step is capping it at the end.
+-- Assumes nothing.
+use mathlib.Core.Path.{_≡_, refl, sym, ap, _∙_}
+use mathlib.Core.Bool.{Bool, true, false, not, cond, _&&_, _||_, and-false, and-true, or-true}
+use mathlib.Core.List.{List, [], _∷_, _++_, map, append-assoc}
+use mathlib.Core.Option.{none, some}
+use Prim.Native.Nat.{ℕ, zero, suc, _+_, _-_, _≤_, _<_, min}
+use native.Mathlib.Omega.{arith}
+use native.Mathlib.Numerals.{add-one}
+use lib.Dec.{ltb, leb, eqb}
+use lib.ListN.{length, getD, set, take, drop, replicate, length-append, length-map, length-take, length-replicate, length-set, List·getD-append}
+use lib.Seq.{drop-cons, append-snoc, set-at, getD-take, take-all, length-take-le}
+use borrow.Author.Tests.{ltb-false, le-ltb, le-leb, lt-leb, leb-true, leb-false, eqb-true, eq-eqb}
+use Rattle.product.specs.Product.{Product, same, contradictory, sameProduct}
+use Rattle.product.specs.Sum.{Sum, Sum?, joinEach, joinAll, present, consistent, firsts, tidy, narrow, fitsNode, cap, conjoin, disjoin, joined}
+use Rattle.product.specs.Code.{codeOf, literalAt}
+use Rattle.product.specs.Cells.{sizeOf, productOf, productsOf, sumOf, rowOf, blankRow, rowsOf, cellsOf, countOf, Written}
+use Rattle.product.specs.Steps.{add, addTo, addEach, Clean, Filled, wideOf, Blank, Row, sameFrom, sameCells}
+use Rattle.product.proofs.Codes.{same-codes}
+use Rattle.product.proofs.Lists.{map-append, getD-mapped, part-snoc, length-part, part-cons, part-past}
+use Rattle.product.proofs.Placing.{blank-length}
+use Rattle.product.proofs.Widening.{read, read-take}
+
+both : (a b : Bool) → (a && b) ≡ true → (a ≡ true) × (b ≡ true)
+both true b e = (refl, e)
+both false b e = (e, cc)
+
+neither : (a b : Bool) → (a || b) ≡ false → (a ≡ false) × (b ≡ false)
+neither true b e = (e, cc)
+neither false b e = (refl, e)
+
+-- lists of products: how wide they are
+
+narrow-snoc : (ps : Sum) (p : Product) → narrow ps ≡ true → narrow (ps ++ p ∷ []) ≡ leb (length p) 6
+unfolding narrow
+narrow-snoc [] p h = and-true (leb (length p) 6)
+narrow-snoc (q ∷ ps) p h = let b = both (leb (length q) 6) (narrow ps) h in rw (b .0) (narrow-snoc ps p (b .1))
+
+fits-snoc : (ps : Sum) (p : Product) → narrow ps ≡ true → fitsNode (ps ++ p ∷ []) ≡ (leb (length ps + 1) 8 && leb (length p) 6)
+unfolding fitsNode
+fits-snoc ps p h = rw (length-append ps (p ∷ []), narrow-snoc ps p h)
+
+narrow-part : (ps : Sum) (p : Product) → narrow (ps ++ p ∷ []) ≡ true → narrow ps ≡ true
+unfolding narrow
+narrow-part [] p h = refl
+narrow-part (q ∷ ps) p h = let b = both (leb (length q) 6) (narrow (ps ++ p ∷ [])) h in rw (b .0) (narrow-part ps p (b .1))
+
+fits-part : (ps : Sum) (p : Product) → fitsNode (ps ++ p ∷ []) ≡ true → fitsNode ps ≡ true
+unfolding fitsNode
+fits-part ps p h =
+    let b = both (leb (length (ps ++ p ∷ [])) 8) (narrow (ps ++ p ∷ [])) h in
+    rw (le-leb (length ps) 8 (omega (arith, leb-true (length (ps ++ p ∷ [])) 8 (b .0), length-append ps (p ∷ []))), narrow-part ps p (b .1))
+
+-- capping at each step is capping at the end
+
+fits-add : (ps : Sum) (p : Product) → fitsNode (add ps p) ≡ true → fitsNode ps ≡ true
+unfolding add
+fits-add ps p = go (contradictory p || present p ps)
+  where
+    go : (b : Bool) → fitsNode (cond b ps (ps ++ p ∷ [])) ≡ true → fitsNode ps ≡ true
+    go true h = h
+    go false h = fits-part ps p h
+
+cap-add : (ps : Sum) (p : Product) → addTo (cap ps) p ≡ cap (add ps p)
+cap-add ps p = go (fitsNode ps) (fitsNode (add ps p)) refl refl
+  where
+    go : (a b : Bool) → fitsNode ps ≡ a → fitsNode (add ps p) ≡ b → addTo (cond a (some ps) none) p ≡ cond b (some (add ps p)) none
+    go true b e f = rw f
+    go false true e f = let h = fits-add ps p f in cc
+    go false false e f = refl
+
+firsts-add : (found : Sum) (p : Product) (ps : Sum) → firsts (add found p) (consistent ps) ≡ firsts found (consistent (p ∷ ps))
+unfolding add firsts consistent
+firsts-add found p ps = go (contradictory p)
+  where
+    go : (a : Bool) → firsts (cond (a || present p found) found (found ++ p ∷ [])) (consistent ps) ≡ firsts found (cond a (consistent ps) (p ∷ consistent ps))
+    go true = refl
+    go false = refl
+
+cap-each : (found ps : Sum) → addEach (cap found) ps ≡ cap (firsts found (consistent ps))
+unfolding addEach firsts consistent
+cap-each found [] = refl
+cap-each found (p ∷ ps) = ap (λ (x : Sum?). addEach x ps) (cap-add found p) ∙ cap-each (add found p) ps ∙ ap cap (firsts-add found p ps)
+
+pub each-tidy : (ps : Sum) → addEach (some []) ps ≡ cap (tidy ps)
+unfolding fitsNode narrow
+each-tidy ps = cap-each [] ps
+
+pub each-append : (x : Sum?) (ps qs : Sum) → addEach x (ps ++ qs) ≡ addEach (addEach x ps) qs
+unfolding addEach
+each-append x [] qs = refl
+each-append x (p ∷ ps) qs = each-append (addTo x p) ps qs
+
+-- the sums that rows read as
+
+short-product : (row : List ℕ) → length (productOf row) ≤ 6
+short-product row = omega (arith, length-map (take (sizeOf row) row) literalAt, length-take (sizeOf row) row)
+
+narrow-rows : (n : ℕ) (rows : List (List ℕ)) → narrow (productsOf n rows) ≡ true
+unfolding narrow
+narrow-rows zero rows = refl
+narrow-rows (suc n) [] = refl
+narrow-rows (suc n) (row ∷ rows) = rw (le-leb (length (productOf row)) 6 (short-product row)) (narrow-rows n rows)
+
+length-rows : (n : ℕ) (rows : List (List ℕ)) → length (productsOf n rows) ≤ n
+length-rows n rows = omega (arith, length-map (take n rows) productOf, length-take n rows)
+
+rows-fit : (n : ℕ) (rows : List (List ℕ)) → n ≤ 8 → fitsNode (productsOf n rows) ≡ true
+unfolding fitsNode
+rows-fit n rows h = rw (le-leb (length (productsOf n rows)) 8 (omega (arith, length-rows n rows)), narrow-rows n rows)
+
+pub sum-few : {n : ℕ} (rows : List (List ℕ)) → n ≤ 8 → sumOf n rows ≡ some (productsOf n rows)
+sum-few {n} rows h = rw (le-leb n 8 h)
+
+pub sum-wide : {n : ℕ} (rows : List (List ℕ)) → 8 < n → sumOf n rows ≡ none
+sum-wide {n} rows h = rw (lt-leb n 8 h)
+
+-- rows that are the cells of their sum
+
+rows-length : (ps : Sum) → length ps ≤ 8 → length (rowsOf ps) ≡ 8
+rows-length ps h =
+    length-append (map rowOf ps) (replicate (8 - length ps) blankRow)
+    ∙ omega (arith, length-map ps rowOf, length-replicate (8 - length ps) blankRow)
+
+module _ {rows : List (List ℕ)} {n : ℕ} (h : n ≤ 8) (c : Clean rows n) where
+  pub clean-length : length rows ≡ 8
+  clean-length = ap length (c .cells h) ∙ rows-length (productsOf n rows) (omega (arith, length-rows n rows))
+
+  pub clean-count : length (productsOf n rows) ≡ n
+  clean-count = length-part productOf rows n (omega (arith, clean-length))
+
+  pub clean-row : (i : ℕ) → i < n → getD rows i [] ≡ rowOf (productOf (getD rows i []))
+  clean-row i k =
+      let l : length (take n rows) ≡ n = length-take-le n rows (omega (arith, clean-length)) in
+      let m : length (map rowOf (productsOf n rows)) ≡ n = length-map (productsOf n rows) rowOf ∙ clean-count in
+      ap (λ (r : List (List ℕ)). getD r i []) (c .cells h)
+      ∙ List·getD-append (map rowOf (productsOf n rows)) (replicate (8 - length (productsOf n rows)) blankRow) [] i (omega arith)
+      ∙ getD-mapped rowOf (productsOf n rows) i [] [] (omega (arith, clean-count))
+      ∙ ap rowOf (getD-mapped productOf (take n rows) i [] [] (omega arith) ∙ ap productOf (getD-take n rows i [] k))
+
+-- two rows that are the cells of their products
+
+row-length : (row : List ℕ) → row ≡ rowOf (productOf row) → length row ≡ 8
+row-length row e =
+    let p = productOf row in
+    ap length e ∙ length-append (map codeOf p ++ replicate (7 - length p) 0) (length p ∷ [])
+    ∙ omega (arith, length-append (map codeOf p) (replicate (7 - length p) 0), length-map p codeOf, length-replicate {A = ℕ} (7 - length p) 0, short-product row)
+
+eqb-same : (n : ℕ) → eqb n n ≡ true
+eqb-same n = eq-eqb n n refl
+
+cells-same : (a : List ℕ) → sameCells a a ≡ true
+cells-same a = simp eqb-same
+
+reads-same : (a b : List ℕ) (n i : ℕ) → sameFrom a b i n ≡ true → read a i n ≡ read b i n
+unfolding read
+reads-same a b zero i e = refl
+reads-same a b (suc zero) i e = rw (eqb-true (getD a i 0) (getD b i 0) e)
+reads-same a b (suc (suc n)) i e =
+    let h = both (eqb (getD a i 0) (getD b i 0)) (sameFrom a b (suc i) (suc n)) e in
+    rw (eqb-true (getD a i 0) (getD b i 0) (h .0), reads-same a b (suc n) (suc i) (h .1))
+
+same-cells : (a b : List ℕ) → length a ≡ 8 → length b ≡ 8 → sameCells a b ≡ true → a ≡ b
+same-cells a b l m h =
+    sym (read-take a 0 8 (omega arith) ∙ take-all 8 a (omega arith)) ∙ reads-same a b 8 0 h ∙ (read-take b 0 8 (omega arith) ∙ take-all 8 b (omega arith))
+
+codes-same : (xs : List ℕ) → sameProduct (map literalAt xs) (map literalAt xs) ≡ true
+unfolding sameProduct
+codes-same [] = refl
+codes-same (x ∷ xs) = rw (same-codes x x, eqb-same x) (codes-same xs)
+
+same-codes-all : (xs ys : List ℕ) → sameProduct (map literalAt xs) (map literalAt ys) ≡ true → xs ≡ ys
+unfolding sameProduct
+same-codes-all [] [] h = refl
+same-codes-all [] (y ∷ ys) h = cc
+same-codes-all (x ∷ xs) [] h = cc
+same-codes-all (x ∷ xs) (y ∷ ys) h =
+    let b = both (same (literalAt x) (literalAt y)) (sameProduct (map literalAt xs) (map literalAt ys)) h in
+    let e : x ≡ y = eqb-true x y (sym (same-codes x y) ∙ b .0) in
+    let t = same-codes-all xs ys (b .1) in
+    cc
+
+pub same-rows : (a b : List ℕ) → a ≡ rowOf (productOf a) → b ≡ rowOf (productOf b) → sameCells a b ≡ sameProduct (productOf a) (productOf b)
+same-rows a b p q = go (sameCells a b) (sameProduct (productOf a) (productOf b)) refl refl
+  where
+    go : (x y : Bool) → sameCells a b ≡ x → sameProduct (productOf a) (productOf b) ≡ y → x ≡ y
+    go true true d e = refl
+    go true false d e =
+        let i = same-cells a b (row-length a p) (row-length b q) d in
+        let s : sameProduct (productOf a) (productOf b) ≡ true = rw (← i) (codes-same (take (sizeOf a) a)) in
+        cc
+    go false true d e =
+        let i = same-codes-all (take (sizeOf a) a) (take (sizeOf b) b) e in
+        let j : a ≡ b = p ∙ ap (λ (x : List ℕ). rowOf (map literalAt x)) i ∙ sym q in
+        let s : sameCells a b ≡ true = rw (← j) (cells-same a) in
+        cc
+    go false false d e = refl
+
+-- a loop that looks for a row among clean ones: what is left at i, and at the end
+module _ {rows : List (List ℕ)} {n : ℕ} {row : List ℕ} (c : (n ≤ 8) × (Clean rows n) × (row ≡ rowOf (productOf row))) (i : ℕ) where
+  pub present-same : i < n → (drop i (productsOf n rows) ≡ productOf (getD rows i []) ∷ drop (i + 1) (productsOf n rows))
+      × (sameCells row (getD rows i []) ≡ sameProduct (productOf row) (productOf (getD rows i [])))
+  present-same h =
+      (part-cons productOf rows n (omega (arith, c .0, clean-length (c .0) (c .1))) i [] h, same-rows row (getD rows i []) (c .2) (clean-row (c .0) (c .1) i h))
+
+  pub present-past : n ≤ i → drop i (productsOf n rows) ≡ []
+  present-past h = part-past productOf rows n (omega (arith, c .0, clean-length (c .0) (c .1))) i h
+
+-- adding one product: the ways that `add` returns
+
+other-length : (p q : Product) → (length p ≡ length q → ⊥) → sameProduct p q ≡ false
+unfolding sameProduct
+other-length [] [] h = absurd (h refl)
+other-length [] (y ∷ q) h = refl
+other-length (x ∷ p) [] h = refl
+other-length (x ∷ p) (y ∷ q) h = rw (other-length p q (λ e. h (ap suc e))) (and-false (same x y))
+
+-- a product that is too long is no repeat
+long-absent : (p : Product) (ps : Sum) → 6 < length p → narrow ps ≡ true → present p ps ≡ false
+unfolding present narrow
+long-absent p [] h n = refl
+long-absent p (q ∷ ps) h n =
+    let b = both (leb (length q) 6) (narrow ps) n in
+    rw (other-length p q (λ e. omega (arith, leb-true (length q) 6 (b .0))), long-absent p ps h (b .1))
+
+pub filled-wide : {rows : List (List ℕ)} {n : ℕ} (p : Product) → Clean rows n → 8 < n → Filled (addTo (sumOf n rows) p) rows n
+filled-wide {rows} {n} p c h = record { clean = c; reads = rw (sum-wide rows h) }
+
+too-wide : (rows : List (List ℕ)) → Clean rows 9
+too-wide rows = record { bound = omega arith; cells = λ h. let z : ⊥ = omega arith in absurd z }
+
+module _ {rows : List (List ℕ)} {n : ℕ} (h : n ≤ 8) (c : Clean rows n) (p : Product) where
+  pub filled-skip : (contradictory p || present p (productsOf n rows)) ≡ true → Filled (addTo (sumOf n rows) p) rows n
+  unfolding add
+  filled-skip e = record { clean = c; reads = rw (sum-few rows h, e, rows-fit n rows h) }
+
+  grown : contradictory p ≡ false → present p (productsOf n rows) ≡ false
+      → addTo (sumOf n rows) p ≡ cond (leb (n + 1) 8 && leb (length p) 6) (some (productsOf n rows ++ p ∷ [])) none
+  unfolding add
+  grown a b = rw (sum-few rows h, a, b, fits-snoc (productsOf n rows) p (narrow-rows n rows), clean-count h c)
+
+  pub filled-long : contradictory p ≡ false → 6 < length p → Filled (addTo (sumOf n rows) p) rows 9
+  filled-long a l =
+      record {
+        clean = too-wide rows;
+        reads = sym (grown a (long-absent p (productsOf n rows) l (narrow-rows n rows)) ∙ rw (lt-leb (length p) 6 l, and-false (leb (n + 1) 8)));
+      }
+
+  pub filled-full : contradictory p ≡ false → present p (productsOf n rows) ≡ false → n ≡ 8 → Filled (addTo (sumOf n rows) p) rows 9
+  filled-full a b e = record { clean = too-wide rows; reads = sym (grown a b ∙ rw e) }
+
+  blank-rows : n < 8 → replicate (8 - n) blankRow ≡ blankRow ∷ replicate (8 - (n + 1)) blankRow
+  blank-rows l = let e : 8 - n ≡ suc (8 - (n + 1)) = omega arith in ap (λ (k : ℕ). replicate k blankRow) e
+
+  pub filled-last : {row : List ℕ} → contradictory p ≡ false → present p (productsOf n rows) ≡ false → n < 8 → length p ≤ 6 → Row p row
+      → Filled (addTo (sumOf n rows) p) (set rows n row) (n + 1)
+  filled-last {row} a b l s r =
+      let ps = productsOf n rows in
+      let k : length (map rowOf ps) ≡ n = length-map ps rowOf ∙ clean-count h c in
+      let t : productsOf (n + 1) (set rows n row) ≡ ps ++ p ∷ [] = part-snoc productOf rows n row (omega (arith, clean-length h c)) ∙ rw (r .product) in
+      let e : rows ≡ map rowOf ps ++ blankRow ∷ replicate (8 - (n + 1)) blankRow = c .cells h ∙ rw (clean-count h c, blank-rows l) in
+      let m : length (ps ++ p ∷ []) ≡ n + 1 = length-append ps (p ∷ []) ∙ omega (arith, clean-count h c) in
+      record {
+        clean = record {
+          bound = omega arith;
+          cells = λ _. ap (λ (x : List (List ℕ)). set x n row) e
+              ∙ set-at (map rowOf ps) blankRow (replicate (8 - (n + 1)) blankRow) row n k
+              ∙ sym (rw (t, m, map-append rowOf ps (p ∷ []), ← r .cells) (append-snoc (map rowOf ps) row (replicate (8 - (n + 1)) blankRow)));
+        };
+        reads = sum-few {n = n + 1} (set rows n row) (omega arith) ∙ rw t (sym (grown a b ∙ rw (le-leb (n + 1) 8 (omega arith), le-leb (length p) 6 s)));
+      }
+
+-- the row of a product is the cells of its product
+pub row-clean : {p : Product} {row : List ℕ} → Row p row → row ≡ rowOf (productOf row)
+row-clean r = r .cells ∙ ap rowOf (sym (r .product))
+
+-- a finished sum
+pub finished : {rows : List (List ℕ)} {n : ℕ} → Clean rows n → n ≤ 8 → Written (sumOf n rows) rows n
+finished {rows} {n} c h =
+    record { cells = c .cells h ∙ rw (sum-few rows h); count = sym (rw (sum-few rows h) (clean-count h c)); reads = refl }
+
+pub blanked : (rows : List (List ℕ)) (n : ℕ) → 8 < n → Written (sumOf n rows) (rowsOf []) 9
+blanked rows n h = record { cells = rw (sum-wide rows h); count = rw (sum-wide rows h); reads = rw (sum-wide rows h) }
+
+pub clean-blank : Clean (rowsOf []) 0
+clean-blank = record { bound = omega arith; cells = λ _. refl }
+
+-- a loop that adds products: what is left to add makes the total
+pub record Adding (total : Sum?) (rest : Sum) (rows : List (List ℕ)) (n : ℕ) : Type 0 where
+  pub clean : Clean rows n
+  pub whole : total ≡ addEach (sumOf n rows) rest
+
+pub adding-start : {rows : List (List ℕ)} {n : ℕ} (ps : Sum) → Clean rows n → Adding (addEach (sumOf n rows) ps) ps rows n
+adding-start ps c = record { clean = c; whole = refl }
+
+module _ {total : Sum?} {rest : Sum} {rows : List (List ℕ)} {n : ℕ} (a : Adding total rest rows n) where
+  -- several products are added, or one
+  pub adding-more : {new : List (List ℕ)} {r : ℕ} (ps more : Sum) → rest ≡ ps ++ more → Filled (addEach (sumOf n rows) ps) new r → Adding total more new r
+  adding-more ps more e f =
+      record { clean = f .clean; whole = a .whole ∙ rw (e, each-append (sumOf n rows) ps more) (ap (λ (x : Sum?). addEach x more) (sym (f .reads))) }
+
+  pub adding-next : {new : List (List ℕ)} {r : ℕ} (p : Product) (more : Sum) → rest ≡ p ∷ more → Filled (addTo (sumOf n rows) p) new r → Adding total more new r
+  unfolding addEach
+  adding-next p more e f = adding-more (p ∷ []) more e (record { clean = f .clean; reads = f .reads })
+
+  pub adding-end : rest ≡ [] → Filled total rows n
+  unfolding addEach
+  adding-end e = record { clean = a .clean; reads = sym (a .whole ∙ rw e) }
+
+-- two sums joined
+module _ (left right : List (List ℕ)) (n m : ℕ) (l : length left ≡ 8) (r : length right ≡ 8) where
+  abbrev tooMany : Bool
+  tooMany = ltb (length left) n || ltb (length right) m
+
+  -- what the test of the counts says
+  pub both-few : tooMany ≡ false → (n ≤ 8) × (m ≤ 8)
+  both-few h = let b = neither (ltb (length left) n) (ltb (length right) m) h in (omega (arith, ltb-false (length left) n (b .0)), omega (arith, ltb-false (length right) m (b .1)))
+
+  one-wide : (g : Sum → Sum → Sum) → tooMany ≡ true → joined g (sumOf n left) (sumOf m right) ≡ none
+  one-wide g h = go (leb n 8) (leb m 8) refl refl
+    where
+      go : (a b : Bool) → leb n 8 ≡ a → leb m 8 ≡ b → joined g (cond a (some (productsOf n left)) none) (cond b (some (productsOf m right)) none) ≡ none
+      go false b e d = refl
+      go true false e d = refl
+      go true true e d =
+          let x : ltb (length left) n ≡ false = le-ltb (length left) n (omega (arith, leb-true n 8 e)) in
+          let y : ltb (length right) m ≡ false = le-ltb (length right) m (omega (arith, leb-true m 8 d)) in
+          let z : _≡_ {A = Bool} false true = rw (x, y) at h in
+          cc
+
+  pub joined-wide : (g : Sum → Sum → Sum) → tooMany ≡ true → Written (joined g (sumOf n left) (sumOf m right)) (rowsOf []) 9
+  joined-wide g h = let e = one-wide g h in record { cells = rw e; count = rw e; reads = rw e }
+
+  pub joined-few : (g : Sum → Sum → Sum) {x : Sum?} {rows out : List (List ℕ)} {k c : ℕ} → tooMany ≡ false → Filled x rows k → x ≡ cap (g (productsOf n left) (productsOf m right))
+      → Written (sumOf k rows) out c → Written (joined g (sumOf n left) (sumOf m right)) out c
+  joined-few g h f e w = let b = both-few h in rw (sum-few left (b .0), sum-few right (b .1), ← e, ← f .reads) w

@@ -1,0 +1,10 @@
+pub mod Truth
+pub mod Ordering
+pub mod Every
+pub mod Opening
+pub mod Ordered
+pub mod Codes
+pub mod Lists
+pub mod Placing
+pub mod Widening
+pub mod Filling

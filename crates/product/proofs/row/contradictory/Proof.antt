@@ -1,0 +1,69 @@
+use borrow.Author.Needs.{needs}
+use mathlib.Core.Path.{_≡_, refl, sym, _∙_}
+use Prim.Native.Nat.{_-_}
+use native.Mathlib.Omega.{arith}
+use lib.ListN.{drop}
+use Rattle.product.proofs.Placing.{wide-cons, wide-past}
+use Rattle.product.specs.Steps.{wideOf}
+use Rattle.product.specs.Product.{contradictory}
+use Rattle.product.proofs.row.contradictory.Statement.{statement}
+use Rattle.product.proofs.row.contradictory.Tie as tie
+use Rattle.product.proofs.row.contradictory.Reads as reads
+use Rattle.product.proofs.row.contradictory.Lts as lts
+use Rattle.product.proofs.row.clashes.Reads as clashes-reads
+
+abbrev Inv-loop : tie.InvT-loop
+Inv-loop cells n i₀ i = contradictory (wideOf n cells) ≡ contradictory (drop i (wideOf n cells))
+
+abbrev μ-loop : tie.MeasureT-loop
+μ-loop cells n i₀ i = n - i
+
+loop-holds : tie.Need-loop-holds Inv-loop μ-loop
+loop-holds c = refl
+
+mul-x : tie.Need-mul-x Inv-loop μ-loop
+mul-x c = omega (arith, c .before .before .pre .most)
+
+element-copy-out-x : tie.Need-element-copy-out-x Inv-loop μ-loop
+element-copy-out-x c = omega (arith, c .before .before .pre .most)
+
+add-clashes : tie.Need-add-clashes Inv-loop μ-loop
+add-clashes c = search needs
+
+clashes-requires : tie.Need-clashes-requires Inv-loop μ-loop
+clashes-requires c κs = search needs
+
+returns : tie.Need-returns Inv-loop μ-loop
+unfolding contradictory
+returns c = let b = c .before .before .before .before .before in let v = c .before .before .before .before .loop in sym (v .inv ∙ rw (wide-cons (b .pre) (v .i) (search needs), ← c .before .clashes .ensures, c .if1 .taken))
+
+add-i : tie.Need-add-i Inv-loop μ-loop
+add-i c = search needs
+
+loop-less : tie.Need-loop-less Inv-loop μ-loop
+loop-less c = search needs
+
+loop-again : tie.Need-loop-again Inv-loop μ-loop
+unfolding contradictory
+loop-again c = let b = c .before .before .before .before .before in let v = c .before .before .before .before .loop in v .inv ∙ rw (wide-cons (b .pre) (v .i) (search needs), ← c .before .clashes .ensures, c .if1 .left)
+
+returns-2 : tie.Need-returns-2 Inv-loop μ-loop
+unfolding contradictory
+returns-2 c = let v = c .before .loop in sym (v .inv ∙ rw (wide-past (c .before .before .pre) (v .i) (search needs)))
+
+pub contradictory-spec : {M : Type 1} → statement M
+contradictory-spec =
+    tie.close
+    (tie.spec
+    Inv-loop
+    μ-loop
+    loop-holds
+    mul-x
+    element-copy-out-x
+    add-clashes
+    clashes-requires
+    returns
+    add-i
+    loop-less
+    loop-again
+    returns-2)

@@ -1,0 +1,50 @@
+-- Sums in arrays. A product is a row of 8 cells: its literals as numbers from cell 0 on, in cell 7 how many they are, 0 elsewhere. A sum is
+-- 8 rows and the number of its products; a number above 8 says that it is too wide. Assumes nothing.
+use mathlib.Core.Path.{_≡_}
+use mathlib.Core.Bool.{cond}
+use mathlib.Core.List.{List, [], _∷_, _++_, map}
+use mathlib.Core.Option.{none, some}
+use Prim.Native.Nat.{ℕ, _-_, min}
+use lib.Dec.{leb}
+use lib.ListN.{length, getD, take, replicate}
+use Rattle.product.specs.Product.{Product}
+use Rattle.product.specs.Sum.{Sum, Sum?}
+use Rattle.product.specs.Code.{codeOf, literalAt}
+
+-- the product that a row holds, whatever its numbers are
+abbrev pub sizeOf : List ℕ → ℕ
+sizeOf row = min (getD row 7 0) 6
+
+abbrev pub productOf : List ℕ → Product
+productOf row = map literalAt (take (sizeOf row) row)
+
+-- the sum that the first n rows hold
+abbrev pub productsOf : ℕ → List (List ℕ) → Sum
+productsOf n rows = map productOf (take n rows)
+
+abbrev pub sumOf : ℕ → List (List ℕ) → Sum?
+sumOf n rows = cond (leb n 8) (some (productsOf n rows)) none
+
+-- the cells of a product, and of a sum: every cell that is not used is 0
+abbrev pub rowOf : Product → List ℕ
+rowOf p = map codeOf p ++ replicate (7 - length p) 0 ++ length p ∷ []
+
+abbrev pub blankRow : List ℕ
+blankRow = replicate 8 0
+
+abbrev pub rowsOf : Sum → List (List ℕ)
+rowsOf ps = map rowOf ps ++ replicate (8 - length ps) blankRow
+
+abbrev pub cellsOf : Sum? → List (List ℕ)
+cellsOf none = rowsOf []
+cellsOf (some ps) = rowsOf ps
+
+abbrev pub countOf : Sum? → ℕ
+countOf none = 9
+countOf (some ps) = length ps
+
+-- rows and a count are a sum's, cell by cell, and read as that sum
+pub record Written (x : Sum?) (rows : List (List ℕ)) (n : ℕ) : Type 0 where
+  pub cells : rows ≡ cellsOf x
+  pub count : n ≡ countOf x
+  pub reads : sumOf n rows ≡ x

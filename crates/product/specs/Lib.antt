@@ -1,0 +1,6 @@
+pub mod Atom
+pub mod Product
+pub mod Sum
+pub mod Code
+pub mod Cells
+pub mod Steps
