@@ -10,32 +10,24 @@ use native.Mathlib.Omega.{arith}
 use native.Mathlib.Numerals.{add-one}
 use lib.Dec.{ltb, leb, eqb}
 use lib.ListN.{length, getD, set, take, drop, replicate, length-append, length-map, length-take, length-replicate, length-set, List·getD-append}
-use lib.Seq.{drop-cons, append-snoc, set-at, getD-take, take-all, length-take-le}
+use lib.Seq.{drop-cons, append-snoc, set-at, getD-take, length-take-le}
 use borrow.Author.Tests.{ltb-false, le-ltb, le-leb, lt-leb, leb-true, leb-false, eqb-true, eq-eqb}
 use Rattle.product.specs.Product.{Product, same, contradictory, sameProduct}
 use Rattle.product.specs.Sum.{Sum, Sum?, joinEach, joinAll, present, consistent, firsts, tidy, narrow, fitsNode, cap, conjoin, disjoin, joined}
 use Rattle.product.specs.Code.{codeOf, literalAt}
 use Rattle.product.specs.Cells.{sizeOf, productOf, productsOf, sumOf, rowOf, blankRow, rowsOf, cellsOf, countOf, Written}
 use Rattle.product.specs.Steps.{add, addTo, addEach, Clean, Filled, wideOf, Blank, Row, sameFrom, sameCells}
+use Rattle.product.proofs.Truth.{and-both, or-neither}
 use Rattle.product.proofs.Codes.{same-codes}
-use Rattle.product.proofs.Lists.{map-append, getD-mapped, part-snoc, length-part, part-cons, part-past}
+use Rattle.product.proofs.Lists.{map-append, getD-mapped, read, read-all, part-snoc, length-part, part-cons, part-past}
 use Rattle.product.proofs.Placing.{blank-length}
-use Rattle.product.proofs.Widening.{read, read-take}
-
-both : (a b : Bool) → (a && b) ≡ true → (a ≡ true) × (b ≡ true)
-both true b e = (refl, e)
-both false b e = (e, cc)
-
-neither : (a b : Bool) → (a || b) ≡ false → (a ≡ false) × (b ≡ false)
-neither true b e = (e, cc)
-neither false b e = (refl, e)
 
 -- lists of products: how wide they are
 
 narrow-snoc : (ps : Sum) (p : Product) → narrow ps ≡ true → narrow (ps ++ p ∷ []) ≡ leb (length p) 6
 unfolding narrow
 narrow-snoc [] p h = and-true (leb (length p) 6)
-narrow-snoc (q ∷ ps) p h = let b = both (leb (length q) 6) (narrow ps) h in rw (b .0) (narrow-snoc ps p (b .1))
+narrow-snoc (q ∷ ps) p h = let b = and-both (leb (length q) 6) (narrow ps) h in rw (b .0) (narrow-snoc ps p (b .1))
 
 fits-snoc : (ps : Sum) (p : Product) → narrow ps ≡ true → fitsNode (ps ++ p ∷ []) ≡ (leb (length ps + 1) 8 && leb (length p) 6)
 unfolding fitsNode
@@ -44,12 +36,12 @@ fits-snoc ps p h = rw (length-append ps (p ∷ []), narrow-snoc ps p h)
 narrow-part : (ps : Sum) (p : Product) → narrow (ps ++ p ∷ []) ≡ true → narrow ps ≡ true
 unfolding narrow
 narrow-part [] p h = refl
-narrow-part (q ∷ ps) p h = let b = both (leb (length q) 6) (narrow (ps ++ p ∷ [])) h in rw (b .0) (narrow-part ps p (b .1))
+narrow-part (q ∷ ps) p h = let b = and-both (leb (length q) 6) (narrow (ps ++ p ∷ [])) h in rw (b .0) (narrow-part ps p (b .1))
 
 fits-part : (ps : Sum) (p : Product) → fitsNode (ps ++ p ∷ []) ≡ true → fitsNode ps ≡ true
 unfolding fitsNode
 fits-part ps p h =
-    let b = both (leb (length (ps ++ p ∷ [])) 8) (narrow (ps ++ p ∷ [])) h in
+    let b = and-both (leb (length (ps ++ p ∷ [])) 8) (narrow (ps ++ p ∷ [])) h in
     rw (le-leb (length ps) 8 (omega (arith, leb-true (length (ps ++ p ∷ [])) 8 (b .0), length-append ps (p ∷ []))), narrow-part ps p (b .1))
 
 -- capping at each step is capping at the end
@@ -118,7 +110,7 @@ sum-wide {n} rows h = rw (lt-leb n 8 h)
 
 -- rows that are the cells of their sum
 
-rows-length : (ps : Sum) → length ps ≤ 8 → length (rowsOf ps) ≡ 8
+pub rows-length : (ps : Sum) → length ps ≤ 8 → length (rowsOf ps) ≡ 8
 rows-length ps h =
     length-append (map rowOf ps) (replicate (8 - length ps) blankRow)
     ∙ omega (arith, length-map ps rowOf, length-replicate (8 - length ps) blankRow)
@@ -153,17 +145,17 @@ eqb-same n = eq-eqb n n refl
 cells-same : (a : List ℕ) → sameCells a a ≡ true
 cells-same a = simp eqb-same
 
-reads-same : (a b : List ℕ) (n i : ℕ) → sameFrom a b i n ≡ true → read a i n ≡ read b i n
+reads-same : (a b : List ℕ) (n i : ℕ) → sameFrom a b i n ≡ true → read 0 a i n ≡ read 0 b i n
 unfolding read
 reads-same a b zero i e = refl
 reads-same a b (suc zero) i e = rw (eqb-true (getD a i 0) (getD b i 0) e)
 reads-same a b (suc (suc n)) i e =
-    let h = both (eqb (getD a i 0) (getD b i 0)) (sameFrom a b (suc i) (suc n)) e in
+    let h = and-both (eqb (getD a i 0) (getD b i 0)) (sameFrom a b (suc i) (suc n)) e in
     rw (eqb-true (getD a i 0) (getD b i 0) (h .0), reads-same a b (suc n) (suc i) (h .1))
 
 same-cells : (a b : List ℕ) → length a ≡ 8 → length b ≡ 8 → sameCells a b ≡ true → a ≡ b
 same-cells a b l m h =
-    sym (read-take a 0 8 (omega arith) ∙ take-all 8 a (omega arith)) ∙ reads-same a b 8 0 h ∙ (read-take b 0 8 (omega arith) ∙ take-all 8 b (omega arith))
+    sym (read-all 0 a 8 l) ∙ reads-same a b 8 0 h ∙ read-all 0 b 8 m
 
 codes-same : (xs : List ℕ) → sameProduct (map literalAt xs) (map literalAt xs) ≡ true
 unfolding sameProduct
@@ -176,7 +168,7 @@ same-codes-all [] [] h = refl
 same-codes-all [] (y ∷ ys) h = cc
 same-codes-all (x ∷ xs) [] h = cc
 same-codes-all (x ∷ xs) (y ∷ ys) h =
-    let b = both (same (literalAt x) (literalAt y)) (sameProduct (map literalAt xs) (map literalAt ys)) h in
+    let b = and-both (same (literalAt x) (literalAt y)) (sameProduct (map literalAt xs) (map literalAt ys)) h in
     let e : x ≡ y = eqb-true x y (sym (same-codes x y) ∙ b .0) in
     let t = same-codes-all xs ys (b .1) in
     cc
@@ -221,7 +213,7 @@ long-absent : (p : Product) (ps : Sum) → 6 < length p → narrow ps ≡ true �
 unfolding present narrow
 long-absent p [] h n = refl
 long-absent p (q ∷ ps) h n =
-    let b = both (leb (length q) 6) (narrow ps) n in
+    let b = and-both (leb (length q) 6) (narrow ps) n in
     rw (other-length p q (λ e. omega (arith, leb-true (length q) 6 (b .0))), long-absent p ps h (b .1))
 
 pub filled-wide : {rows : List (List ℕ)} {n : ℕ} (p : Product) → Clean rows n → 8 < n → Filled (addTo (sumOf n rows) p) rows n
@@ -315,7 +307,7 @@ module _ (left right : List (List ℕ)) (n m : ℕ) (l : length left ≡ 8) (r :
 
   -- what the test of the counts says
   pub both-few : tooMany ≡ false → (n ≤ 8) × (m ≤ 8)
-  both-few h = let b = neither (ltb (length left) n) (ltb (length right) m) h in (omega (arith, ltb-false (length left) n (b .0)), omega (arith, ltb-false (length right) m (b .1)))
+  both-few h = let b = or-neither (ltb (length left) n) (ltb (length right) m) h in (omega (arith, ltb-false (length left) n (b .0)), omega (arith, ltb-false (length right) m (b .1)))
 
   one-wide : (g : Sum → Sum → Sum) → tooMany ≡ true → joined g (sumOf n left) (sumOf m right) ≡ none
   one-wide g h = go (leb n 8) (leb m 8) refl refl

@@ -5,7 +5,7 @@ use Prim.Native.Nat.{ℕ, zero, suc, _+_, _-_, _≤_, _<_}
 use native.Mathlib.Omega.{arith}
 use native.Mathlib.Numerals.{add-one}
 use lib.ListN.{length, getD, set, take, drop, replicate, length-map, List·getD-map, drop-of-length-le, take-append-drop}
-use lib.Seq.{drop-drop, take-take, take-suc-set, take-set-lt, drop-set-lt, length-take-le, getD-take, drop-cons, drop-length}
+use lib.Seq.{take-all, drop-drop, take-take, take-suc-set, take-set-lt, drop-set-lt, length-take-le, getD-take, drop-cons, drop-length}
 
 module _ {A B : Type 0} (f : A → B) where
   pub map-append : (s t : List A) → map f (s ++ t) ≡ map f s ++ map f t
@@ -51,6 +51,19 @@ pub blank-next : {A : Type 0} (a : A) (cells : List A) (m n : ℕ) → drop n ce
 blank-next a cells m n h =
     let e : m - n - 1 ≡ m - (n + 1) = omega arith in
     sym (drop-drop 1 n cells) ∙ rw (h, drop-replicate a 1 (m - n), e)
+
+-- n elements from a place on, one by one
+unfoldable pub read : {A : Type 0} → A → List A → ℕ → ℕ → List A
+read d l i zero = []
+read d l i (suc n) = getD l i d ∷ read d l (suc i) n
+
+pub read-take : {A : Type 0} (d : A) (l : List A) (i n : ℕ) → i + n ≤ length l → read d l i n ≡ take n (drop i l)
+unfolding read
+read-take d l i zero h = refl
+read-take d l i (suc n) h = rw (drop-cons l i d (omega arith)) (ap (λ s. getD l i d ∷ s) (read-take d l (suc i) n (omega arith)))
+
+pub read-all : {A : Type 0} (d : A) (l : List A) (n : ℕ) → length l ≡ n → read d l 0 n ≡ l
+read-all d l n h = read-take d l 0 n (omega arith) ∙ take-all n l (omega arith)
 
 -- A loop over the first n elements of an array l, each seen by f: what is left at i, and at the end. Such a loop's invariant says that the
 -- answer for the whole is the answer for what is left.

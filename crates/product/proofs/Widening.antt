@@ -11,7 +11,7 @@ use Rattle.product.specs.Code.{codeOf, literalAt}
 use Rattle.product.specs.Cells.{sizeOf, productOf, rowOf}
 use Rattle.product.specs.Steps.{Size, wideOf, Blank, Inserted, Joined, Row}
 use Rattle.product.proofs.Codes.{literal-code}
-use Rattle.product.proofs.Lists.{map-map, map-id, take-replicate, part-cons, part-past}
+use Rattle.product.proofs.Lists.{map-map, map-id, take-replicate, read, read-take, part-cons, part-past}
 use Rattle.product.proofs.Placing.{blank-length}
 
 -- the first i cells of the row are copied
@@ -91,16 +91,6 @@ row-for xs n l h =
     let t : take n (rowFor xs n) ≡ xs = ap (take n) a ∙ take-at xs (replicate (7 - n) 0 ++ n ∷ []) n l in
     record { cells = sym (rw (codes-back xs, m)); product = ap (map literalAt) (ap (λ (j : ℕ). take j (rowFor xs n)) z ∙ t) }
 
--- n cells from a place on
-unfoldable pub read : List ℕ → ℕ → ℕ → List ℕ
-read l i zero = []
-read l i (suc n) = getD l i 0 ∷ read l (suc i) n
-
-pub read-take : (l : List ℕ) (i n : ℕ) → i + n ≤ length l → read l i n ≡ take n (drop i l)
-unfolding read
-read-take l i zero h = refl
-read-take l i (suc n) h = rw (drop-cons l i 0 (omega arith)) (ap (λ (s : List ℕ). getD l i 0 ∷ s) (read-take l (suc i) n (omega arith)))
-
 module _ {cells : List ℕ} {n : ℕ} (h : n ≤ 6) (b : Blank cells n) where
   front : take 7 cells ≡ take n cells ++ replicate (7 - n) 0
   front =
@@ -121,6 +111,6 @@ module _ {cells : List ℕ} {n : ℕ} (h : n ≤ 6) (b : Blank cells n) where
   unfolding read
   narrowed =
       let l : length (take n cells) ≡ n = length-take-le n cells (omega (arith, blank-length b)) in
-      let r : read cells 0 7 ≡ take n cells ++ replicate (7 - n) 0 = read-take cells 0 7 (omega (arith, blank-length b)) ∙ front in
+      let r : read 0 cells 0 7 ≡ take n cells ++ replicate (7 - n) 0 = read-take 0 cells 0 7 (omega (arith, blank-length b)) ∙ front in
       let e : getD cells 0 0 ∷ getD cells 1 0 ∷ getD cells 2 0 ∷ getD cells 3 0 ∷ getD cells 4 0 ∷ getD cells 5 0 ∷ 0 ∷ [] ≡ take n cells ++ replicate (7 - n) 0 = rw sixth at r in
       rw (ap (λ (s : List ℕ). s ++ n ∷ []) e) (row-for (take n cells) n l h)

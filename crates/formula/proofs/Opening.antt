@@ -1,0 +1,109 @@
+-- The opening law of an accepted text, its bounds, and with them the laws of the compiler. Assumes nothing.
+use mathlib.Core.Path.{_≡_, refl, sym, _∙_}
+use mathlib.Core.Bool.{true, false}
+use mathlib.Core.List.{[], _∷_}
+use mathlib.Core.Option.{some}
+use Prim.Native.Nat.{ℕ, _≤_}
+use native.Mathlib.Omega.{arith}
+use lib.Dec.{leb, ltb}
+use lib.ListN.{length}
+use borrow.Author.Tests.{leb-true, ltb-true}
+use Rattle.product.specs.declared.literal.Literal.{Literal}
+use Rattle.product.specs.Atom.{numberOf, atomOf}
+use Rattle.product.specs.Product.{All, no-more, and-more}
+use Rattle.product.specs.Sum.{Sum, opensAny, narrow, fitsNode}
+use Rattle.product.proofs.Truth.{and-both}
+use Rattle.product.proofs.Every.{all-mapped}
+use Rattle.product.proofs.Ordered.{Ordered, ordered-once}
+use Rattle.formula.specs.declared.text.Issued.{Issued}
+use Rattle.formula.specs.Tree.{ors, Tree, holds}
+use Rattle.formula.specs.Text.{issuedOf, issuedTo, allIssued}
+use Rattle.formula.specs.Nodes.{products, fits}
+use Rattle.formula.specs.Outcome.{Outcome, accepted, tooWide, judgeList, outcomeOf}
+use Rattle.formula.specs.Compiler.{Numbered, Kept, Bounded, Laws}
+use Rattle.formula.specs.Opening.{Opened, OpeningLaw, AcceptedWhere, textHolds, HoldsSpelt}
+use Rattle.formula.proofs.Reading.{reader-complete}
+use Rattle.formula.proofs.Nodes.{opening, every-atom, products-ordered, products-atoms, products-witness, fits-node}
+use Rattle.formula.proofs.Judging.{outcome-text, Judged, formula, none-such, judged, list-fits, judged-fits, judged-accepted}
+
+-- the bounds
+
+narrow-short : (ps : Sum) → narrow ps ≡ true → All (λ p. length p ≤ 6) ps
+unfolding narrow
+narrow-short [] h = no-more
+narrow-short (p ∷ ps) h =
+    let b = and-both (leb (length p) 6) (narrow ps) h in
+    and-more (leb-true (length p) 6 (b .0)) (narrow-short ps (b .1))
+
+issued-numbered : (i : Issued) (x : Literal) → issuedTo i (atomOf x) ≡ true → Numbered x
+unfolding issuedTo
+issued-numbered i x h =
+    let b = and-both (ltb (numberOf (atomOf x)) 65536) (ltb (numberOf (atomOf x)) (issuedOf i (atomOf x))) h in
+    ltb-true (numberOf (atomOf x)) 65536 (b .0)
+
+all-kept : (i : Issued) {ps : Sum} → All (λ p. length p ≤ 6) ps → All Ordered ps
+    → All (λ p. All (λ x. issuedTo i (atomOf x) ≡ true) p) ps → All Kept ps
+all-kept i no-more no-more no-more = no-more
+all-kept i (and-more {x = p} s r) (and-more o q) (and-more a t) =
+    and-more
+    (record { short = s; rising = o; single = ordered-once p o; numbers = all-mapped (issued-numbered i) a })
+    (all-kept i r q t)
+
+products-bounded : (i : Issued) (t : Tree ors) → allIssued i t ≡ true → fits false t ≡ true → 1 ≤ length (products false t)
+    → Bounded (products false t)
+unfolding fitsNode
+products-bounded i t h f l =
+    let ps = products false t in
+    let b = and-both (leb (length ps) 8) (narrow ps) (fits-node false t f) in
+    record {
+      filled = l;
+      few = leb-true (length ps) 8 (b .0);
+      each = all-kept i (narrow-short ps (b .1)) (products-ordered false t) (products-atoms (issuedTo i) false t h);
+    }
+
+-- the law
+
+pub opening-law : OpeningLaw
+opening-law i s ps e = go (judged i s) e
+  where
+    other : accepted ps ≡ tooWide → ⊥
+    other h = let z : _≡_ {A = ℕ} 0 1 = cc in omega arith
+
+    go : {o : Outcome} → Judged i s o → o ≡ accepted ps → Opened i s ps
+    go (formula t h) j =
+        let f = judged-fits t (accepted ps) j other in
+        let a = judged-accepted t ps j f in
+        record {
+          tree = t;
+          text = h;
+          fit = f;
+          list = a .0;
+          witness = products-witness t (rw (a .0) at (a .1));
+          law = λ ρ. rw (a .0) (opening ρ false t);
+          bounds = rw (a .0) (products-bounded i t (h .issued) f (rw (a .0) at (a .1)));
+        }
+    go (none-such n) j = let z : _≡_ {A = ℕ} 0 1 = cc in absurd (omega arith)
+
+pub accepted-where : AcceptedWhere
+unfolding opensAny
+accepted-where i s t h f ρ e = outcome-text i s h ∙ rw (list-fits t f) (go (products false t) (opening ρ false t ∙ e))
+  where
+    go : (ps : Sum) → opensAny ρ ps ≡ true → judgeList (some ps) ≡ accepted ps
+    go [] o = cc
+    go (p ∷ ps) o = refl
+
+-- the formula of a text
+
+pub holds-spelt : HoldsSpelt
+unfolding textHolds
+holds-spelt i s t h ρ =
+    rw (reader-complete (λ a. true) s t (record { spelt = h .spelt; shallow = h .shallow; known-atoms = every-atom t }))
+
+-- the laws of the compiler, of that formula
+abbrev pub laws : Laws outcomeOf
+laws =
+    record {
+      holds = textHolds;
+      opening = λ i s ps e ρ. let o = opening-law i s ps e in o .law ρ ∙ sym (holds-spelt i s (o .tree) (o .text) ρ);
+      bounds = λ i s ps e. opening-law i s ps e .bounds;
+    }

@@ -1,0 +1,14 @@
+use borrow.Author.Needs.{needs}
+use Rattle.formula.proofs.reader.signed.Statement.{statement}
+use Rattle.formula.proofs.reader.signed.Tie as tie
+use Rattle.formula.proofs.reader.signed.Reads as reads
+use Rattle.formula.proofs.reader.signed.Lts as lts
+
+returns : tie.Need-returns
+returns c = rw (c .if1 .taken)
+
+returns-2 : tie.Need-returns-2
+returns-2 c = rw (c .if1 .left)
+
+pub signed-spec : {M : Type 1} → statement M
+signed-spec = tie.close (tie.spec returns returns-2)

@@ -1,0 +1,40 @@
+-- What a layer above may use of the compiler of formula texts, and all of it. Document 01, 'Lock text': the desk's layer rests on this law,
+-- not on the text. Assumes nothing.
+use mathlib.Core.Path.{_≡_}
+use mathlib.Core.Bool.{Bool, true}
+use mathlib.Core.List.{List}
+use Prim.Native.Nat.{ℕ, _≤_, _<_}
+use lib.ListN.{length}
+use Rattle.product.specs.declared.literal.Literal.{Literal}
+use Rattle.product.specs.Atom.{Atom, numberOf, atomOf}
+use Rattle.product.specs.Product.{Product, ordered, once, All}
+use Rattle.product.specs.Sum.{Sum, opensAny}
+use Rattle.formula.specs.declared.text.Issued.{Issued}
+use Rattle.formula.specs.Outcome.{Outcome, accepted}
+
+abbrev pub Compiler : Type 0
+Compiler = Issued → List ℕ → Outcome
+
+-- the key's number has 16 bits
+abbrev pub Numbered : Literal → Type 0
+Numbered x = numberOf (atomOf x) < 65536
+
+-- a product as it is kept: at most 6 literals, in order, with no key twice
+pub record Kept (p : Product) : Type 0 where
+  pub short : length p ≤ 6
+  pub rising : ordered p ≡ true
+  pub single : once p ≡ true
+  pub numbers : All Numbered p
+
+-- one to eight products
+pub record Bounded (ps : Sum) : Type 0 where
+  pub filled : 1 ≤ length ps
+  pub few : length ps ≤ 8
+  pub each : All Kept ps
+
+pub record Laws (compile : Compiler) : Type 0 where
+  -- the text's formula is true of a key set, whatever keys were handed out when it was compiled
+  pub holds : (Atom → Bool) → List ℕ → Bool
+  -- a key set opens a product of an accepted text exactly where the formula is true of it
+  pub opening : (i : Issued) (s : List ℕ) (ps : Sum) → compile i s ≡ accepted ps → (ρ : Atom → Bool) → opensAny ρ ps ≡ holds ρ s
+  pub bounds : (i : Issued) (s : List ℕ) (ps : Sum) → compile i s ≡ accepted ps → Bounded ps

@@ -1,0 +1,13 @@
+pub mod Tree
+pub mod Spelling
+pub mod Text
+pub mod Nodes
+pub mod Reader
+pub mod Outcome
+pub mod Compiler
+pub mod Grammar
+pub mod Width
+pub mod Void
+pub mod Opening
+pub mod Examples
+pub mod Steps

@@ -1,0 +1,49 @@
+-- The opening law: document 01, 'Lock text'. A text is accepted exactly where it is in the grammar, every node fits and some key set makes
+-- its formula true; its products are then its formula's, within the bounds, and a key set opens one of them exactly where it makes the
+-- formula true. Proved in `proofs/Opening.antt`. Assumes nothing.
+use mathlib.Core.Path.{_≡_}
+use mathlib.Core.Bool.{Bool, true, false}
+use mathlib.Core.List.{List}
+use mathlib.Core.Option.{Option, none, some}
+use Prim.Native.Nat.{ℕ}
+use Rattle.product.specs.Atom.{Atom}
+use Rattle.product.specs.Sum.{Sum, opensAny}
+use Rattle.formula.specs.declared.text.Issued.{Issued}
+use Rattle.formula.specs.Tree.{ors, Tree, holds}
+use Rattle.formula.specs.Text.{Text}
+use Rattle.formula.specs.Nodes.{products, fits}
+use Rattle.formula.specs.Reader.{readText}
+use Rattle.formula.specs.Outcome.{accepted, outcomeOf}
+use Rattle.formula.specs.Compiler.{Bounded}
+
+pub record Opened (i : Issued) (s : List ℕ) (ps : Sum) : Type 0 where
+  pub tree : Tree ors
+  pub text : Text i s tree
+  pub fit : fits false tree ≡ true
+  pub list : ps ≡ products false tree
+  pub witness : (ρ : Atom → Bool) × (holds ρ tree ≡ true)
+  pub law : (ρ : Atom → Bool) → opensAny ρ ps ≡ holds ρ tree
+  pub bounds : Bounded ps
+
+-- an accepted text has all this
+abbrev pub OpeningLaw : Type 0
+OpeningLaw = (i : Issued) (s : List ℕ) (ps : Sum) → outcomeOf i s ≡ accepted ps → Opened i s ps
+
+-- and the other way round: where the text is such, it is accepted, with its formula's products
+abbrev pub AcceptedWhere : Type 0
+AcceptedWhere =
+    (i : Issued) (s : List ℕ) (t : Tree ors) → Text i s t → fits false t ≡ true → (ρ : Atom → Bool) → holds ρ t ≡ true
+    → outcomeOf i s ≡ accepted (products false t)
+
+-- What the laws of the compiler call the formula of a text: the tree that the reader finds, whatever keys were handed out. False of a text
+-- that is no formula.
+abbrev pub treeHolds : (Atom → Bool) → Option (Tree ors) → Bool
+treeHolds ρ none = false
+treeHolds ρ (some t) = holds ρ t
+
+unfoldable pub textHolds : (Atom → Bool) → List ℕ → Bool
+textHolds ρ s = treeHolds ρ (readText (λ a. true) s)
+
+-- it is the formula as which the text is in the grammar
+abbrev pub HoldsSpelt : Type 0
+HoldsSpelt = (i : Issued) (s : List ℕ) (t : Tree ors) → Text i s t → (ρ : Atom → Bool) → textHolds ρ s ≡ holds ρ t

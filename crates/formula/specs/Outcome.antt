@@ -1,0 +1,70 @@
+-- What compiling a formula text answers: its products, or a refusal. Document 01, 'Lock text' and refusals 11 to 13. Assumes nothing.
+use mathlib.Core.Bool.{false, cond}
+use mathlib.Core.List.{List, [], _∷_, map}
+use mathlib.Core.Option.{Option, none, some}
+use Prim.Native.Nat.{ℕ}
+use lib.Dec.{leb}
+use lib.ListN.{length}
+use Rattle.product.specs.Sum.{Sum, Sum?}
+use Rattle.product.specs.Cells.{rowsOf}
+use Rattle.formula.specs.declared.text.Issued.{Issued}
+use Rattle.formula.specs.declared.text.Verdict.{Verdict}
+use Rattle.formula.specs.declared.text.Verdict.the-variants.{Accepted, Malformed, TooWide, Unsatisfiable}
+use Rattle.formula.specs.declared.text.Row.{Row}
+use Rattle.formula.specs.declared.text.Compiled.{Compiled}
+use Rattle.formula.specs.Tree.{ors, Tree}
+use Rattle.formula.specs.Text.{issuedTo}
+use Rattle.formula.specs.Nodes.{listOf}
+use Rattle.formula.specs.Reader.{readText}
+
+pub data Outcome : Type 0 where
+  accepted : Sum → Outcome
+  malformed tooWide unsatisfiable : Outcome
+
+-- too wide where some node does not fit, else unsatisfiable where the whole formula's list is empty
+abbrev pub judgeList : Sum? → Outcome
+judgeList none = tooWide
+judgeList (some []) = unsatisfiable
+judgeList (some (p ∷ ps)) = accepted (p ∷ ps)
+
+-- malformed before all else: no text of the grammar, which one of over 96 bytes is not either
+abbrev pub judge : Option (Tree ors) → Outcome
+judge none = malformed
+judge (some t) = judgeList (listOf false t)
+
+unfoldable pub outcomeOf : Issued → List ℕ → Outcome
+outcomeOf i s = cond (leb (length s) 96) (judge (readText (issuedTo i) s)) malformed
+
+-- document 01's number of a refusal: misspelt, too wide, void
+abbrev pub refusalNumber : Outcome → Option ℕ
+refusalNumber (accepted ps) = none
+refusalNumber malformed = some 11
+refusalNumber tooWide = some 12
+refusalNumber unsatisfiable = some 13
+
+-- the answer in arrays, every place of it: the products' rows, and blank rows after them; of a refusal none but blank ones
+
+abbrev pub verdictOf : Outcome → Verdict
+verdictOf (accepted ps) = Accepted
+verdictOf malformed = Malformed
+verdictOf tooWide = TooWide
+verdictOf unsatisfiable = Unsatisfiable
+
+abbrev pub sumIn : Outcome → Sum
+sumIn (accepted ps) = ps
+sumIn malformed = []
+sumIn tooWide = []
+sumIn unsatisfiable = []
+
+abbrev pub rowWith : List ℕ → Row
+rowWith cells = record { cells = cells }
+
+abbrev pub answerOf : Outcome → Compiled
+answerOf o = record { verdict = verdictOf o; count = length (sumIn o); rows = map rowWith (rowsOf (sumIn o)) }
+
+-- a refusal's
+abbrev pub refusedOf : Verdict → Compiled
+refusedOf v = record { verdict = v; count = 0; rows = map rowWith (rowsOf []) }
+
+abbrev pub compiledOf : Issued → List ℕ → Compiled
+compiledOf i s = answerOf (outcomeOf i s)

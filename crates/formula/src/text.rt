@@ -1,0 +1,92 @@
+// From a formula text to its products.
+ghost use mathlib.Core.Path.{_≡_};
+ghost use Rattle.formula.specs.Outcome.{verdictOf, answerOf, refusedOf, compiledOf};
+ghost use Rattle.formula.specs.Steps.{eightRows};
+use crate::reader::read_or;
+
+// How many keys of each kind were handed out.
+pub struct Issued {
+    pub users: u32,
+    pub threads: u32,
+    pub segments: u32,
+    pub defined: u32,
+}
+
+pub enum Verdict {
+    Accepted,
+    Malformed,
+    TooWide,
+    Unsatisfiable,
+}
+
+// A product: a row of 8 cells, as `product` lays them out.
+pub struct Row {
+    pub cells: [u32; 8],
+}
+
+// The products' rows and how many they are; of a refusal none, and blank rows.
+pub struct Compiled {
+    pub verdict: Verdict,
+    pub count: usize,
+    pub rows: [Row; 8],
+}
+
+// The most bytes of a text, and the most brackets within brackets.
+const MOST_BYTES: usize = 96;
+
+const MOST_DEEP: usize = 8;
+
+// The products of a formula text, or the first refusal that applies to it: malformed, too wide, unsatisfiable.
+pub fn compile(text: &[u8], issued: Issued) -> Compiled
+    ensures { λ r. ⌜ r ≡ compiledOf issued (now (text .entry)) ⌝ }
+{
+    if MOST_BYTES < text.len() {
+        return refused(Verdict::Malformed);
+    }
+    let mut rows = [[0u32; 8]; 8];
+    let node = read_or(text, 0, MOST_DEEP, false, issued, &mut rows);
+    if !node.ok {
+        return refused(Verdict::Malformed);
+    }
+    let end = node.at;
+    let count = node.count;
+    if end < text.len() {
+        return refused(Verdict::Malformed);
+    }
+    if 8 < count {
+        return refused(Verdict::TooWide);
+    }
+    if count == 0 {
+        return refused(Verdict::Unsatisfiable);
+    }
+    Compiled {
+        verdict: Verdict::Accepted,
+        count,
+        rows: packed(&rows),
+    }
+}
+
+fn refused(verdict: Verdict) -> Compiled
+    ensures { λ r. ⌜ r ≡ refusedOf verdict ⌝ }
+{
+    Compiled {
+        verdict,
+        count: 0,
+        rows: [Row { cells: [0u32; 8] }; 8],
+    }
+}
+
+fn packed(rows: &[[u32; 8]; 8]) -> [Row; 8]
+    ensures { λ r. ⌜ r ≡ eightRows (now (rows .entry)) ⌝ }
+{
+    [
+        Row { cells: rows[0] },
+        Row { cells: rows[1] },
+        Row { cells: rows[2] },
+        Row { cells: rows[3] },
+        Row { cells: rows[4] },
+        Row { cells: rows[5] },
+        Row { cells: rows[6] },
+        Row { cells: rows[7] },
+    ]
+}
