@@ -1,0 +1,62 @@
+use borrow.Author.Needs.{needs}
+use denote.Ref.{now}
+use mathlib.Core.Path.{_∙_}
+use native.Mathlib.Omega.{arith}
+use Rattle.abi.proofs.Outcomes.{says, accepted-few, accepted-number, accepted-rows}
+use Rattle.abi.specs.Answers.{issuedWith}
+use Rattle.formula.specs.Outcome.{outcomeOf}
+use Rattle.abi.proofs.text.rotundaaloe_compile.Statement.{statement}
+use Rattle.abi.proofs.text.rotundaaloe_compile.Tie as tie
+use Rattle.abi.proofs.text.rotundaaloe_compile.Reads as reads
+use Rattle.abi.proofs.text.rotundaaloe_compile.Lts as lts
+use Rattle.abi.proofs.text.cells_of.Reads as cells-of-reads
+use Rattle.formula.proofs.text.compile.Reads as compile-reads
+
+compile-requires : tie.Need-compile-requires
+compile-requires c κs = search needs
+
+enum-told : tie.Need-enum-told
+enum-told c = search needs
+
+enum-told-2 : tie.Need-enum-told-2
+enum-told-2 c = search needs
+
+enum-told-3 : tie.Need-enum-told-3
+enum-told-3 c = search needs
+
+enum-told-4 : tie.Need-enum-told-4
+enum-told-4 c = search needs
+
+cells-of-requires : tie.Need-cells-of-requires
+cells-of-requires c κs = search needs
+
+cast-result : tie.Need-cast-result
+cast-result c = let a = c .before .before .before .before .before .before .args in let i = issuedWith (a .users) (a .threads) (a .segments) (a .defined) in let s = now (a .text) in let e = c .before .before .before .before .compile .ensures in omega (arith, accepted-few i s (now (a .rows)) e (c .before .before .enum-told4 .given .1))
+
+returns : tie.Need-returns
+returns c = let a = c .before .before .before .before .args in let i = issuedWith (a .users) (a .threads) (a .segments) (a .defined) in let s = now (a .text) in let e = c .before .before .compile .ensures in says (outcomeOf i s) (now (a .rows)) e (c .enum-told .given .1)
+
+returns-2 : tie.Need-returns-2
+returns-2 c = let a = c .before .before .before .before .args in let i = issuedWith (a .users) (a .threads) (a .segments) (a .defined) in let s = now (a .text) in let e = c .before .before .compile .ensures in says (outcomeOf i s) (now (a .rows)) e (c .enum-told2 .given .1)
+
+returns-3 : tie.Need-returns-3
+returns-3 c = let a = c .before .before .before .before .args in let i = issuedWith (a .users) (a .threads) (a .segments) (a .defined) in let s = now (a .text) in let e = c .before .before .compile .ensures in says (outcomeOf i s) (now (a .rows)) e (c .enum-told3 .given .1)
+
+returns-4 : tie.Need-returns-4
+returns-4 c = let a = c .before .before .before .before .before .before .args in let i = issuedWith (a .users) (a .threads) (a .segments) (a .defined) in let s = now (a .text) in let e = c .before .before .before .before .compile .ensures in let t = c .before .before .enum-told4 .given .1 in (accepted-number i s (now (a .rows)) e t, c .cells-of .ensures ∙ accepted-rows i s (now (a .rows)) e t)
+
+pub rotundaaloe-compile-spec : {M : Type 1} → statement M
+rotundaaloe-compile-spec =
+    tie.close
+    (tie.spec
+    compile-requires
+    enum-told
+    enum-told-2
+    enum-told-3
+    enum-told-4
+    cells-of-requires
+    cast-result
+    returns
+    returns-2
+    returns-3
+    returns-4)

@@ -1,0 +1,2 @@
+// The guard for C and Rust: thin exported functions over the proved crates, with the C header in host/include.
+pub mod text;

@@ -1,0 +1,71 @@
+// Formula texts for C: the answer is a number, and the products go into rows that the caller lends.
+ghost use mathlib.Core.Path.{_≡_};
+ghost use Rattle.formula.specs.Outcome.{outcomeOf};
+ghost use Rattle.abi.specs.Answers.{issuedWith, numberIn, rowsIn, eightCells};
+use formula::text::Issued;
+use formula::text::Row;
+use formula::text::Verdict;
+use formula::text::compile;
+
+// Document 01's numbers of the three refusals.
+const MALFORMED: u32 = 11;
+
+const TOO_WIDE: u32 = 12;
+
+const UNSATISFIABLE: u32 = 13;
+
+// The number of products, 1 to 8, with their cells in the rows; or the number of a refusal, and then no cell is changed.
+#[no_mangle]
+pub extern "C" fn rotundaaloe_compile(
+    text: &[u8],
+    users: u32,
+    threads: u32,
+    segments: u32,
+    defined: u32,
+    rows: &mut [[u32; 8]; 8],
+) -> u32
+    ensures number { λ r. ⌜ r ≡ numberIn (outcomeOf (issuedWith users threads segments defined) (now (text .entry))) ⌝ }
+    ensures cells { λ r. ⌜ now (rows .exit) ≡ rowsIn (outcomeOf (issuedWith users threads segments defined) (now (text .entry))) (now (rows .entry)) ⌝ }
+{
+    let issued = Issued {
+        users,
+        threads,
+        segments,
+        defined,
+    };
+    let compiled = compile(text, issued);
+    let verdict = compiled.verdict;
+    match verdict {
+        Verdict::Malformed => MALFORMED,
+        Verdict::TooWide => TOO_WIDE,
+        Verdict::Unsatisfiable => UNSATISFIABLE,
+        Verdict::Accepted => {
+            let count = compiled.count;
+            let products = compiled.rows;
+            *rows = cells_of(products);
+            count as u32
+        }
+    }
+}
+
+fn cells_of(rows: [Row; 8]) -> [[u32; 8]; 8]
+    ensures { λ r. ⌜ r ≡ eightCells rows ⌝ }
+{
+    let a = rows[0];
+    let b = rows[1];
+    let c = rows[2];
+    let d = rows[3];
+    let e = rows[4];
+    let f = rows[5];
+    let g = rows[6];
+    let h = rows[7];
+    let a = a.cells;
+    let b = b.cells;
+    let c = c.cells;
+    let d = d.cells;
+    let e = e.cells;
+    let f = f.cells;
+    let g = g.cells;
+    let h = h.cells;
+    [a, b, c, d, e, f, g, h]
+}

@@ -1,0 +1,96 @@
+//! The proved guard as Rust sees it: one declaration, one safe wrapper, and
+//! the translation between its rows and the reference's products.
+
+use reference::formula::{Literal, MAX_LITERALS, Product};
+use reference::{Issued, Key, Kind};
+
+/// The rows that the proved guard writes to: one for each product that fits.
+pub const ROWS: usize = 8;
+/// The cells in a row: one for each literal that fits, one that stays 0, and
+/// the number of literals.
+pub const CELLS: usize = 8;
+/// The cell with the number of literals.
+pub const COUNT_CELL: usize = 7;
+
+/// A sum of products as the proved guard writes it. Row i is product i: its
+/// literals in order from cell 0, and their number in [`COUNT_CELL`]. All other
+/// cells are 0.
+pub type Rows = [[u32; CELLS]; ROWS];
+
+unsafe extern "C" {
+    fn rotundaaloe_compile(
+        text: *const u8,
+        len: usize,
+        users: u32,
+        threads: u32,
+        segments: u32,
+        defined: u32,
+        rows: *mut [u32; CELLS],
+    ) -> u32;
+}
+
+/// The proved guard's sum of products of a text. The answer is the number of
+/// products, 1 to 8, and the rows hold them; or it is the refusal 11, 12 or
+/// 13, and the rows are as they were.
+pub fn compile(text: &[u8], issued: &Issued, rows: &mut Rows) -> u32 {
+    // SAFETY: `text` is valid for reading its length and `rows` for writing
+    // eight rows of eight cells, which no one else can see meanwhile. The
+    // function keeps neither pointer.
+    unsafe {
+        rotundaaloe_compile(
+            text.as_ptr(),
+            text.len(),
+            issued.users,
+            issued.threads,
+            issued.segments,
+            issued.defined,
+            rows.as_mut_ptr(),
+        )
+    }
+}
+
+/// A cell is its kind's place times this, plus twice the number, plus 1 if the
+/// literal is barred.
+const KIND_STEP: u32 = 131_072;
+
+/// The kinds in the order of their places in a cell's number.
+const KINDS: [Kind; 4] = [Kind::User, Kind::Thread, Kind::Segment, Kind::Defined];
+
+/// The rows that a sum of products is written as.
+pub fn rows_of(products: &[Product]) -> Rows {
+    let mut rows = Rows::default();
+    assert!(products.len() <= ROWS);
+    for (row, product) in rows.iter_mut().zip(products) {
+        let literals = product.literals();
+        assert!(literals.len() <= MAX_LITERALS);
+        for (cell, literal) in row.iter_mut().zip(literals) {
+            *cell = cell_of(literal);
+        }
+        row[COUNT_CELL] = literals.len() as u32;
+    }
+    rows
+}
+
+fn cell_of(literal: &Literal) -> u32 {
+    let key = literal.key;
+    let place = KINDS.iter().position(|kind| *kind == key.kind);
+    let place = place.expect("all four kinds have a place") as u32;
+    place * KIND_STEP + u32::from(key.number) * 2 + u32::from(literal.barred)
+}
+
+/// The literals of a row. Panics where the row is none that a product is
+/// written as.
+pub fn literals_of(row: &[u32; CELLS]) -> Vec<Literal> {
+    let count = row[COUNT_CELL] as usize;
+    assert!((1..=MAX_LITERALS).contains(&count), "literals in {row:?}");
+    row[..count].iter().map(|cell| literal_of(*cell)).collect()
+}
+
+fn literal_of(cell: u32) -> Literal {
+    let kind = KINDS[(cell / KIND_STEP) as usize];
+    let number = (cell % KIND_STEP / 2) as u16;
+    Literal {
+        key: Key { kind, number },
+        barred: cell % 2 == 1,
+    }
+}
