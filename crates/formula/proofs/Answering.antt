@@ -3,18 +3,17 @@ use mathlib.Core.Path.{_≡_, refl, sym, ap, _∙_}
 use mathlib.Core.Bool.{Bool, true, false, cond}
 use mathlib.Core.List.{List, [], _∷_, map}
 use mathlib.Core.Option.{Option, none, some}
-use Prim.Native.Nat.{ℕ, suc, _+_, _*_, _-_, _≤_, _<_}
+use Prim.Native.Nat.{ℕ, _+_, _*_, _-_, _≤_, _<_}
 use native.Mathlib.Omega.{arith}
-use lib.Dec.{leb, eqb}
-use lib.ListN.{length, drop, length-drop}
+use lib.Dec.{eqb}
+use lib.ListN.{length, length-drop}
 use borrow.Author.Tests.{le-leb, lt-leb, eqb-true, eqb-false}
-use Rattle.product.specs.Sum.{Sum, Sum?}
-use Rattle.product.specs.Cells.{rowsOf, Written}
+use Rattle.product.specs.Sum.{Sum?}
+use Rattle.product.specs.Cells.{Written}
 use Rattle.product.proofs.Truth.{true-false}
 use Rattle.product.proofs.Lists.{read, read-all}
 use Rattle.product.proofs.Filling.{rows-length, sum-wide}
 use Rattle.formula.specs.declared.text.Issued.{Issued}
-use Rattle.formula.specs.declared.text.Verdict.{Verdict}
 use Rattle.formula.specs.declared.text.Verdict.the-variants.{Accepted, Malformed, TooWide, Unsatisfiable}
 use Rattle.formula.specs.declared.text.Compiled.{Compiled}
 use Rattle.formula.specs.declared.reader.Node.{Node}
@@ -22,7 +21,7 @@ use Rattle.formula.specs.Tree.{ors, Tree}
 use Rattle.formula.specs.Text.{issuedTo}
 use Rattle.formula.specs.Nodes.{listOf}
 use Rattle.formula.specs.Reader.{Found, wholeOf, readText}
-use Rattle.formula.specs.Outcome.{Outcome, accepted, malformed, tooWide, unsatisfiable, judgeList, judge, outcomeOf, rowWith, answerOf, refusedOf, compiledOf}
+use Rattle.formula.specs.Outcome.{tooWide, unsatisfiable, judgeList, judge, outcomeOf, rowWith, answerOf, refusedOf, compiledOf}
 use Rattle.formula.specs.Steps.{Reads, failed, parsed, OrAt, eightRows}
 
 -- the whole text, of what was read in front of it

@@ -1,7 +1,7 @@
 -- The steps of the readers in code: what a reader promises follows from what its callees promise, a law for each way through a reader.
 -- Assumes nothing.
-use mathlib.Core.Path.{_≡_, refl, sym, ap, _∙_}
-use mathlib.Core.Bool.{Bool, true, false, not, cond, _&&_}
+use mathlib.Core.Path.{_≡_, refl, ap, _∙_}
+use mathlib.Core.Bool.{Bool, true, false, not, cond}
 use mathlib.Core.List.{List, [], _∷_}
 use mathlib.Core.Option.{Option, none, some}
 use Prim.Native.Nat.{ℕ, zero, suc, _+_, _*_, _-_, _≤_, _<_}
@@ -23,9 +23,9 @@ use Rattle.formula.specs.declared.reader.Lookup.the-variants.{Named, Not
 use Rattle.formula.specs.Tree.{Level, nots, ands, ors, Tree, atom, negate, bracket, factor, and, term, or}
 use Rattle.formula.specs.Spelling.{spell}
 use Rattle.formula.specs.Text.{issuedTo}
-use Rattle.formula.specs.Nodes.{literal, joinAnd, joinOr, listOf}
-use Rattle.formula.specs.Reader.{Found, found, next, close, keyNamed, keep, named, readNumber, readAtom, readNots, readBracket, readAnds, moreAnds, readOrs, moreOrs}
-use Rattle.formula.specs.Steps.{NumberReads, no-digits, too-large, number, lookupOf, Reads, failed, parsed, AtomAt, NotAt, BracketAt, AndAt, OrAt, MoreAnd, MoreOr}
+use Rattle.formula.specs.Nodes.{literal, joinAnd, listOf}
+use Rattle.formula.specs.Reader.{Found, found, next, close, keyNamed, keep, named, readNumber, readAtom, readNots, readAnds, moreAnds, readOrs, moreOrs}
+use Rattle.formula.specs.Steps.{NumberReads, no-digits, too-large, number, lookupOf, Reads, failed, parsed, AtomAt, NotAt, BracketAt, OrAt}
 use Rattle.formula.proofs.Reading.{Sound, nothing, reads, sound-nots, sound-ands, spell-size}
 use Rattle.formula.proofs.Nodes.{list-atom, list-negate, list-bracket, list-factor, list-and, list-term, list-or}
 

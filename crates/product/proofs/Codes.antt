@@ -2,7 +2,7 @@
 -- and number, read as two digits of base 65,536, and a literal's a pair of key and sign, of base 2; pairs compare by the first digit, then
 -- by the second. Assumes nothing.
 use mathlib.Core.Path.{_≡_, refl, sym, ap, _∙_}
-use mathlib.Core.Bool.{Bool, true, false, not, cond, _&&_}
+use mathlib.Core.Bool.{Bool, true, false, cond}
 use Prim.Native.Nat.{ℕ, _+_, _*_, _-_, _/_, _%_, _≤_, _<_}
 use native.Mathlib.Omega.{arith}
 use native.Mathlib.Nat.{mul-le-mul-left, mul-suc}
@@ -12,7 +12,7 @@ use Rattle.product.specs.declared.literal.Key.{Key}
 use Rattle.product.specs.declared.literal.Key.the-variants.{User, Thread, Segment, Defined}
 use Rattle.product.specs.declared.literal.Literal.{Literal}
 use Rattle.product.specs.declared.literal.Literal.the-variants.{Plain, Barred}
-use Rattle.product.specs.Atom.{kindOf, numberOf, Order, Less, Equal, Greater, pickOrder, orderOf, thenBy, compareAtoms, atomOf, signOf, compareLiterals, isLess, isEqual}
+use Rattle.product.specs.Atom.{kindOf, numberOf, Order, Less, Equal, Greater, orderOf, thenBy, compareAtoms, atomOf, signOf, compareLiterals, isLess, isEqual}
 use Rattle.product.specs.Product.{same, before, opposed}
 use Rattle.product.specs.Code.{keyCode, codeOf, keyAt, literalAt}
 use Rattle.product.specs.Steps.{EncodedKey, Encoded, opposedCodes}

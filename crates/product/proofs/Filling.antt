@@ -2,25 +2,23 @@
 -- two of them are the same row exactly where they are the same product; and capping a list at each step is capping it at the end.
 -- Assumes nothing.
 use mathlib.Core.Path.{_≡_, refl, sym, ap, _∙_}
-use mathlib.Core.Bool.{Bool, true, false, not, cond, _&&_, _||_, and-false, and-true, or-true}
-use mathlib.Core.List.{List, [], _∷_, _++_, map, append-assoc}
+use mathlib.Core.Bool.{Bool, true, false, cond, _&&_, _||_, and-false, and-true}
+use mathlib.Core.List.{List, [], _∷_, _++_, map}
 use mathlib.Core.Option.{none, some}
-use Prim.Native.Nat.{ℕ, zero, suc, _+_, _-_, _≤_, _<_, min}
+use Prim.Native.Nat.{ℕ, zero, suc, _+_, _-_, _≤_, _<_}
 use native.Mathlib.Omega.{arith}
-use native.Mathlib.Numerals.{add-one}
 use lib.Dec.{ltb, leb, eqb}
-use lib.ListN.{length, getD, set, take, drop, replicate, length-append, length-map, length-take, length-replicate, length-set, List·getD-append}
-use lib.Seq.{drop-cons, append-snoc, set-at, getD-take, length-take-le}
-use borrow.Author.Tests.{ltb-false, le-ltb, le-leb, lt-leb, leb-true, leb-false, eqb-true, eq-eqb}
+use lib.ListN.{length, getD, set, take, drop, replicate, length-append, length-map, length-take, length-replicate, List·getD-append}
+use lib.Seq.{append-snoc, set-at, getD-take, length-take-le}
+use borrow.Author.Tests.{ltb-false, le-ltb, le-leb, lt-leb, leb-true, eqb-true, eq-eqb}
 use Rattle.product.specs.Product.{Product, same, contradictory, sameProduct}
-use Rattle.product.specs.Sum.{Sum, Sum?, joinEach, joinAll, present, consistent, firsts, tidy, narrow, fitsNode, cap, conjoin, disjoin, joined}
+use Rattle.product.specs.Sum.{Sum, Sum?, present, consistent, firsts, tidy, narrow, fitsNode, cap, joined}
 use Rattle.product.specs.Code.{codeOf, literalAt}
-use Rattle.product.specs.Cells.{sizeOf, productOf, productsOf, sumOf, rowOf, blankRow, rowsOf, cellsOf, countOf, Written}
-use Rattle.product.specs.Steps.{add, addTo, addEach, Clean, Filled, wideOf, Blank, Row, sameFrom, sameCells}
+use Rattle.product.specs.Cells.{sizeOf, productOf, productsOf, sumOf, rowOf, blankRow, rowsOf, Written}
+use Rattle.product.specs.Steps.{add, addTo, addEach, Clean, Filled, Row, sameFrom, sameCells}
 use Rattle.product.proofs.Truth.{and-both, or-neither}
 use Rattle.product.proofs.Codes.{same-codes}
 use Rattle.product.proofs.Lists.{map-append, getD-mapped, read, read-all, part-snoc, length-part, part-cons, part-past}
-use Rattle.product.proofs.Placing.{blank-length}
 
 -- lists of products: how wide they are
 

@@ -5,7 +5,7 @@ use Prim.Native.Nat.{ℕ, zero, suc, _+_, _-_, _≤_, _<_}
 use native.Mathlib.Omega.{arith}
 use native.Mathlib.Numerals.{add-one}
 use lib.ListN.{length, getD, set, take, drop, replicate, length-map, List·getD-map, drop-of-length-le, take-append-drop}
-use lib.Seq.{take-all, drop-drop, take-take, take-suc-set, take-set-lt, drop-set-lt, length-take-le, getD-take, drop-cons, drop-length}
+use lib.Seq.{take-all, drop-drop, take-take, take-suc-set, take-set-lt, drop-set-lt, length-take-le, getD-take, drop-cons}
 
 module _ {A B : Type 0} (f : A → B) where
   pub map-append : (s t : List A) → map f (s ++ t) ≡ map f s ++ map f t

@@ -5,13 +5,11 @@ use mathlib.Core.Bool.{Bool, true, false, cond}
 use mathlib.Core.List.{List, [], _∷_, _++_, append-assoc}
 use Prim.Native.Nat.{ℕ, _+_, _-_, _≤_, _<_}
 use native.Mathlib.Omega.{arith}
-use native.Mathlib.Numerals.{add-one}
 use lib.Dec.{ltb, eqb}
 use lib.ListN.{length, getD, set, drop, replicate, length-set, length-drop, length-replicate}
 use lib.Seq.{drop-set-lt}
 use borrow.Author.Tests.{eq-eqb, ne-eqb}
-use Rattle.product.specs.declared.literal.Literal.{Literal}
-use Rattle.product.specs.Product.{Product, same, before, insert}
+use Rattle.product.specs.Product.{insert}
 use Rattle.product.specs.Code.{literalAt}
 use Rattle.product.specs.Steps.{wideOf, lesserOf, greaterOf, Blank, Inserted}
 use Rattle.product.proofs.Codes.{same-codes, before-codes}

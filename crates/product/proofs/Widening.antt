@@ -1,14 +1,14 @@
 -- A row's literals copied into sixteen blank cells, and sixteen cells of at most 6 literals made a row. Assumes nothing.
-use mathlib.Core.Path.{_≡_, refl, sym, ap, _∙_}
+use mathlib.Core.Path.{_≡_, sym, ap, _∙_}
 use mathlib.Core.List.{List, [], _∷_, _++_, map, append-assoc}
-use Prim.Native.Nat.{ℕ, zero, suc, _+_, _-_, _≤_, _<_, min}
+use Prim.Native.Nat.{ℕ, suc, _+_, _-_, _≤_, _<_}
 use native.Mathlib.Omega.{arith}
 use native.Mathlib.Numerals.{add-one}
 use lib.ListN.{length, getD, set, take, drop, replicate, length-map, length-append, length-replicate, getD-replicate, take-append-drop}
-use lib.Seq.{take-suc, append-snoc, set-at, getD-at, getD-drop, take-at, take-append-add, drop-at, drop-cons, length-take-le}
+use lib.Seq.{take-suc, append-snoc, set-at, getD-at, getD-drop, take-at, take-append-add, drop-at, length-take-le}
 use Rattle.product.specs.Product.{Product, union}
 use Rattle.product.specs.Code.{codeOf, literalAt}
-use Rattle.product.specs.Cells.{sizeOf, productOf, rowOf}
+use Rattle.product.specs.Cells.{sizeOf, productOf}
 use Rattle.product.specs.Steps.{Size, wideOf, Blank, Inserted, Joined, Row}
 use Rattle.product.proofs.Codes.{literal-code}
 use Rattle.product.proofs.Lists.{map-map, map-id, take-replicate, read, read-take, part-cons, part-past}

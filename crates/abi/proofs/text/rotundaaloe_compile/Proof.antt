@@ -7,28 +7,6 @@ use Rattle.abi.specs.Answers.{issuedWith}
 use Rattle.formula.specs.Outcome.{outcomeOf}
 use Rattle.abi.proofs.text.rotundaaloe_compile.Statement.{statement}
 use Rattle.abi.proofs.text.rotundaaloe_compile.Tie as tie
-use Rattle.abi.proofs.text.rotundaaloe_compile.Reads as reads
-use Rattle.abi.proofs.text.rotundaaloe_compile.Lts as lts
-use Rattle.abi.proofs.text.cells_of.Reads as cells-of-reads
-use Rattle.formula.proofs.text.compile.Reads as compile-reads
-
-compile-requires : tie.Need-compile-requires
-compile-requires c κs = search needs
-
-enum-told : tie.Need-enum-told
-enum-told c = search needs
-
-enum-told-2 : tie.Need-enum-told-2
-enum-told-2 c = search needs
-
-enum-told-3 : tie.Need-enum-told-3
-enum-told-3 c = search needs
-
-enum-told-4 : tie.Need-enum-told-4
-enum-told-4 c = search needs
-
-cells-of-requires : tie.Need-cells-of-requires
-cells-of-requires c κs = search needs
 
 cast-result : tie.Need-cast-result
 cast-result c = let a = c .before .before .before .before .before .before .args in let i = issuedWith (a .users) (a .threads) (a .segments) (a .defined) in let s = now (a .text) in let e = c .before .before .before .before .compile .ensures in omega (arith, accepted-few i s (now (a .rows)) e (c .before .before .enum-told4 .given .1))
@@ -49,12 +27,12 @@ pub rotundaaloe-compile-spec : {M : Type 1} → statement M
 rotundaaloe-compile-spec =
     tie.close
     (tie.spec
-    compile-requires
-    enum-told
-    enum-told-2
-    enum-told-3
-    enum-told-4
-    cells-of-requires
+    (λ c κs. search needs)  -- compile-requires
+    (λ c. search needs)  -- enum-told
+    (λ c. search needs)  -- enum-told-2
+    (λ c. search needs)  -- enum-told-3
+    (λ c. search needs)  -- enum-told-4
+    (λ c κs. search needs)  -- cells-of-requires
     cast-result
     returns
     returns-2

@@ -4,17 +4,14 @@ use denote.Ref.{now}
 use lib.ListN.{List·getD-eq-default}
 use Rattle.formula.proofs.number.byte_at.Statement.{statement}
 use Rattle.formula.proofs.number.byte_at.Tie as tie
-use Rattle.formula.proofs.number.byte_at.Reads as reads
-use Rattle.formula.proofs.number.byte_at.Lts as lts
-
-shared-slice-read-result : tie.Need-shared-slice-read-result
-shared-slice-read-result c = search needs
-
-returns : tie.Need-returns
-returns c = search needs
 
 returns-2 : tie.Need-returns-2
 returns-2 c = sym (List·getD-eq-default (now (c .before .args .text)) 0 (c .if1 .left))
 
 pub byte-at-spec : {M : Type 1} → statement M
-byte-at-spec = tie.close (tie.spec shared-slice-read-result returns returns-2)
+byte-at-spec =
+    tie.close
+    (tie.spec
+    (λ c. search needs)  -- shared-slice-read-result
+    (λ c. search needs)  -- returns
+    returns-2)

@@ -13,10 +13,6 @@ use Rattle.formula.specs.Steps.{too-large, number}
 use Rattle.formula.specs.Reader.{digit, readDigits}
 use Rattle.formula.proofs.number.read_digits.Statement.{statement}
 use Rattle.formula.proofs.number.read_digits.Tie as tie
-use Rattle.formula.proofs.number.read_digits.Reads as reads
-use Rattle.formula.proofs.number.read_digits.Lts as lts
-use Rattle.formula.proofs.number.is_digit.Reads as is-digit-reads
-use Rattle.formula.proofs.number.no_number.Reads as no-number-reads
 
 abbrev Inv-loop : tie.InvT-loop
 Inv-loop text at value₀ i₀ value i = (value ≤ 65535) × (readDigits 0 (drop at text) ≡ readDigits value (drop i text))
@@ -29,12 +25,6 @@ loop-holds c = (omega arith, refl)
 
 shared-slice-read-b : tie.Need-shared-slice-read-b Inv-loop μ-loop
 shared-slice-read-b c = omega arith
-
-is-digit-requires : tie.Need-is-digit-requires Inv-loop μ-loop
-is-digit-requires c κs = search needs
-
-cast-t13 : tie.Need-cast-t13 Inv-loop μ-loop
-cast-t13 c = search needs
 
 returns : tie.Need-returns Inv-loop μ-loop
 returns c = let a = c .before .before .before .before .before .before .args in let v = c .before .before .before .before .loop in let t = now (a .text) in let e : digit (getD t (v .i) 0) ≡ false = sym (c .before .is-digit .ensures) ∙ not-true (c .before .is-digit .result) (c .if1 .taken) in let p = v .inv .1 ∙ digits-end t (v .i) (v .value) e in number refl (ap (λ (x : ℕ × List ℕ). x .0) p) (ap (λ (x : ℕ × List ℕ). x .1) p)
@@ -51,23 +41,11 @@ mul-next c = omega arith
 add-next : tie.Need-add-next Inv-loop μ-loop
 add-next c = let a = c .before .before .before .before .before .before .args in let v = c .before .before .before .before .loop in omega (arith, digit-range (getD (now (a .text)) (v .i) 0) (sym (c .before .is-digit .ensures) ∙ not-false (c .before .is-digit .result) (c .if1 .left)))
 
-no-number-requires : tie.Need-no-number-requires Inv-loop μ-loop
-no-number-requires c κs = search needs
-
 returns-2 : tie.Need-returns-2 Inv-loop μ-loop
 returns-2 c = let a = c .before .before .before .before .before .before .before .before .args in let b = c .before .before in let v = b .before .before .before .before .loop in let t = now (a .text) in let e : digit (getD t (v .i) 0) ≡ true = sym (b .before .is-digit .ensures) ∙ not-false (b .before .is-digit .result) (b .if1 .left) in let p = v .inv .1 ∙ digits-step t (v .i) (v .value) (omega arith) e in too-large {p = readDigits 0 (drop (a .at) t)} (c .no-number .ensures) (rw p (omega (arith, digits-grow (10 * v .value + (getD t (v .i) 0 - 48)) (drop (v .i + 1) t))))
 
-add-i : tie.Need-add-i Inv-loop μ-loop
-add-i c = search needs
-
-loop-less : tie.Need-loop-less Inv-loop μ-loop
-loop-less c = search needs
-
 loop-again : tie.Need-loop-again Inv-loop μ-loop
 loop-again c = let a = c .before .before .before .before .before .before .before .args in let b = c .before in let v = b .before .before .before .before .loop in let t = now (a .text) in let e : digit (getD t (v .i) 0) ≡ true = sym (b .before .is-digit .ensures) ∙ not-false (b .before .is-digit .result) (b .if1 .left) in (omega arith, v .inv .1 ∙ digits-step t (v .i) (v .value) (omega arith) e)
-
-cast-t15 : tie.Need-cast-t15 Inv-loop μ-loop
-cast-t15 c = search needs
 
 returns-3 : tie.Need-returns-3 Inv-loop μ-loop
 unfolding readDigits
@@ -81,17 +59,17 @@ read-digits-spec =
     μ-loop
     loop-holds
     shared-slice-read-b
-    is-digit-requires
-    cast-t13
+    (λ c κs. search needs)  -- is-digit-requires
+    (λ c. search needs)  -- cast-t13
     returns
     sub-d
     cast-d
     mul-next
     add-next
-    no-number-requires
+    (λ c κs. search needs)  -- no-number-requires
     returns-2
-    add-i
-    loop-less
+    (λ c. search needs)  -- add-i
+    (λ c. search needs)  -- loop-less
     loop-again
-    cast-t15
+    (λ c. search needs)  -- cast-t15
     returns-3)

@@ -31,12 +31,8 @@ use Rattle.formula.proofs.number.byte_at.Reads as byte-at-reads
 use Rattle.formula.proofs.reader.join.Reads as join-reads
 use Rattle.formula.proofs.reader.malformed.Reads as malformed-reads
 use Rattle.formula.proofs.reader.read_atom.Reads as read-atom-reads
-use Rattle.formula.proofs.reader.+more_and+more_or+read_and+read_bracket+read_not+read_or.{
-  statement,
-}
-use Rattle.formula.proofs.reader.+more_and+more_or+read_and+read_bracket+read_not+read_or.Tie.{
-  close,
-}
+use Rattle.formula.proofs.reader.+more_and+more_or+read_and+read_bracket+read_not+read_or.{statement}
+use Rattle.formula.proofs.reader.+more_and+more_or+read_and+read_bracket+read_not+read_or.Tie.{close}
 
 abbrev μ-more-and : Measures 2 more-and-kinds.ps ℕ
 μ-more-and κs a = 4 * (length (now (a .0)) - a .1 .0 .at) + 2

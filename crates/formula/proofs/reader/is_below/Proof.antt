@@ -1,10 +1,7 @@
-use borrow.Author.Needs.{needs}
 use borrow.Author.Tests.{lt-ltb}
 use native.Mathlib.Omega.{arith}
 use Rattle.formula.proofs.reader.is_below.Statement.{statement}
 use Rattle.formula.proofs.reader.is_below.Tie as tie
-use Rattle.formula.proofs.reader.is_below.Reads as reads
-use Rattle.formula.proofs.reader.is_below.Lts as lts
 
 returns : tie.Need-returns
 returns c = rw (lt-ltb (c .args .n) 65536 (omega arith))

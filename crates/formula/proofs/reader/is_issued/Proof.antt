@@ -2,33 +2,6 @@ use borrow.Author.Needs.{needs}
 use Rattle.formula.specs.Text.{issuedTo}
 use Rattle.formula.proofs.reader.is_issued.Statement.{statement}
 use Rattle.formula.proofs.reader.is_issued.Tie as tie
-use Rattle.formula.proofs.reader.is_issued.Reads as reads
-use Rattle.formula.proofs.reader.is_issued.Lts as lts
-use Rattle.formula.proofs.reader.is_below.Reads as is-below-reads
-
-enum-known-k : tie.Need-enum-known-k
-enum-known-k c = search needs
-
-is-below-requires : tie.Need-is-below-requires
-is-below-requires c κs = search needs
-
-enum-known-k-2 : tie.Need-enum-known-k-2
-enum-known-k-2 c = search needs
-
-is-below-requires-2 : tie.Need-is-below-requires-2
-is-below-requires-2 c κs = search needs
-
-enum-known-k-3 : tie.Need-enum-known-k-3
-enum-known-k-3 c = search needs
-
-is-below-requires-3 : tie.Need-is-below-requires-3
-is-below-requires-3 c κs = search needs
-
-enum-known-k-4 : tie.Need-enum-known-k-4
-enum-known-k-4 c = search needs
-
-is-below-requires-4 : tie.Need-is-below-requires-4
-is-below-requires-4 c κs = search needs
 
 returns : tie.Need-returns
 unfolding issuedTo
@@ -50,14 +23,14 @@ pub is-issued-spec : {M : Type 1} → statement M
 is-issued-spec =
     tie.close
     (tie.spec
-    enum-known-k
-    is-below-requires
-    enum-known-k-2
-    is-below-requires-2
-    enum-known-k-3
-    is-below-requires-3
-    enum-known-k-4
-    is-below-requires-4
+    (λ c. search needs)  -- enum-known-k
+    (λ c κs. search needs)  -- is-below-requires
+    (λ c. search needs)  -- enum-known-k-2
+    (λ c κs. search needs)  -- is-below-requires-2
+    (λ c. search needs)  -- enum-known-k-3
+    (λ c κs. search needs)  -- is-below-requires-3
+    (λ c. search needs)  -- enum-known-k-4
+    (λ c κs. search needs)  -- is-below-requires-4
     returns
     returns-2
     returns-3

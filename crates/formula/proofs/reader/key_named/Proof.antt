@@ -1,9 +1,6 @@
-use borrow.Author.Needs.{needs}
 use borrow.Author.Tests.{eq-eqb, ne-eqb}
 use Rattle.formula.proofs.reader.key_named.Statement.{statement}
 use Rattle.formula.proofs.reader.key_named.Tie as tie
-use Rattle.formula.proofs.reader.key_named.Reads as reads
-use Rattle.formula.proofs.reader.key_named.Lts as lts
 
 returns : tie.Need-returns
 returns c = rw (eq-eqb (c .before .args .letter) 85 (c .if1 .taken))

@@ -9,65 +9,18 @@ use Rattle.formula.specs.Reader.{keyNamed}
 use Rattle.formula.specs.declared.reader.Lookup.the-variants.{Named, Nothing}
 use Rattle.formula.proofs.reader.read_atom.Statement.{statement}
 use Rattle.formula.proofs.reader.read_atom.Tie as tie
-use Rattle.formula.proofs.reader.read_atom.Reads as reads
-use Rattle.formula.proofs.reader.read_atom.Lts as lts
-use Rattle.formula.proofs.number.read_number.Reads as read-number-reads
-use Rattle.formula.proofs.reader.is_issued.Reads as is-issued-reads
-use Rattle.formula.proofs.reader.key_named.Reads as key-named-reads
-use Rattle.formula.proofs.reader.malformed.Reads as malformed-reads
-use Rattle.formula.proofs.reader.signed.Reads as signed-reads
-use Rattle.product.proofs.sum.single.Reads as single-reads
-
-malformed-requires : tie.Need-malformed-requires
-malformed-requires c κs = search needs
 
 returns : tie.Need-returns
 returns c = let b = c .before .before .before in let a = b .args in let s = now (a .text) in atom-past (a .issued) s (a .odd) (a .at) (c .before .if1 .taken) (c .malformed .ensures)
 
-shared-slice-read-letter : tie.Need-shared-slice-read-letter
-shared-slice-read-letter c = search needs
-
-add-read-number : tie.Need-add-read-number
-add-read-number c = search needs
-
-read-number-requires : tie.Need-read-number-requires
-read-number-requires c κs = search needs
-
-malformed-requires-2 : tie.Need-malformed-requires-2
-malformed-requires-2 c κs = search needs
-
 returns-2 : tie.Need-returns-2
 returns-2 c = let b = c .before .before .before .before .before .before .before in let a = b .args in let s = now (a .text) in let m = c .before .before .before .read-number in atom-unread (a .issued) s (a .odd) (a .at) (m .ensures) (not-true (m .result .ok) (c .before .if2 .taken)) (c .malformed2 .ensures)
-
-key-named-requires : tie.Need-key-named-requires
-key-named-requires c κs = search needs
-
-enum-known-found : tie.Need-enum-known-found
-enum-known-found c = search needs
-
-enum-told : tie.Need-enum-told
-enum-told c = search needs
-
-malformed-requires-3 : tie.Need-malformed-requires-3
-malformed-requires-3 c κs = search needs
 
 returns-3 : tie.Need-returns-3
 returns-3 c = let b = c .before .before .before .before .before .before .before .before .before .before in let a = b .args in let s = now (a .text) in let m = c .before .before .before .before .before .before .read-number in let e : lookupOf (keyNamed (getD s (a .at) 0) (m .result .value)) ≡ Nothing = cc in atom-unnamed (a .issued) s (a .odd) (a .at) (m .ensures) (not-false (m .result .ok) (c .before .before .before .before .if2 .left)) (lookup-nothing (keyNamed (getD s (a .at) 0) (m .result .value)) e) (c .malformed3 .ensures)
 
-is-issued-requires : tie.Need-is-issued-requires
-is-issued-requires c κs = search needs
-
-malformed-requires-4 : tie.Need-malformed-requires-4
-malformed-requires-4 c κs = search needs
-
 returns-4 : tie.Need-returns-4
 returns-4 c = let b = c .before .before .before .before .before .before .before .before .before .before .before .before .before in let a = b .args in let s = now (a .text) in let m = c .before .before .before .before .before .before .before .before .before .read-number in let k = c .before .before .before .before .found .given .0 .0 in let e : lookupOf (keyNamed (getD s (a .at) 0) (m .result .value)) ≡ Named k = cc in let n = lookup-named (keyNamed (getD s (a .at) 0) (m .result .value)) k e in let o = not-false (m .result .ok) (c .before .before .before .before .before .before .before .if2 .left) in atom-unknown (a .issued) s (a .odd) (a .at) (m .ensures) o k n (sym (c .before .before .is-issued .ensures) ∙ not-true (c .before .before .is-issued .result) (c .before .if3 .taken)) (c .malformed4 .ensures)
-
-signed-requires : tie.Need-signed-requires
-signed-requires c κs = search needs
-
-single-requires : tie.Need-single-requires
-single-requires c κs = search needs
 
 returns-5 : tie.Need-returns-5
 returns-5 c = let b = c .before .before .before .before .before .before .before .before .before .before .before .before .before .before .before in let a = b .args in let s = now (a .text) in let m = c .before .before .before .before .before .before .before .before .before .before .before .read-number in let k = c .before .before .before .before .before .before .found .given .0 .0 in let e : lookupOf (keyNamed (getD s (a .at) 0) (m .result .value)) ≡ Named k = cc in let n = lookup-named (keyNamed (getD s (a .at) 0) (m .result .value)) k e in let o = not-false (m .result .ok) (c .before .before .before .before .before .before .before .before .before .if2 .left) in let w = atom-list (a .odd) k (c .before .signed .ensures) (c .single .ensures) in atom-known (a .issued) s (a .odd) (a .at) (m .ensures) o k n (sym (c .before .before .before .before .is-issued .ensures) ∙ not-false (c .before .before .before .before .is-issued .result) (c .before .before .before .if3 .left)) refl refl w
@@ -76,21 +29,21 @@ pub read-atom-spec : {M : Type 1} → statement M
 read-atom-spec =
     tie.close
     (tie.spec
-    malformed-requires
+    (λ c κs. search needs)  -- malformed-requires
     returns
-    shared-slice-read-letter
-    add-read-number
-    read-number-requires
-    malformed-requires-2
+    (λ c. search needs)  -- shared-slice-read-letter
+    (λ c. search needs)  -- add-read-number
+    (λ c κs. search needs)  -- read-number-requires
+    (λ c κs. search needs)  -- malformed-requires-2
     returns-2
-    key-named-requires
-    enum-known-found
-    enum-told
-    malformed-requires-3
+    (λ c κs. search needs)  -- key-named-requires
+    (λ c. search needs)  -- enum-known-found
+    (λ c. search needs)  -- enum-told
+    (λ c κs. search needs)  -- malformed-requires-3
     returns-3
-    is-issued-requires
-    malformed-requires-4
+    (λ c κs. search needs)  -- is-issued-requires
+    (λ c κs. search needs)  -- malformed-requires-4
     returns-4
-    signed-requires
-    single-requires
+    (λ c κs. search needs)  -- signed-requires
+    (λ c κs. search needs)  -- single-requires
     returns-5)

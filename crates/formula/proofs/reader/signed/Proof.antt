@@ -1,8 +1,5 @@
-use borrow.Author.Needs.{needs}
 use Rattle.formula.proofs.reader.signed.Statement.{statement}
 use Rattle.formula.proofs.reader.signed.Tie as tie
-use Rattle.formula.proofs.reader.signed.Reads as reads
-use Rattle.formula.proofs.reader.signed.Lts as lts
 
 returns : tie.Need-returns
 returns c = rw (c .if1 .taken)

@@ -6,47 +6,21 @@ use Rattle.formula.proofs.Answering.{long-text, text-unread, text-wide,
 use Rattle.product.proofs.Truth.{true-false}
 use Rattle.formula.proofs.text.compile.Statement.{statement}
 use Rattle.formula.proofs.text.compile.Tie as tie
-use Rattle.formula.proofs.text.compile.Reads as reads
-use Rattle.formula.proofs.text.compile.Lts as lts
-use Rattle.formula.proofs.reader.read_or.Reads as read-or-reads
-use Rattle.formula.proofs.text.packed.Reads as packed-reads
-use Rattle.formula.proofs.text.refused.Reads as refused-reads
-
-refused-requires : tie.Need-refused-requires
-refused-requires c κs = search needs
 
 returns : tie.Need-returns
 returns c = let a = c .before .before .before .args in c .refused .ensures ∙ long-text (a .issued) (now (a .text)) (c .before .if1 .taken)
 
-read-or-requires : tie.Need-read-or-requires
-read-or-requires c κs = search needs
-
-refused-requires-2 : tie.Need-refused-requires-2
-refused-requires-2 c κs = search needs
-
 returns-2 : tie.Need-returns-2
 returns-2 c = let a = c .before .before .before .before .before .before .before .args in let s = now (a .text) in let p = c .before .before .before .read-or in let l = c .before .before .before .before .before .if1 .left in c .refused2 .ensures ∙ text-unread (a .issued) s l (p .ensures) (λ o. absurd (true-false o (not-true _ (c .before .if2 .taken))))
-
-refused-requires-3 : tie.Need-refused-requires-3
-refused-requires-3 c κs = search needs
 
 returns-3 : tie.Need-returns-3
 returns-3 c = let a = c .before .before .before .before .before .before .before .before .args in let s = now (a .text) in let p = c .before .before .before .before .read-or in let l = c .before .before .before .before .before .before .if1 .left in c .refused3 .ensures ∙ text-unread (a .issued) s l (p .ensures) (λ o. c .before .if3 .taken)
 
-refused-requires-4 : tie.Need-refused-requires-4
-refused-requires-4 c κs = search needs
-
 returns-4 : tie.Need-returns-4
 returns-4 c = let a = c .before .before .before .before .before .before .before .before .before .args in let s = now (a .text) in let p = c .before .before .before .before .before .read-or in let l = c .before .before .before .before .before .before .before .if1 .left in c .refused4 .ensures ∙ text-wide (a .issued) s l (p .ensures) (not-false _ (c .before .before .before .if2 .left)) (c .before .before .if3 .left) (c .before .if4 .taken)
 
-refused-requires-5 : tie.Need-refused-requires-5
-refused-requires-5 c κs = search needs
-
 returns-5 : tie.Need-returns-5
 returns-5 c = let a = c .before .before .before .before .before .before .before .before .before .before .args in let s = now (a .text) in let p = c .before .before .before .before .before .before .read-or in let l = c .before .before .before .before .before .before .before .before .if1 .left in c .refused5 .ensures ∙ text-void (a .issued) s l (p .ensures) (not-false _ (c .before .before .before .before .if2 .left)) (c .before .before .before .if3 .left) (c .before .if5 .taken)
-
-packed-requires : tie.Need-packed-requires
-packed-requires c κs = search needs
 
 returns-6 : tie.Need-returns-6
 returns-6 c = let a = c .before .before .before .before .before .before .before .before .before .before .before .args in let s = now (a .text) in let p = c .before .before .before .before .before .before .before .read-or in let l = c .before .before .before .before .before .before .before .before .before .if1 .left in rw (c .packed .ensures) (text-accepted (a .issued) s l (p .ensures) (not-false _ (c .before .before .before .before .before .if2 .left)) (c .before .before .before .before .if3 .left) (c .before .before .if5 .left) (c .before .before .before .if4 .left))
@@ -55,16 +29,16 @@ pub compile-spec : {M : Type 1} → statement M
 compile-spec =
     tie.close
     (tie.spec
-    refused-requires
+    (λ c κs. search needs)  -- refused-requires
     returns
-    read-or-requires
-    refused-requires-2
+    (λ c κs. search needs)  -- read-or-requires
+    (λ c κs. search needs)  -- refused-requires-2
     returns-2
-    refused-requires-3
+    (λ c κs. search needs)  -- refused-requires-3
     returns-3
-    refused-requires-4
+    (λ c κs. search needs)  -- refused-requires-4
     returns-4
-    refused-requires-5
+    (λ c κs. search needs)  -- refused-requires-5
     returns-5
-    packed-requires
+    (λ c κs. search needs)  -- packed-requires
     returns-6)

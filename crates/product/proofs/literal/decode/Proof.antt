@@ -3,9 +3,6 @@ use borrow.Author.Tests.{eq-eqb, ne-eqb}
 use Rattle.product.specs.Code.{literalAt}
 use Rattle.product.proofs.literal.decode.Statement.{statement}
 use Rattle.product.proofs.literal.decode.Tie as tie
-use Rattle.product.proofs.literal.decode.Reads as reads
-use Rattle.product.proofs.literal.decode.Lts as lts
-use Rattle.product.proofs.literal.decode_key.Reads as decode-key-reads
 
 decode-key-requires : tie.Need-decode-key-requires
 decode-key-requires c κs = search needs

@@ -3,8 +3,6 @@ use borrow.Author.Tests.{lt-ltb, le-ltb}
 use Rattle.product.specs.Code.{keyAt}
 use Rattle.product.proofs.literal.decode_key.Statement.{statement}
 use Rattle.product.proofs.literal.decode_key.Tie as tie
-use Rattle.product.proofs.literal.decode_key.Reads as reads
-use Rattle.product.proofs.literal.decode_key.Lts as lts
 
 cast-t4 : tie.Need-cast-t4
 cast-t4 c = search needs

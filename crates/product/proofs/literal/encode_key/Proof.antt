@@ -4,41 +4,6 @@ use Rattle.product.specs.declared.literal.Key.the-variants.{User, Thread
 use Rattle.product.proofs.Codes.{key-encoded}
 use Rattle.product.proofs.literal.encode_key.Statement.{statement}
 use Rattle.product.proofs.literal.encode_key.Tie as tie
-use Rattle.product.proofs.literal.encode_key.Reads as reads
-use Rattle.product.proofs.literal.encode_key.Lts as lts
-
-enum-known-k : tie.Need-enum-known-k
-enum-known-k c = search needs
-
-cast-result : tie.Need-cast-result
-cast-result c = search needs
-
-enum-known-k-2 : tie.Need-enum-known-k-2
-enum-known-k-2 c = search needs
-
-cast-result-2 : tie.Need-cast-result-2
-cast-result-2 c = search needs
-
-add-result : tie.Need-add-result
-add-result c = search needs
-
-enum-known-k-3 : tie.Need-enum-known-k-3
-enum-known-k-3 c = search needs
-
-cast-result-3 : tie.Need-cast-result-3
-cast-result-3 c = search needs
-
-add-result-2 : tie.Need-add-result-2
-add-result-2 c = search needs
-
-enum-known-k-4 : tie.Need-enum-known-k-4
-enum-known-k-4 c = search needs
-
-cast-result-4 : tie.Need-cast-result-4
-cast-result-4 c = search needs
-
-add-result-3 : tie.Need-add-result-3
-add-result-3 c = search needs
 
 returns : tie.Need-returns
 returns c = let g = c .before .k .given in key-encoded (User (g .0 .0)) (g .1) (omega arith) (search needs)
@@ -56,17 +21,17 @@ pub encode-key-spec : {M : Type 1} → statement M
 encode-key-spec =
     tie.close
     (tie.spec
-    enum-known-k
-    cast-result
-    enum-known-k-2
-    cast-result-2
-    add-result
-    enum-known-k-3
-    cast-result-3
-    add-result-2
-    enum-known-k-4
-    cast-result-4
-    add-result-3
+    (λ c. search needs)  -- enum-known-k
+    (λ c. search needs)  -- cast-result
+    (λ c. search needs)  -- enum-known-k-2
+    (λ c. search needs)  -- cast-result-2
+    (λ c. search needs)  -- add-result
+    (λ c. search needs)  -- enum-known-k-3
+    (λ c. search needs)  -- cast-result-3
+    (λ c. search needs)  -- add-result-2
+    (λ c. search needs)  -- enum-known-k-4
+    (λ c. search needs)  -- cast-result-4
+    (λ c. search needs)  -- add-result-3
     returns
     returns-2
     returns-3

@@ -11,9 +11,6 @@ use Rattle.product.specs.Code.{literalAt}
 use Rattle.product.specs.Product.{clashes}
 use Rattle.product.proofs.row.clashes.Statement.{statement}
 use Rattle.product.proofs.row.clashes.Tie as tie
-use Rattle.product.proofs.row.clashes.Reads as reads
-use Rattle.product.proofs.row.clashes.Lts as lts
-use Rattle.product.proofs.row.opposed.Reads as opposed-reads
 
 abbrev Inv-loop : tie.InvT-loop
 Inv-loop cells n from x i₀ i = clashes (literalAt x) (drop from (wideOf n cells)) ≡ clashes (literalAt x) (drop i (wideOf n cells))
@@ -30,18 +27,9 @@ mul-y c = omega (arith, c .before .before .pre .most)
 element-copy-out-y : tie.Need-element-copy-out-y Inv-loop μ-loop
 element-copy-out-y c = omega (arith, c .before .before .pre .most)
 
-opposed-requires : tie.Need-opposed-requires Inv-loop μ-loop
-opposed-requires c κs = search needs
-
 returns : tie.Need-returns Inv-loop μ-loop
 unfolding clashes
 returns c = let b = c .before .before .before .before .before in let v = c .before .before .before .before .loop in sym (v .inv ∙ rw (wide-cons (b .pre) (v .i) (search needs), opposed-codes (b .args .x) (getD (now (b .args .cells)) (v .i) 0), ← c .before .opposed .ensures, c .if1 .taken))
-
-add-i : tie.Need-add-i Inv-loop μ-loop
-add-i c = search needs
-
-loop-less : tie.Need-loop-less Inv-loop μ-loop
-loop-less c = search needs
 
 loop-again : tie.Need-loop-again Inv-loop μ-loop
 unfolding clashes
@@ -60,9 +48,9 @@ clashes-spec =
     loop-holds
     mul-y
     element-copy-out-y
-    opposed-requires
+    (λ c κs. search needs)  -- opposed-requires
     returns
-    add-i
-    loop-less
+    (λ c. search needs)  -- add-i
+    (λ c. search needs)  -- loop-less
     loop-again
     returns-2)

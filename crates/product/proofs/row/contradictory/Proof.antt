@@ -8,9 +8,6 @@ use Rattle.product.specs.Steps.{wideOf}
 use Rattle.product.specs.Product.{contradictory}
 use Rattle.product.proofs.row.contradictory.Statement.{statement}
 use Rattle.product.proofs.row.contradictory.Tie as tie
-use Rattle.product.proofs.row.contradictory.Reads as reads
-use Rattle.product.proofs.row.contradictory.Lts as lts
-use Rattle.product.proofs.row.clashes.Reads as clashes-reads
 
 abbrev Inv-loop : tie.InvT-loop
 Inv-loop cells n i₀ i = contradictory (wideOf n cells) ≡ contradictory (drop i (wideOf n cells))
@@ -27,21 +24,9 @@ mul-x c = omega (arith, c .before .before .pre .most)
 element-copy-out-x : tie.Need-element-copy-out-x Inv-loop μ-loop
 element-copy-out-x c = omega (arith, c .before .before .pre .most)
 
-add-clashes : tie.Need-add-clashes Inv-loop μ-loop
-add-clashes c = search needs
-
-clashes-requires : tie.Need-clashes-requires Inv-loop μ-loop
-clashes-requires c κs = search needs
-
 returns : tie.Need-returns Inv-loop μ-loop
 unfolding contradictory
 returns c = let b = c .before .before .before .before .before in let v = c .before .before .before .before .loop in sym (v .inv ∙ rw (wide-cons (b .pre) (v .i) (search needs), ← c .before .clashes .ensures, c .if1 .taken))
-
-add-i : tie.Need-add-i Inv-loop μ-loop
-add-i c = search needs
-
-loop-less : tie.Need-loop-less Inv-loop μ-loop
-loop-less c = search needs
 
 loop-again : tie.Need-loop-again Inv-loop μ-loop
 unfolding contradictory
@@ -60,10 +45,10 @@ contradictory-spec =
     loop-holds
     mul-x
     element-copy-out-x
-    add-clashes
-    clashes-requires
+    (λ c. search needs)  -- add-clashes
+    (λ c κs. search needs)  -- clashes-requires
     returns
-    add-i
-    loop-less
+    (λ c. search needs)  -- add-i
+    (λ c. search needs)  -- loop-less
     loop-again
     returns-2)

@@ -1,9 +1,6 @@
-use borrow.Author.Needs.{needs}
 use borrow.Author.Tests.{lt-ltb, le-ltb}
 use Rattle.product.proofs.row.greater.Statement.{statement}
 use Rattle.product.proofs.row.greater.Tie as tie
-use Rattle.product.proofs.row.greater.Reads as reads
-use Rattle.product.proofs.row.greater.Lts as lts
 
 returns : tie.Need-returns
 returns c = simp (lt-ltb _ _ (c .if1 .taken))

@@ -4,10 +4,6 @@ use Prim.Native.Nat.{_-_}
 use Rattle.product.proofs.Placing.{Placing, placing-start, placing-same, placing-next, placing-end}
 use Rattle.product.proofs.row.insert.Statement.{statement}
 use Rattle.product.proofs.row.insert.Tie as tie
-use Rattle.product.proofs.row.insert.Reads as reads
-use Rattle.product.proofs.row.insert.Lts as lts
-use Rattle.product.proofs.row.greater.Reads as greater-reads
-use Rattle.product.proofs.row.lesser.Reads as lesser-reads
 
 abbrev Inv-loop : tie.InvT-loop
 Inv-loop cells₀ n x carried₀ i₀ cells carried i = Placing x n cells₀ cells carried i
@@ -27,23 +23,11 @@ element-copy-out-y c = omega (arith, c .before .loop .inv .size)
 returns : tie.Need-returns Inv-loop μ-loop
 returns c = placing-same (search needs) (c .before .before .before .loop .inv) (search needs) (c .if1 .taken)
 
-lesser-requires : tie.Need-lesser-requires Inv-loop μ-loop
-lesser-requires c κs = search needs
-
 mul-cells : tie.Need-mul-cells Inv-loop μ-loop
 mul-cells c = omega (arith, c .before .before .before .before .loop .inv .size)
 
 element-write-cells : tie.Need-element-write-cells Inv-loop μ-loop
 element-write-cells c = omega (arith, c .before .before .before .before .loop .inv .size)
-
-greater-requires : tie.Need-greater-requires Inv-loop μ-loop
-greater-requires c κs = search needs
-
-add-i : tie.Need-add-i Inv-loop μ-loop
-add-i c = search needs
-
-loop-less : tie.Need-loop-less Inv-loop μ-loop
-loop-less c = search needs
 
 loop-again : tie.Need-loop-again Inv-loop μ-loop
 loop-again c = rw (c .before .lesser .ensures, c .greater .ensures) (placing-next (search needs) (c .before .before .before .before .before .loop .inv) (search needs) (c .before .before .if1 .left))
@@ -53,9 +37,6 @@ mul-cells-2 c = omega (arith, c .before .loop .inv .size)
 
 element-write-cells-2 : tie.Need-element-write-cells-2 Inv-loop μ-loop
 element-write-cells-2 c = omega (arith, c .before .loop .inv .size)
-
-add-result : tie.Need-add-result Inv-loop μ-loop
-add-result c = search needs
 
 returns-2 : tie.Need-returns-2 Inv-loop μ-loop
 returns-2 c = placing-end (search needs) (c .before .loop .inv) (search needs)
@@ -70,14 +51,14 @@ insert-spec =
     mul-y
     element-copy-out-y
     returns
-    lesser-requires
+    (λ c κs. search needs)  -- lesser-requires
     mul-cells
     element-write-cells
-    greater-requires
-    add-i
-    loop-less
+    (λ c κs. search needs)  -- greater-requires
+    (λ c. search needs)  -- add-i
+    (λ c. search needs)  -- loop-less
     loop-again
     mul-cells-2
     element-write-cells-2
-    add-result
+    (λ c. search needs)  -- add-result
     returns-2)

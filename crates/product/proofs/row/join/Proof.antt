@@ -5,23 +5,12 @@ use Rattle.product.proofs.Widening.{Uniting, uniting-start, uniting-nex
 use Rattle.product.specs.Cells.{productOf}
 use Rattle.product.proofs.row.join.Statement.{statement}
 use Rattle.product.proofs.row.join.Tie as tie
-use Rattle.product.proofs.row.join.Reads as reads
-use Rattle.product.proofs.row.join.Lts as lts
-use Rattle.product.proofs.row.insert.Reads as insert-reads
-use Rattle.product.proofs.row.size.Reads as size-reads
-use Rattle.product.proofs.row.widen.Reads as widen-reads
 
 abbrev Inv-loop : tie.InvT-loop
 Inv-loop p q cells₀ m n₀ i₀ cells n i = Uniting (productOf p) q cells n i
 
 abbrev μ-loop : tie.MeasureT-loop
 μ-loop p q cells₀ m n₀ i₀ cells n i = m - i
-
-size-requires : tie.Need-size-requires Inv-loop μ-loop
-size-requires c κs = search needs
-
-widen-requires : tie.Need-widen-requires Inv-loop μ-loop
-widen-requires c κs = search needs
 
 loop-holds : tie.Need-loop-holds Inv-loop μ-loop
 loop-holds c = uniting-start _ (c .widen .ensures)
@@ -35,12 +24,6 @@ element-copy-out-x c = let z = c .before .before .before .before .size .ensures 
 insert-requires : tie.Need-insert-requires Inv-loop μ-loop
 insert-requires c κs = let z = c .before .before .before .before .before .before .size .ensures in let u = c .before .before .before .loop .inv in (omega (arith, z .small, u .few), u .blank)
 
-add-i : tie.Need-add-i Inv-loop μ-loop
-add-i c = search needs
-
-loop-less : tie.Need-loop-less Inv-loop μ-loop
-loop-less c = search needs
-
 loop-again : tie.Need-loop-again Inv-loop μ-loop
 loop-again c = uniting-next (c .before .before .before .before .before .before .before .size .ensures) (c .before .before .before .before .loop .inv) (search needs) (c .insert .ensures)
 
@@ -53,13 +36,13 @@ join-spec =
     (tie.spec
     Inv-loop
     μ-loop
-    size-requires
-    widen-requires
+    (λ c κs. search needs)  -- size-requires
+    (λ c κs. search needs)  -- widen-requires
     loop-holds
     mul-x
     element-copy-out-x
     insert-requires
-    add-i
-    loop-less
+    (λ c. search needs)  -- add-i
+    (λ c. search needs)  -- loop-less
     loop-again
     returns)

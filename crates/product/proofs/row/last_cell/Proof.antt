@@ -5,20 +5,18 @@ use lib.ListN.{List·getD-eq-default}
 use denote.Ref.{now}
 use Rattle.product.proofs.row.last_cell.Statement.{statement}
 use Rattle.product.proofs.row.last_cell.Tie as tie
-use Rattle.product.proofs.row.last_cell.Reads as reads
-use Rattle.product.proofs.row.last_cell.Lts as lts
-
-shared-slice-read-result : tie.Need-shared-slice-read-result
-shared-slice-read-result c = search needs
 
 cast-result : tie.Need-cast-result
 cast-result c = omega (arith, c .shared-slice-known .given 7)
-
-returns : tie.Need-returns
-returns c = search needs
 
 returns-2 : tie.Need-returns-2
 returns-2 c = sym (List·getD-eq-default (now (c .before .args .row)) 0 (c .if1 .left))
 
 pub last-cell-spec : {M : Type 1} → statement M
-last-cell-spec = tie.close (tie.spec shared-slice-read-result cast-result returns returns-2)
+last-cell-spec =
+    tie.close
+    (tie.spec
+    (λ c. search needs)  -- shared-slice-read-result
+    cast-result
+    (λ c. search needs)  -- returns
+    returns-2)

@@ -5,18 +5,12 @@ use mathlib.Core.Path.{refl}
 use Rattle.product.proofs.Widening.{Copied, copied-next, copied-all}
 use Rattle.product.proofs.row.widen.Statement.{statement}
 use Rattle.product.proofs.row.widen.Tie as tie
-use Rattle.product.proofs.row.widen.Reads as reads
-use Rattle.product.proofs.row.widen.Lts as lts
-use Rattle.product.proofs.row.size.Reads as size-reads
 
 abbrev Inv-loop : tie.InvT-loop
 Inv-loop row cells₀ n i₀ cells i = (i ≤ n) × (Copied row cells i)
 
 abbrev μ-loop : tie.MeasureT-loop
 μ-loop row cells₀ n i₀ cells i = n - i
-
-size-requires : tie.Need-size-requires Inv-loop μ-loop
-size-requires c κs = search needs
 
 loop-holds : tie.Need-loop-holds Inv-loop μ-loop
 loop-holds c = (omega arith, refl)
@@ -33,12 +27,6 @@ mul-cells-2 c = omega (arith, c .before .before .before .before .size .ensures .
 element-write-cells : tie.Need-element-write-cells Inv-loop μ-loop
 element-write-cells c = omega (arith, c .before .before .before .before .size .ensures .small)
 
-add-i : tie.Need-add-i Inv-loop μ-loop
-add-i c = search needs
-
-loop-less : tie.Need-loop-less Inv-loop μ-loop
-loop-less c = search needs
-
 loop-again : tie.Need-loop-again Inv-loop μ-loop
 loop-again c = (omega arith, copied-next (c .before .before .before .before .size .ensures) (search needs) (c .before .before .loop .inv .1))
 
@@ -51,13 +39,13 @@ widen-spec =
     (tie.spec
     Inv-loop
     μ-loop
-    size-requires
+    (λ c κs. search needs)  -- size-requires
     loop-holds
     mul-cells
     element-copy-out-cells
     mul-cells-2
     element-write-cells
-    add-i
-    loop-less
+    (λ c. search needs)  -- add-i
+    (λ c. search needs)  -- loop-less
     loop-again
     returns)

@@ -10,11 +10,6 @@ use Rattle.product.specs.Steps.{wideOf}
 use Rattle.product.specs.Product.{contradictory}
 use Rattle.product.proofs.sum.add.Statement.{statement}
 use Rattle.product.proofs.sum.add.Tie as tie
-use Rattle.product.proofs.sum.add.Reads as reads
-use Rattle.product.proofs.sum.add.Lts as lts
-use Rattle.product.proofs.row.contradictory.Reads as contradictory-reads
-use Rattle.product.proofs.row.narrow.Reads as narrow-reads
-use Rattle.product.proofs.sum.present.Reads as present-reads
 
 returns : tie.Need-returns
 returns c = filled-wide _ (c .before .pre .0) (search needs)
@@ -40,15 +35,6 @@ returns-4 c = let b = c .before .before .before .before .before .before .before 
 returns-5 : tie.Need-returns-5
 returns-5 c = let b = c .before .before .before .before .before .before .before .before .before .before in let p = wideOf (b .args .size) (now (b .args .cells)) in let row = c .before .before .before .before .before .narrow in let e : contradictory p ≡ false = cc in let q : present (productOf (row .result)) (productsOf (b .args .n) (now (b .args .rows))) ≡ false = cc in let d : present p (productsOf (b .args .n) (now (b .args .rows))) ≡ false = rw (row .ensures .product) at q in filled-full (search needs) (b .pre .0) p e d (c .if5 .taken)
 
-mul-t12 : tie.Need-mul-t12
-mul-t12 c = search needs
-
-element-set-from-rows : tie.Need-element-set-from-rows
-element-set-from-rows c = search needs
-
-add-result : tie.Need-add-result
-add-result c = search needs
-
 returns-6 : tie.Need-returns-6
 returns-6 c = let b = c .before .before .before .before .before .before .before .before .before .before in let p = wideOf (b .args .size) (now (b .args .cells)) in let row = c .before .before .before .before .before .narrow in let e : contradictory p ≡ false = cc in let q : present (productOf (row .result)) (productsOf (b .args .n) (now (b .args .rows))) ≡ false = cc in let d : present p (productsOf (b .args .n) (now (b .args .rows))) ≡ false = rw (row .ensures .product) at q in filled-last (search needs) (b .pre .0) p e d (search needs) (rw (wide-length (b .pre .1)) (search needs)) (row .ensures)
 
@@ -64,7 +50,7 @@ add-spec =
     present-requires
     returns-4
     returns-5
-    mul-t12
-    element-set-from-rows
-    add-result
+    (λ c. search needs)  -- mul-t12
+    (λ c. search needs)  -- element-set-from-rows
+    (λ c. search needs)  -- add-result
     returns-6)

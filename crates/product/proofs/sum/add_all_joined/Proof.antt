@@ -13,9 +13,6 @@ use Rattle.product.specs.Cells.{productOf, productsOf}
 use Rattle.product.specs.Sum.{Sum, joinEach, joinAll}
 use Rattle.product.proofs.sum.add_all_joined.Statement.{statement}
 use Rattle.product.proofs.sum.add_all_joined.Tie as tie
-use Rattle.product.proofs.sum.add_all_joined.Reads as reads
-use Rattle.product.proofs.sum.add_all_joined.Lts as lts
-use Rattle.product.proofs.sum.add_joined.Reads as add-joined-reads
 
 abbrev Inv-loop : tie.InvT-loop
 Inv-loop rows₀ left n right m count₀ i₀ rows count i = Adding (addEach (some []) (joinAll (productsOf n left) (productsOf m right))) (joinAll (drop i (productsOf n left)) (productsOf m right)) rows count
@@ -35,12 +32,6 @@ shared-slice-element-add-joined c = omega (arith, c .before .before .before .pre
 add-joined-requires : tie.Need-add-joined-requires Inv-loop μ-loop
 add-joined-requires c κs = (c .before .before .before .loop .inv .clean, c .before .before .before .before .pre .2)
 
-add-i : tie.Need-add-i Inv-loop μ-loop
-add-i c = search needs
-
-loop-less : tie.Need-loop-less Inv-loop μ-loop
-loop-less c = search needs
-
 loop-again : tie.Need-loop-again Inv-loop μ-loop
 unfolding joinAll
 loop-again c = let b = c .before .before .before .before .before in let v = c .before .before .before .before .loop in let rights = productsOf (b .args .m) (now (b .args .right)) in adding-more (v .inv) (joinEach (productOf (getD (now (b .args .left)) (v .i) [])) rights) (joinAll (drop (v .i + 1) (productsOf (b .args .n) (now (b .args .left)))) rights) (ap (λ (ps : Sum). joinAll ps rights) (part-cons productOf (now (b .args .left)) (b .args .n) (b .pre .1) (v .i) [] (search needs))) (c .add-joined .ensures)
@@ -59,7 +50,7 @@ add-all-joined-spec =
     mul-add-joined
     shared-slice-element-add-joined
     add-joined-requires
-    add-i
-    loop-less
+    (λ c. search needs)  -- add-i
+    (λ c. search needs)  -- loop-less
     loop-again
     returns)

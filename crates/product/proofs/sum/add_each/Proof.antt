@@ -10,10 +10,6 @@ use Rattle.product.specs.Steps.{addEach}
 use Rattle.product.specs.Cells.{productOf, productsOf, sumOf}
 use Rattle.product.proofs.sum.add_each.Statement.{statement}
 use Rattle.product.proofs.sum.add_each.Tie as tie
-use Rattle.product.proofs.sum.add_each.Reads as reads
-use Rattle.product.proofs.sum.add_each.Lts as lts
-use Rattle.product.proofs.row.widen.Reads as widen-reads
-use Rattle.product.proofs.sum.add.Reads as add-reads
 
 abbrev Inv-loop : tie.InvT-loop
 Inv-loop rows₀ n more m cells₀ count₀ i₀ rows cells count i = Adding (addEach (sumOf n rows₀) (productsOf m more)) (drop i (productsOf m more)) rows count
@@ -30,17 +26,8 @@ mul-widen c = omega (arith, c .before .before .pre .1)
 shared-slice-element-widen : tie.Need-shared-slice-element-widen Inv-loop μ-loop
 shared-slice-element-widen c = omega (arith, c .before .before .pre .1)
 
-widen-requires : tie.Need-widen-requires Inv-loop μ-loop
-widen-requires c κs = search needs
-
 add-requires : tie.Need-add-requires Inv-loop μ-loop
 add-requires c κs = (c .before .before .before .before .before .before .loop .inv .clean, c .before .before .widen .ensures .blank)
-
-add-i : tie.Need-add-i Inv-loop μ-loop
-add-i c = search needs
-
-loop-less : tie.Need-loop-less Inv-loop μ-loop
-loop-less c = search needs
 
 loop-again : tie.Need-loop-again Inv-loop μ-loop
 loop-again c = let b = c .before .before .before .before .before .before .before .before in let v = c .before .before .before .before .before .before .before .loop in adding-next (v .inv) _ _ (part-cons productOf (now (b .args .more)) (b .args .m) (b .pre .1) (v .i) [] (search needs)) (rw (c .before .before .before .widen .ensures .product) at (c .add .ensures))
@@ -57,9 +44,9 @@ add-each-spec =
     loop-holds
     mul-widen
     shared-slice-element-widen
-    widen-requires
+    (λ c κs. search needs)  -- widen-requires
     add-requires
-    add-i
-    loop-less
+    (λ c. search needs)  -- add-i
+    (λ c. search needs)  -- loop-less
     loop-again
     returns)

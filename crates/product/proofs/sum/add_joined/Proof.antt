@@ -12,10 +12,6 @@ use Rattle.product.specs.Cells.{productOf, productsOf, sumOf}
 use Rattle.product.specs.Sum.{joinEach}
 use Rattle.product.proofs.sum.add_joined.Statement.{statement}
 use Rattle.product.proofs.sum.add_joined.Tie as tie
-use Rattle.product.proofs.sum.add_joined.Reads as reads
-use Rattle.product.proofs.sum.add_joined.Lts as lts
-use Rattle.product.proofs.row.join.Reads as join-reads
-use Rattle.product.proofs.sum.add.Reads as add-reads
 
 abbrev Inv-loop : tie.InvT-loop
 Inv-loop rows₀ n p more m cells₀ count₀ i₀ rows cells count i = Adding (addEach (sumOf n rows₀) (joinEach (productOf p) (productsOf m more))) (joinEach (productOf p) (drop i (productsOf m more))) rows count
@@ -32,17 +28,8 @@ mul-join c = omega (arith, c .before .before .pre .1)
 shared-slice-element-join : tie.Need-shared-slice-element-join Inv-loop μ-loop
 shared-slice-element-join c = omega (arith, c .before .before .pre .1)
 
-join-requires : tie.Need-join-requires Inv-loop μ-loop
-join-requires c κs = search needs
-
 add-requires : tie.Need-add-requires Inv-loop μ-loop
 add-requires c κs = (c .before .before .before .before .before .before .loop .inv .clean, c .before .before .join .ensures .blank)
-
-add-i : tie.Need-add-i Inv-loop μ-loop
-add-i c = search needs
-
-loop-less : tie.Need-loop-less Inv-loop μ-loop
-loop-less c = search needs
 
 loop-again : tie.Need-loop-again Inv-loop μ-loop
 unfolding joinEach
@@ -61,9 +48,9 @@ add-joined-spec =
     loop-holds
     mul-join
     shared-slice-element-join
-    join-requires
+    (λ c κs. search needs)  -- join-requires
     add-requires
-    add-i
-    loop-less
+    (λ c. search needs)  -- add-i
+    (λ c. search needs)  -- loop-less
     loop-again
     returns)

@@ -1,5 +1,5 @@
 use borrow.Author.Needs.{needs}
-use mathlib.Core.Path.{_≡_, refl, sym, ap, _∙_}
+use mathlib.Core.Path.{_≡_, sym, ap, _∙_}
 use mathlib.Core.Bool.{true, false, _||_}
 use native.Mathlib.Omega.{arith}
 use denote.Ref.{now}
@@ -13,23 +13,9 @@ use Rattle.product.specs.Cells.{productsOf}
 use Rattle.product.specs.Sum.{Sum?, disjoin}
 use Rattle.product.proofs.sum.disjoin.Statement.{statement}
 use Rattle.product.proofs.sum.disjoin.Tie as tie
-use Rattle.product.proofs.sum.disjoin.Reads as reads
-use Rattle.product.proofs.sum.disjoin.Lts as lts
-use Rattle.product.proofs.sum.add_each.Reads as add-each-reads
-use Rattle.product.proofs.sum.finish.Reads as finish-reads
-use Rattle.product.proofs.sum.too_many.Reads as too-many-reads
-
-too-many-requires : tie.Need-too-many-requires
-too-many-requires c κs = search needs
-
-too-many-requires-2 : tie.Need-too-many-requires-2
-too-many-requires-2 c κs = search needs
 
 returns : tie.Need-returns
 returns c = let a = c .before .before .before .before .before .before .before .before .args in let left = now (a .rows) in let right = now (a .right) in let l : length left ≡ 8 = search needs in let r : length right ≡ 8 = search needs in let t : (ltb (length left) (a .n) || ltb (length right) (a .m)) ≡ true = rw (c .before .before .before .before .before .too-many .ensures, c .before .before .before .too-many2 .ensures) at (c .if1 .taken) in joined-wide left right (a .n) (a .m) l r disjoin t
-
-slice-aggregate-add-each : tie.Need-slice-aggregate-add-each
-slice-aggregate-add-each c = search needs
 
 add-each-requires : tie.Need-add-each-requires
 add-each-requires c κs = let a = c .before .before .before .before .before .before .before .before .before .before .args in let left = now (a .rows) in let right = now (a .right) in let l : length left ≡ 8 = search needs in let r : length right ≡ 8 = search needs in let t : (ltb (length left) (a .n) || ltb (length right) (a .m)) ≡ false = rw (c .before .before .before .before .before .before .before .too-many .ensures, c .before .before .before .before .before .too-many2 .ensures) at (c .before .before .if1 .left) in let b = both-few left right (a .n) (a .m) l r t in (clean-blank, omega (arith, b .0))
@@ -47,10 +33,10 @@ pub disjoin-spec : {M : Type 1} → statement M
 disjoin-spec =
     tie.close
     (tie.spec
-    too-many-requires
-    too-many-requires-2
+    (λ c κs. search needs)  -- too-many-requires
+    (λ c κs. search needs)  -- too-many-requires-2
     returns
-    slice-aggregate-add-each
+    (λ c. search needs)  -- slice-aggregate-add-each
     add-each-requires
     add-each-requires-2
     finish-requires

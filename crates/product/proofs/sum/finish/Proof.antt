@@ -3,8 +3,6 @@ use denote.Ref.{now}
 use Rattle.product.proofs.Filling.{finished, blanked}
 use Rattle.product.proofs.sum.finish.Statement.{statement}
 use Rattle.product.proofs.sum.finish.Tie as tie
-use Rattle.product.proofs.sum.finish.Reads as reads
-use Rattle.product.proofs.sum.finish.Lts as lts
 
 returns : tie.Need-returns
 returns c = finished (c .before .pre) (search needs)

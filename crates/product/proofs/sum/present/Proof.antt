@@ -8,9 +8,6 @@ use Rattle.product.specs.Cells.{productOf, productsOf}
 use Rattle.product.specs.Sum.{present}
 use Rattle.product.proofs.sum.present.Statement.{statement}
 use Rattle.product.proofs.sum.present.Tie as tie
-use Rattle.product.proofs.sum.present.Reads as reads
-use Rattle.product.proofs.sum.present.Lts as lts
-use Rattle.product.proofs.row.same.Reads as same-reads
 
 abbrev Inv-loop : tie.InvT-loop
 Inv-loop rows n row i₀ i = present (productOf row) (productsOf n rows) ≡ present (productOf row) (drop i (productsOf n rows))
@@ -27,18 +24,9 @@ mul-same c = omega (arith, c .before .before .pre .0)
 index-1-same : tie.Need-index-1-same Inv-loop μ-loop
 index-1-same c = omega (arith, c .before .before .pre .0)
 
-same-requires : tie.Need-same-requires Inv-loop μ-loop
-same-requires c κs = search needs
-
 returns : tie.Need-returns Inv-loop μ-loop
 unfolding present
 returns c = let b = c .before .before .before .before .before in let v = c .before .before .before .before .loop in let t = present-same (b .pre) (v .i) (search needs) in sym (v .inv ∙ rw (t .0, ← t .1, ← c .before .same .ensures, c .if1 .taken))
-
-add-i : tie.Need-add-i Inv-loop μ-loop
-add-i c = search needs
-
-loop-less : tie.Need-loop-less Inv-loop μ-loop
-loop-less c = search needs
 
 loop-again : tie.Need-loop-again Inv-loop μ-loop
 unfolding present
@@ -57,9 +45,9 @@ present-spec =
     loop-holds
     mul-same
     index-1-same
-    same-requires
+    (λ c κs. search needs)  -- same-requires
     returns
-    add-i
-    loop-less
+    (λ c. search needs)  -- add-i
+    (λ c. search needs)  -- loop-less
     loop-again
     returns-2)
