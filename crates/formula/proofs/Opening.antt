@@ -12,6 +12,7 @@ use Rattle.product.specs.declared.literal.Literal.{Literal}
 use Rattle.product.specs.Atom.{numberOf, atomOf}
 use Rattle.product.specs.Product.{All, no-more, and-more}
 use Rattle.product.specs.Sum.{Sum, opensAny, narrow, fitsNode}
+use Rattle.product.specs.Code.{Numbered}
 use Rattle.product.proofs.Truth.{and-both}
 use Rattle.product.proofs.Every.{all-mapped}
 use Rattle.product.proofs.Ordered.{Ordered, ordered-once}
@@ -20,7 +21,7 @@ use Rattle.formula.specs.Tree.{ors, Tree, holds}
 use Rattle.formula.specs.Text.{issuedOf, issuedTo, allIssued}
 use Rattle.formula.specs.Nodes.{products, fits}
 use Rattle.formula.specs.Outcome.{Outcome, accepted, tooWide, judgeList, outcomeOf}
-use Rattle.formula.specs.Compiler.{Numbered, Kept, Bounded, Laws}
+use Rattle.formula.specs.Compiler.{Kept, Bounded, Laws}
 use Rattle.formula.specs.Opening.{Opened, OpeningLaw, AcceptedWhere, textHolds, HoldsSpelt}
 use Rattle.formula.proofs.Reading.{reader-complete}
 use Rattle.formula.proofs.Nodes.{opening, every-atom, products-ordered, products-atoms, products-witness, fits-node}

@@ -9,15 +9,12 @@ use Rattle.product.specs.declared.literal.Literal.{Literal}
 use Rattle.product.specs.Atom.{Atom, numberOf, atomOf}
 use Rattle.product.specs.Product.{Product, ordered, once, All}
 use Rattle.product.specs.Sum.{Sum, opensAny}
+use Rattle.product.specs.Code.{Numbered}
 use Rattle.formula.specs.declared.text.Issued.{Issued}
 use Rattle.formula.specs.Outcome.{Outcome, accepted}
 
 abbrev pub Compiler : Type 0
 Compiler = Issued → List ℕ → Outcome
-
--- the key's number has 16 bits
-abbrev pub Numbered : Literal → Type 0
-Numbered x = numberOf (atomOf x) < 65536
 
 -- a product as it is kept: at most 6 literals, in order, with no key twice
 pub record Kept (p : Product) : Type 0 where

@@ -14,8 +14,8 @@ use Rattle.product.specs.declared.literal.Literal.{Literal}
 use Rattle.product.specs.declared.literal.Literal.the-variants.{Plain, Barred}
 use Rattle.product.specs.Atom.{kindOf, numberOf, Order, Less, Equal, Greater, orderOf, thenBy, compareAtoms, atomOf, signOf, compareLiterals, isLess, isEqual}
 use Rattle.product.specs.Product.{same, before, opposed}
-use Rattle.product.specs.Code.{keyCode, codeOf, keyAt, literalAt}
-use Rattle.product.specs.Steps.{EncodedKey, Encoded, opposedCodes}
+use Rattle.product.specs.Code.{keyCode, codeOf, keyAt, literalAt, EncodedKey, Encoded}
+use Rattle.product.specs.Steps.{opposedCodes}
 
 -- numbers
 

@@ -8,3 +8,4 @@ pub mod Lists
 pub mod Placing
 pub mod Widening
 pub mod Filling
+pub mod Storing

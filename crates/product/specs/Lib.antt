@@ -3,4 +3,5 @@ pub mod Product
 pub mod Sum
 pub mod Code
 pub mod Cells
+pub mod Storing
 pub mod Steps

@@ -19,17 +19,6 @@ pub record Size (row : List ℕ) (n : ℕ) : Type 0 where
   pub small : n ≤ 6
   pub cells : length row ≡ 8
 
--- a key's number, which stands for it
-pub record EncodedKey (k : Key) (c : ℕ) : Type 0 where
-  pub code : c ≡ keyCode k
-  pub back : keyAt c ≡ k
-  pub small : c < 262144
-
--- a literal's number, which stands for it
-pub record Encoded (l : Literal) (x : ℕ) : Type 0 where
-  pub code : x ≡ codeOf l
-  pub back : literalAt x ≡ l
-
 -- the product that the first n of sixteen cells hold
 abbrev pub wideOf : ℕ → List ℕ → Product
 wideOf n cells = map literalAt (take n cells)
