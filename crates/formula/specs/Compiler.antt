@@ -3,10 +3,9 @@
 use mathlib.Core.Path.{_≡_}
 use mathlib.Core.Bool.{Bool, true}
 use mathlib.Core.List.{List}
-use Prim.Native.Nat.{ℕ, _≤_, _<_}
+use Prim.Native.Nat.{ℕ, _≤_}
 use lib.ListN.{length}
-use Rattle.product.specs.declared.literal.Literal.{Literal}
-use Rattle.product.specs.Atom.{Atom, numberOf, atomOf}
+use Rattle.product.specs.Atom.{Atom}
 use Rattle.product.specs.Product.{Product, ordered, once, All}
 use Rattle.product.specs.Sum.{Sum, opensAny}
 use Rattle.product.specs.Code.{Numbered}

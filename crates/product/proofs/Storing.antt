@@ -1,21 +1,20 @@
 -- Literals, products and sums are read back from their numbers: a literal's number is below 524,288 and stands for it, so a row's numbers
 -- stand for the product's literals. Assumes nothing.
-use mathlib.Core.Path.{_≡_, refl, sym, ap, _∙_}
-use mathlib.Core.List.{List, [], _∷_, _++_, map}
+use mathlib.Core.Path.{_≡_, refl, ap, _∙_}
+use mathlib.Core.List.{List, map}
 use mathlib.Core.Option.{some}
-use Prim.Native.Nat.{ℕ, _+_, _*_, _%_, _≤_, _<_}
+use Prim.Native.Nat.{ℕ, _+_, _*_, _-_, _%_, _<_}
 use native.Mathlib.Omega.{arith}
-use lib.ListN.{length, take, replicate, length-map}
+use lib.ListN.{length, replicate, length-map}
 use lib.Seq.{take-at}
-use Rattle.product.specs.declared.literal.Key.the-variants.{User, Thread, Segment, Defined}
 use Rattle.product.specs.declared.literal.Key.{Key}
 use Rattle.product.specs.declared.literal.Literal.{Literal}
 use Rattle.product.specs.declared.literal.Literal.the-variants.{Plain, Barred}
-use Rattle.product.specs.Atom.{kindOf, numberOf, atomOf}
+use Rattle.product.specs.Atom.{numberOf}
 use Rattle.product.specs.Product.{Product, All, no-more, and-more}
 use Rattle.product.specs.Sum.{Sum}
-use Rattle.product.specs.Code.{keyCode, codeOf, literalAt, literalOf, Numbered, EncodedKey}
-use Rattle.product.specs.Cells.{productOf, productsOf, rowOf, blankRow, rowsOf, sumOf}
+use Rattle.product.specs.Code.{keyCode, codeOf, literalAt, Numbered, EncodedKey}
+use Rattle.product.specs.Cells.{productOf, rowOf, blankRow, rowsOf}
 use Rattle.product.specs.Storing.{LiteralBack, Storable, ProductBack, SumBack}
 use Rattle.product.proofs.Codes.{key-encoded, plain-encoded, barred-encoded}
 use Rattle.product.proofs.Widening.{row-for}
@@ -54,4 +53,4 @@ rows-back (and-more {x = p} h r) = rw (product-back p h, rows-back r)
 pub sum-back : SumBack
 sum-back ps h s =
     let n : length (map rowOf ps) ≡ length ps = length-map ps rowOf in
-    sum-few (rowsOf ps) h ∙ ap (λ (l : List (List ℕ)). some (map productOf l)) (take-at (map rowOf ps) (replicate _ blankRow) (length ps) n) ∙ ap some (rows-back s)
+    sum-few (rowsOf ps) h ∙ ap (λ (l : List (List ℕ)). some (map productOf l)) (take-at (map rowOf ps) (replicate (8 - length ps) blankRow) (length ps) n) ∙ ap some (rows-back s)

@@ -3,14 +3,12 @@ use mathlib.Core.Path.{_≡_}
 use mathlib.Core.Bool.{Bool, true, not, cond, _&&_, _||_}
 use mathlib.Core.List.{List, [], _∷_, _++_, map}
 use mathlib.Core.Option.{none, some}
-use Prim.Native.Nat.{ℕ, zero, suc, _+_, _-_, _/_, _≤_, _<_}
+use Prim.Native.Nat.{ℕ, zero, suc, _+_, _-_, _/_, _≤_}
 use lib.Dec.{ltb, eqb}
 use lib.ListN.{length, getD, take, drop, replicate}
-use Rattle.product.specs.declared.literal.Literal.{Literal}
-use Rattle.product.specs.declared.literal.Key.{Key}
 use Rattle.product.specs.Product.{Product, insert, contradictory}
 use Rattle.product.specs.Sum.{Sum, Sum?, cap, present}
-use Rattle.product.specs.Code.{keyCode, codeOf, keyAt, literalAt}
+use Rattle.product.specs.Code.{literalAt}
 use Rattle.product.specs.Cells.{sizeOf, productOf, productsOf, sumOf, rowOf, rowsOf}
 
 -- a count that is clamped, of a row of 8 cells
