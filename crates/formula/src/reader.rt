@@ -257,9 +257,10 @@ fn is_issued(k: Key, issued: Issued) -> bool
 fn join(or: bool, rows: &mut [[u32; 8]; 8], n: usize, right: &[[u32; 8]; 8], m: usize) -> usize
     ensures { λ r. ⌜ Written (joined (joinAnd or) (sumOf n (now (rows .entry))) (sumOf m (now (right .entry)))) (now (rows .exit)) r ⌝ }
 {
+    let left = *rows;
     if or {
-        sum::disjoin(rows, n, right, m)
+        sum::disjoin(&left, n, right, m, rows)
     } else {
-        sum::conjoin(rows, n, right, m)
+        sum::conjoin(&left, n, right, m, rows)
     }
 }

@@ -7,16 +7,16 @@ use mathlib.Core.List.{List, [], _∷_, _++_, map}
 use mathlib.Core.Option.{none, some}
 use Prim.Native.Nat.{ℕ, zero, suc, _+_, _-_, _≤_, _<_}
 use native.Mathlib.Omega.{arith}
-use lib.Dec.{ltb, leb, eqb}
+use lib.Dec.{leb, eqb}
 use lib.ListN.{length, getD, set, take, drop, replicate, length-append, length-map, length-take, length-replicate, List·getD-append}
 use lib.Seq.{append-snoc, set-at, getD-take, length-take-le}
-use borrow.Author.Tests.{ltb-false, le-ltb, le-leb, lt-leb, leb-true, eqb-true, eq-eqb}
+use borrow.Author.Tests.{le-leb, lt-leb, leb-true, eqb-true, eq-eqb}
 use Rattle.product.specs.Product.{Product, same, contradictory, sameProduct}
-use Rattle.product.specs.Sum.{Sum, Sum?, present, consistent, firsts, tidy, narrow, fitsNode, cap, joined}
+use Rattle.product.specs.Sum.{Sum, Sum?, joinAll, conjoin, disjoin, present, consistent, firsts, tidy, narrow, fitsNode, cap, joined}
 use Rattle.product.specs.Code.{codeOf, literalAt}
 use Rattle.product.specs.Cells.{sizeOf, productOf, productsOf, sumOf, rowOf, blankRow, rowsOf, Written}
 use Rattle.product.specs.Steps.{add, addTo, addEach, Clean, Filled, Row, sameFrom, sameCells}
-use Rattle.product.proofs.Truth.{and-both, or-neither}
+use Rattle.product.proofs.Truth.{and-both}
 use Rattle.product.proofs.Codes.{same-codes}
 use Rattle.product.proofs.Lists.{map-append, getD-mapped, read, read-all, part-snoc, length-part, part-cons, part-past}
 
@@ -298,30 +298,26 @@ module _ {total : Sum?} {rest : Sum} {rows : List (List ℕ)} {n : ℕ} (a : Add
   unfolding addEach
   adding-end e = record { clean = a .clean; reads = sym (a .whole ∙ rw e) }
 
--- two sums joined
-module _ (left right : List (List ℕ)) (n m : ℕ) (l : length left ≡ 8) (r : length right ≡ 8) where
-  abbrev tooMany : Bool
-  tooMany = ltb (length left) n || ltb (length right) m
+-- two sums joined: the left one too wide, the right one, and neither
+module _ (g : Sum → Sum → Sum) (left right : List (List ℕ)) (n m : ℕ) where
+  pub left-wide : 8 < n → Written (joined g (sumOf n left) (sumOf m right)) (rowsOf []) 9
+  left-wide h = let e = sum-wide left h in record { cells = rw e; count = rw e; reads = rw e }
 
-  -- what the test of the counts says
-  pub both-few : tooMany ≡ false → (n ≤ 8) × (m ≤ 8)
-  both-few h = let b = or-neither (ltb (length left) n) (ltb (length right) m) h in (omega (arith, ltb-false (length left) n (b .0)), omega (arith, ltb-false (length right) m (b .1)))
+  pub right-wide : n ≤ 8 → 8 < m → Written (joined g (sumOf n left) (sumOf m right)) (rowsOf []) 9
+  right-wide h k = let e = sum-few left h in let d = sum-wide right k in record { cells = rw (e, d); count = rw (e, d); reads = rw (e, d) }
 
-  one-wide : (g : Sum → Sum → Sum) → tooMany ≡ true → joined g (sumOf n left) (sumOf m right) ≡ none
-  one-wide g h = go (leb n 8) (leb m 8) refl refl
-    where
-      go : (a b : Bool) → leb n 8 ≡ a → leb m 8 ≡ b → joined g (cond a (some (productsOf n left)) none) (cond b (some (productsOf m right)) none) ≡ none
-      go false b e d = refl
-      go true false e d = refl
-      go true true e d =
-          let x : ltb (length left) n ≡ false = le-ltb (length left) n (omega (arith, leb-true n 8 e)) in
-          let y : ltb (length right) m ≡ false = le-ltb (length right) m (omega (arith, leb-true m 8 d)) in
-          let z : _≡_ {A = Bool} false true = rw (x, y) at h in
-          cc
-
-  pub joined-wide : (g : Sum → Sum → Sum) → tooMany ≡ true → Written (joined g (sumOf n left) (sumOf m right)) (rowsOf []) 9
-  joined-wide g h = let e = one-wide g h in record { cells = rw e; count = rw e; reads = rw e }
-
-  pub joined-few : (g : Sum → Sum → Sum) {x : Sum?} {rows out : List (List ℕ)} {k c : ℕ} → tooMany ≡ false → Filled x rows k → x ≡ cap (g (productsOf n left) (productsOf m right))
+  neither-wide : {x : Sum?} {rows out : List (List ℕ)} {k c : ℕ} → n ≤ 8 → m ≤ 8 → Filled x rows k → x ≡ cap (g (productsOf n left) (productsOf m right))
       → Written (sumOf k rows) out c → Written (joined g (sumOf n left) (sumOf m right)) out c
-  joined-few g h f e w = let b = both-few h in rw (sum-few left (b .0), sum-few right (b .1), ← e, ← f .reads) w
+  neither-wide h k f e w = rw (sum-few left h, sum-few right k, ← e, ← f .reads) w
+
+module _ (left right : List (List ℕ)) (n m : ℕ) (h : n ≤ 8) (k : m ≤ 8) {rows out : List (List ℕ)} {j c : ℕ} where
+  pub conjoined : Filled (addEach (some []) (joinAll (productsOf n left) (productsOf m right))) rows j → Written (sumOf j rows) out c
+      → Written (joined conjoin (sumOf n left) (sumOf m right)) out c
+  conjoined f w = neither-wide conjoin left right n m h k f (each-tidy (joinAll (productsOf n left) (productsOf m right))) w
+
+  pub disjoined : {new : List (List ℕ)} {i : ℕ} → Filled (addEach (some []) (productsOf n left)) new i → Filled (addEach (sumOf i new) (productsOf m right)) rows j
+      → Written (sumOf j rows) out c → Written (joined disjoin (sumOf n left) (sumOf m right)) out c
+  disjoined d f w =
+      let ps = productsOf n left in
+      let qs = productsOf m right in
+      neither-wide disjoin left right n m h k f (ap (λ (x : Sum?). addEach x qs) (d .reads) ∙ sym (each-append (some []) ps qs) ∙ each-tidy (ps ++ qs)) w

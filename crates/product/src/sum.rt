@@ -3,7 +3,6 @@ ghost use mathlib.Core.Path.{_≡_};
 ghost use mathlib.Core.List.{[], _∷_};
 ghost use mathlib.Core.Option.{some};
 ghost use Prim.Native.Nat.{_≤_};
-ghost use lib.Dec.{ltb};
 ghost use lib.ListN.{length};
 ghost use Rattle.product.specs.Sum.{conjoin, disjoin, joined, present, joinEach, joinAll};
 ghost use Rattle.product.specs.Cells.{productOf, productsOf, sumOf, rowOf, Written};
@@ -111,13 +110,6 @@ fn add_all_joined(
     count
 }
 
-// A sum of n products that has fewer rows is too wide.
-fn too_many(rows: &[[u32; 8]], n: usize) -> bool
-    ensures { λ r. ⌜ r ≡ ltb (length (now (rows .entry))) n ⌝ }
-{
-    rows.len() < n
-}
-
 // Leaves no cell of a sum that is too wide.
 fn finish(rows: &mut [[u32; 8]; 8], n: usize) -> usize
     requires { ⌜ Clean (now rows) n ⌝ }
@@ -140,31 +132,45 @@ pub fn single(rows: &mut [[u32; 8]; 8], l: Literal) -> usize
     1
 }
 
-// The list of an AND node: the left sum, which is the first n rows, becomes its join with the right one.
-pub fn conjoin(rows: &mut [[u32; 8]; 8], n: usize, right: &[[u32; 8]; 8], m: usize) -> usize
-    ensures { λ r. ⌜ Written (joined conjoin (sumOf n (now (rows .entry))) (sumOf m (now (right .entry)))) (now (rows .exit)) r ⌝ }
+// The list of an AND node: the left sum joined with the right one.
+pub fn conjoin(
+    left: &[[u32; 8]; 8],
+    n: usize,
+    right: &[[u32; 8]; 8],
+    m: usize,
+    rows: &mut [[u32; 8]; 8],
+) -> usize
+    ensures { λ r. ⌜ Written (joined conjoin (sumOf n (now (left .entry))) (sumOf m (now (right .entry)))) (now (rows .exit)) r ⌝ }
 {
-    let wide = too_many(rows, n) | too_many(right, m);
-    let left = *rows;
     *rows = [[0u32; 8]; 8];
-    if wide {
+    if 8 < n {
         return TOO_WIDE;
     }
-    let count = add_all_joined(rows, &left, n, right, m);
+    if 8 < m {
+        return TOO_WIDE;
+    }
+    let count = add_all_joined(rows, left, n, right, m);
     finish(rows, count)
 }
 
 // The list of an OR node, in the same way.
-pub fn disjoin(rows: &mut [[u32; 8]; 8], n: usize, right: &[[u32; 8]; 8], m: usize) -> usize
-    ensures { λ r. ⌜ Written (joined disjoin (sumOf n (now (rows .entry))) (sumOf m (now (right .entry)))) (now (rows .exit)) r ⌝ }
+pub fn disjoin(
+    left: &[[u32; 8]; 8],
+    n: usize,
+    right: &[[u32; 8]; 8],
+    m: usize,
+    rows: &mut [[u32; 8]; 8],
+) -> usize
+    ensures { λ r. ⌜ Written (joined disjoin (sumOf n (now (left .entry))) (sumOf m (now (right .entry)))) (now (rows .exit)) r ⌝ }
 {
-    let wide = too_many(rows, n) | too_many(right, m);
-    let left = *rows;
     *rows = [[0u32; 8]; 8];
-    if wide {
+    if 8 < n {
         return TOO_WIDE;
     }
-    let count = add_each(rows, 0, &left, n);
+    if 8 < m {
+        return TOO_WIDE;
+    }
+    let count = add_each(rows, 0, left, n);
     let total = add_each(rows, count, right, m);
     finish(rows, total)
 }

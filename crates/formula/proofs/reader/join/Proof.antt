@@ -3,10 +3,10 @@ use Rattle.formula.proofs.reader.join.Statement.{statement}
 use Rattle.formula.proofs.reader.join.Tie as tie
 
 returns : tie.Need-returns
-returns c = rw (c .before .before .if1 .taken) (c .disjoin .ensures)
+returns c = rw (c .before .before .before .if1 .taken) (c .disjoin .ensures)
 
 returns-2 : tie.Need-returns-2
-returns-2 c = rw (c .before .before .if1 .left) (c .conjoin .ensures)
+returns-2 c = rw (c .before .before .before .if1 .left) (c .conjoin .ensures)
 
 pub join-spec : {M : Type 1} → statement M
 join-spec =

@@ -1,43 +1,29 @@
 use borrow.Author.Needs.{needs}
-use mathlib.Core.Path.{_≡_, sym, ap, _∙_}
-use mathlib.Core.Bool.{true, false, _||_}
-use native.Mathlib.Omega.{arith}
 use denote.Ref.{now}
-use lib.Dec.{ltb}
-use lib.ListN.{length}
-use mathlib.Core.List.{[], _++_}
-use mathlib.Core.Option.{some}
-use Rattle.product.specs.Steps.{addEach}
-use Rattle.product.proofs.Filling.{joined-wide, joined-few, both-few, clean-blank, each-tidy, each-append}
-use Rattle.product.specs.Cells.{productsOf}
-use Rattle.product.specs.Sum.{Sum?, disjoin}
+use Rattle.product.proofs.Filling.{left-wide, right-wide, disjoined}
+use Rattle.product.specs.Sum.{disjoin}
 use Rattle.product.proofs.sum.disjoin.Statement.{statement}
 use Rattle.product.proofs.sum.disjoin.Tie as tie
 
 returns : tie.Need-returns
-returns c = let a = c .before .before .before .before .before .before .before .before .args in let left = now (a .rows) in let right = now (a .right) in let l : length left ≡ 8 = search needs in let r : length right ≡ 8 = search needs in let t : (ltb (length left) (a .n) || ltb (length right) (a .m)) ≡ true = rw (c .before .before .before .before .before .too-many .ensures, c .before .before .before .too-many2 .ensures) at (c .if1 .taken) in joined-wide left right (a .n) (a .m) l r disjoin t
-
-add-each-requires : tie.Need-add-each-requires
-add-each-requires c κs = let a = c .before .before .before .before .before .before .before .before .before .before .args in let left = now (a .rows) in let right = now (a .right) in let l : length left ≡ 8 = search needs in let r : length right ≡ 8 = search needs in let t : (ltb (length left) (a .n) || ltb (length right) (a .m)) ≡ false = rw (c .before .before .before .before .before .before .before .too-many .ensures, c .before .before .before .before .before .too-many2 .ensures) at (c .before .before .if1 .left) in let b = both-few left right (a .n) (a .m) l r t in (clean-blank, omega (arith, b .0))
-
-add-each-requires-2 : tie.Need-add-each-requires-2
-add-each-requires-2 c κs = let a = c .before .before .before .before .before .before .before .before .before .before .before .before .before .args in let left = now (a .rows) in let right = now (a .right) in let l : length left ≡ 8 = search needs in let r : length right ≡ 8 = search needs in let t : (ltb (length left) (a .n) || ltb (length right) (a .m)) ≡ false = rw (c .before .before .before .before .before .before .before .before .before .before .too-many .ensures, c .before .before .before .before .before .before .before .before .too-many2 .ensures) at (c .before .before .before .before .before .if1 .left) in let b = both-few left right (a .n) (a .m) l r t in (c .before .before .add-each .ensures .clean, omega (arith, b .1))
-
-finish-requires : tie.Need-finish-requires
-finish-requires c κs = c .before .add-each2 .ensures .clean
+returns c = let a = c .before .before .args in left-wide disjoin (now (a .left)) (now (a .right)) (a .n) (a .m) (c .if1 .taken)
 
 returns-2 : tie.Need-returns-2
-returns-2 c = let a = c .before .before .before .before .before .before .before .before .before .before .before .before .before .before .before .before .args in let left = now (a .rows) in let right = now (a .right) in let l : length left ≡ 8 = search needs in let r : length right ≡ 8 = search needs in let t : (ltb (length left) (a .n) || ltb (length right) (a .m)) ≡ false = rw (c .before .before .before .before .before .before .before .before .before .before .before .before .before .too-many .ensures, c .before .before .before .before .before .before .before .before .before .before .before .too-many2 .ensures) at (c .before .before .before .before .before .before .before .before .if1 .left) in joined-few left right (a .n) (a .m) l r disjoin t (c .before .before .add-each2 .ensures) (ap (λ (x : Sum?). addEach x (productsOf (a .m) right)) (c .before .before .before .before .before .add-each .ensures .reads) ∙ sym (each-append (some []) (productsOf (a .n) left) (productsOf (a .m) right)) ∙ each-tidy (productsOf (a .n) left ++ productsOf (a .m) right)) (c .finish .ensures)
+returns-2 c = let a = c .before .before .before .args in right-wide disjoin (now (a .left)) (now (a .right)) (a .n) (a .m) (c .before .if1 .left) (c .if2 .taken)
+
+add-each-requires : tie.Need-add-each-requires
+add-each-requires c κs = search needs
+
+add-each-requires-2 : tie.Need-add-each-requires-2
+add-each-requires-2 c κs = search needs
+
+finish-requires : tie.Need-finish-requires
+finish-requires c κs = search needs
+
+returns-3 : tie.Need-returns-3
+returns-3 c = let a = c .before .before .before .before .before .before .before .before .before .before .before .args in disjoined (now (a .left)) (now (a .right)) (a .n) (a .m) (search needs) (search needs) (c .before .before .before .before .before .add-each .ensures) (c .before .before .add-each2 .ensures) (c .finish .ensures)
 
 pub disjoin-spec : {M : Type 1} → statement M
 disjoin-spec =
     tie.close
-    (tie.spec
-    (λ c κs. search needs)  -- too-many-requires
-    (λ c κs. search needs)  -- too-many-requires-2
-    returns
-    (λ c. search needs)  -- slice-aggregate-add-each
-    add-each-requires
-    add-each-requires-2
-    finish-requires
-    returns-2)
+    (tie.spec returns returns-2 add-each-requires add-each-requires-2 finish-requires returns-3)
