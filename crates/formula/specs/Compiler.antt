@@ -7,7 +7,7 @@ use Prim.Native.Nat.{ℕ, _≤_}
 use lib.ListN.{length}
 use Rattle.product.specs.Atom.{Atom}
 use Rattle.product.specs.Product.{Product, ordered, once, All}
-use Rattle.product.specs.Sum.{Sum, opensAny}
+use Rattle.product.specs.Sum.{Sum, opensAny, mostProducts, mostLiterals}
 use Rattle.product.specs.Code.{Numbered}
 use Rattle.formula.specs.declared.text.Issued.{Issued}
 use Rattle.formula.specs.Outcome.{Outcome, accepted}
@@ -15,17 +15,17 @@ use Rattle.formula.specs.Outcome.{Outcome, accepted}
 abbrev pub Compiler : Type 0
 Compiler = Issued → List ℕ → Outcome
 
--- a product as it is kept: at most 6 literals, in order, with no key twice
+-- a product as it is kept: few literals, in order, with no key twice, and numbers of 16 bits
 pub record Kept (p : Product) : Type 0 where
-  pub short : length p ≤ 6
+  pub short : length p ≤ mostLiterals
   pub rising : ordered p ≡ true
   pub single : once p ≡ true
   pub numbers : All Numbered p
 
--- one to eight products
+-- at least one product, and no more than fit
 pub record Bounded (ps : Sum) : Type 0 where
   pub filled : 1 ≤ length ps
-  pub few : length ps ≤ 8
+  pub few : length ps ≤ mostProducts
   pub each : All Kept ps
 
 pub record Laws (compile : Compiler) : Type 0 where

@@ -13,7 +13,7 @@ use Rattle.formula.specs.declared.text.Verdict.the-variants.{Accepted, M
 use Rattle.formula.specs.declared.text.Row.{Row}
 use Rattle.formula.specs.declared.text.Compiled.{Compiled}
 use Rattle.formula.specs.Tree.{ors, Tree}
-use Rattle.formula.specs.Text.{issuedTo}
+use Rattle.formula.specs.Text.{issuedTo, mostBytes}
 use Rattle.formula.specs.Nodes.{listOf}
 use Rattle.formula.specs.Reader.{readText}
 
@@ -27,13 +27,13 @@ judgeList none = tooWide
 judgeList (some []) = unsatisfiable
 judgeList (some (p ∷ ps)) = accepted (p ∷ ps)
 
--- malformed before all else: no text of the grammar, which one of over 96 bytes is not either
+-- malformed before all else: no text of the grammar, which one that is too long is not either
 abbrev pub judge : Option (Tree ors) → Outcome
 judge none = malformed
 judge (some t) = judgeList (listOf false t)
 
 unfoldable pub outcomeOf : Issued → List ℕ → Outcome
-outcomeOf i s = cond (leb (length s) 96) (judge (readText (issuedTo i) s)) malformed
+outcomeOf i s = cond (leb (length s) mostBytes) (judge (readText (issuedTo i) s)) malformed
 
 -- document 01's number of a refusal: misspelt, too wide, void
 abbrev pub refusalNumber : Outcome → Option ℕ

@@ -8,6 +8,7 @@ use lib.Dec.{leb, eqb}
 use lib.ListN.{length, getD, drop}
 use Rattle.product.specs.declared.literal.Key.the-variants.{User, Thread, Segment, Defined}
 use Rattle.product.specs.Atom.{Atom}
+use Rattle.formula.specs.Text.{mostDeep}
 use Rattle.formula.specs.Tree.{Level, nots, ands, ors, Tree, atom, negate, bracket, factor, and, term, or}
 
 -- numbers
@@ -100,6 +101,6 @@ module _ (known : Atom → Bool) where
         let longer = next (readAnds f k (drop 1 s)) (λ u r. moreOrs f k (or t u) r) in
         cond (eqb (getD s 0 0) 124) longer (found t s)
 
-  -- the whole text, of which each byte costs at most four calls, with eight brackets to be opened
+  -- the whole text, of which each byte costs at most four calls, with all its brackets to be opened
   unfoldable pub readText : List ℕ → Option (Tree ors)
-  readText s = wholeOf (readOrs (4 * length s + 3) 8 s)
+  readText s = wholeOf (readOrs (4 * length s + 3) mostDeep s)

@@ -7,6 +7,7 @@ use lib.Dec.{ltb}
 use lib.ListN.{length}
 use Rattle.product.specs.declared.literal.Key.the-variants.{User, Thread, Segment, Defined}
 use Rattle.product.specs.Atom.{Atom, numberOf}
+use Rattle.product.specs.Code.{numberLimit}
 use Rattle.formula.specs.declared.text.Issued.{Issued}
 use Rattle.formula.specs.Tree.{Level, ors, Tree, atom, negate, bracket, factor, and, term, or, depth}
 use Rattle.formula.specs.Spelling.{spell}
@@ -20,7 +21,7 @@ issuedOf i (Defined n) = i .defined
 
 -- The key was handed out: numbers have 16 bits and rise from 0. An ended thread's key still counts.
 unfoldable pub issuedTo : Issued → Atom → Bool
-issuedTo i a = ltb (numberOf a) 65536 && ltb (numberOf a) (issuedOf i a)
+issuedTo i a = ltb (numberOf a) numberLimit && ltb (numberOf a) (issuedOf i a)
 
 -- every atom of the tree is one of these
 unfoldable pub everyAtom : (Atom → Bool) → {l : Level} → Tree l → Bool
@@ -35,10 +36,17 @@ everyAtom f (or t u) = everyAtom f t && everyAtom f u
 abbrev pub allIssued : Issued → Tree ors → Bool
 allIssued i t = everyAtom (issuedTo i) t
 
--- s is in the grammar, as the formula t: 1 to 96 bytes, brackets at most 8 deep, and every key in it handed out
+-- document 01: 1 to 96 bytes, brackets at most 8 deep
+abbrev pub mostBytes : ℕ
+mostBytes = 96
+
+abbrev pub mostDeep : ℕ
+mostDeep = 8
+
+-- s is in the grammar, as the formula t, and every key in it was handed out
 pub record Text (i : Issued) (s : List ℕ) (t : Tree ors) : Type 0 where
   pub spelt : s ≡ spell t
   pub size : 1 ≤ length s
-  pub short : length s ≤ 96
-  pub shallow : depth t ≤ 8
+  pub short : length s ≤ mostBytes
+  pub shallow : depth t ≤ mostDeep
   pub issued : allIssued i t ≡ true

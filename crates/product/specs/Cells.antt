@@ -8,12 +8,12 @@ use Prim.Native.Nat.{ℕ, _-_, min}
 use lib.Dec.{leb}
 use lib.ListN.{length, getD, take, replicate}
 use Rattle.product.specs.Product.{Product}
-use Rattle.product.specs.Sum.{Sum, Sum?}
+use Rattle.product.specs.Sum.{Sum, Sum?, mostProducts, mostLiterals}
 use Rattle.product.specs.Code.{codeOf, literalAt}
 
 -- the product that a row holds, whatever its numbers are
 abbrev pub sizeOf : List ℕ → ℕ
-sizeOf row = min (getD row 7 0) 6
+sizeOf row = min (getD row 7 0) mostLiterals
 
 abbrev pub productOf : List ℕ → Product
 productOf row = map literalAt (take (sizeOf row) row)
@@ -23,7 +23,7 @@ abbrev pub productsOf : ℕ → List (List ℕ) → Sum
 productsOf n rows = map productOf (take n rows)
 
 abbrev pub sumOf : ℕ → List (List ℕ) → Sum?
-sumOf n rows = cond (leb n 8) (some (productsOf n rows)) none
+sumOf n rows = cond (leb n mostProducts) (some (productsOf n rows)) none
 
 -- the cells of a product, and of a sum: every cell that is not used is 0
 abbrev pub rowOf : Product → List ℕ

@@ -10,8 +10,12 @@ use Rattle.product.specs.declared.literal.Literal.{Literal}
 use Rattle.product.specs.declared.literal.Literal.the-variants.{Plain, Barred}
 use Rattle.product.specs.Atom.{kindOf, numberOf, atomOf, signOf}
 
+-- document 01: a 16-bit number
+abbrev pub numberLimit : ℕ
+numberLimit = 65536
+
 unfoldable pub keyCode : Key → ℕ
-keyCode k = 65536 * kindOf k + numberOf k
+keyCode k = numberLimit * kindOf k + numberOf k
 
 unfoldable pub codeOf : Literal → ℕ
 codeOf l = 2 * keyCode (atomOf l) + signOf l
@@ -29,9 +33,8 @@ literalAt x = cond (eqb (x % 2) 0) (Plain (keyAt (x / 2))) (Barred (keyAt (x / 2
 abbrev pub literalOf : ℕ → Literal
 literalOf x = literalAt (x % 524288)
 
--- the key's number has 16 bits
 abbrev pub Numbered : Literal → Type 0
-Numbered x = numberOf (atomOf x) < 65536
+Numbered x = numberOf (atomOf x) < numberLimit
 
 -- a key's number, which stands for it
 pub record EncodedKey (k : Key) (c : ℕ) : Type 0 where

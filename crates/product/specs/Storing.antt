@@ -6,7 +6,7 @@ use Prim.Native.Nat.{_≤_}
 use lib.ListN.{length}
 use Rattle.product.specs.declared.literal.Literal.{Literal}
 use Rattle.product.specs.Product.{Product, All}
-use Rattle.product.specs.Sum.{Sum}
+use Rattle.product.specs.Sum.{Sum, mostProducts, mostLiterals}
 use Rattle.product.specs.Code.{codeOf, literalOf, Numbered}
 use Rattle.product.specs.Cells.{productOf, rowOf, sumOf, rowsOf}
 
@@ -14,11 +14,11 @@ abbrev pub LiteralBack : Type 0
 LiteralBack = (x : Literal) → Numbered x → literalOf (codeOf x) ≡ x
 
 pub record Storable (p : Product) : Type 0 where
-  pub short : length p ≤ 6
+  pub short : length p ≤ mostLiterals
   pub numbers : All Numbered p
 
 abbrev pub ProductBack : Type 0
 ProductBack = (p : Product) → Storable p → productOf (rowOf p) ≡ p
 
 abbrev pub SumBack : Type 0
-SumBack = (ps : Sum) → length ps ≤ 8 → All Storable ps → sumOf (length ps) (rowsOf ps) ≡ some ps
+SumBack = (ps : Sum) → length ps ≤ mostProducts → All Storable ps → sumOf (length ps) (rowsOf ps) ≡ some ps

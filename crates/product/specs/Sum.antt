@@ -2,6 +2,7 @@
 use mathlib.Core.Bool.{Bool, true, false, cond, _&&_, _||_}
 use mathlib.Core.List.{List, [], _∷_, _++_}
 use mathlib.Core.Option.{Option, none, some}
+use Prim.Native.Nat.{ℕ}
 use lib.Dec.{leb}
 use lib.ListN.{length}
 use Rattle.product.specs.Atom.{Atom}
@@ -50,13 +51,20 @@ conjoin ps qs = tidy (joinAll ps qs)
 abbrev pub disjoin : Sum → Sum → Sum
 disjoin ps qs = tidy (ps ++ qs)
 
+-- document 01: a node fits with at most 8 products of at most 6 signed keys
+abbrev pub mostProducts : ℕ
+mostProducts = 8
+
+abbrev pub mostLiterals : ℕ
+mostLiterals = 6
+
+-- no product has more literals
 unfoldable pub narrow : Sum → Bool
 narrow [] = true
-narrow (p ∷ ps) = leb (length p) 6 && narrow ps
+narrow (p ∷ ps) = leb (length p) mostLiterals && narrow ps
 
--- at most 8 products of at most 6 literals
 unfoldable pub fitsNode : Sum → Bool
-fitsNode ps = leb (length ps) 8 && narrow ps
+fitsNode ps = leb (length ps) mostProducts && narrow ps
 
 -- a sum, or none where it is too wide
 abbrev pub Sum? : Type 0

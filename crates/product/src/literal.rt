@@ -17,6 +17,29 @@ pub enum Literal {
     Barred(Key),
 }
 
+// The literal as one number.
+pub fn encode(l: Literal) -> u32
+    ensures { λ r. ⌜ Encoded l r ⌝ }
+{
+    match l {
+        Literal::Plain(k) => 2 * encode_key(k),
+        Literal::Barred(k) => 2 * encode_key(k) + 1,
+    }
+}
+
+// The literal of a number.
+pub fn decode(x: u32) -> Literal
+    ensures { λ r. ⌜ r ≡ literalOf x ⌝ }
+{
+    let code = x % 524288;
+    let key = decode_key(code / 2);
+    if code % 2 == 0 {
+        Literal::Plain(key)
+    } else {
+        Literal::Barred(key)
+    }
+}
+
 fn encode_key(k: Key) -> u32
     ensures { λ r. ⌜ EncodedKey k r ⌝ }
 {
@@ -25,16 +48,6 @@ fn encode_key(k: Key) -> u32
         Key::Thread(n) => n as u32 + 65536,
         Key::Segment(n) => n as u32 + 131072,
         Key::Defined(n) => n as u32 + 196608,
-    }
-}
-
-// The literal as one number.
-pub fn encode(l: Literal) -> u32
-    ensures { λ r. ⌜ Encoded l r ⌝ }
-{
-    match l {
-        Literal::Plain(k) => 2 * encode_key(k),
-        Literal::Barred(k) => 2 * encode_key(k) + 1,
     }
 }
 
@@ -50,18 +63,5 @@ fn decode_key(c: u32) -> Key
         Key::Segment((c - 131072) as u16)
     } else {
         Key::Defined((c - 196608) as u16)
-    }
-}
-
-// The literal of a number.
-pub fn decode(x: u32) -> Literal
-    ensures { λ r. ⌜ r ≡ literalOf x ⌝ }
-{
-    let code = x % 524288;
-    let key = decode_key(code / 2);
-    if code % 2 == 0 {
-        Literal::Plain(key)
-    } else {
-        Literal::Barred(key)
     }
 }

@@ -8,34 +8,88 @@ ghost use Rattle.product.specs.Code.{literalAt};
 ghost use Rattle.product.specs.Cells.{productOf};
 ghost use Rattle.product.specs.Steps.{Size, Blank, Row, Inserted, Joined, wideOf, sameCells, lesserOf, greaterOf, opposedCodes};
 
-fn last_cell(row: &[u32]) -> usize
-    ensures { λ r. ⌜ r ≡ getD (now (row .entry)) 7 0 ⌝ }
+// The cells of a product, and those in which two are joined.
+pub(crate) type Cells = [u32; 8];
+
+pub(crate) type Wide = [u32; 16];
+
+// The most literals of a product that fits.
+pub(crate) const MOST_LITERALS: usize = 6;
+
+// The row's product, in sixteen cells.
+pub(crate) fn widen(row: &Cells, cells: &mut Wide) -> usize
+    ensures { λ r. ⌜ Joined 6 (productOf (now (row .entry))) (now (cells .exit)) r ⌝ }
 {
-    if 7 < row.len() { row[7] as usize } else { 0 }
+    let n = size(row);
+    *cells = [0u32; 16];
+    let mut i = 0;
+    while i < n {
+        cells[i] = row[i];
+        i += 1;
+    }
+    n
 }
 
-// How many literals a row holds.
-fn size(row: &[u32; 8]) -> usize
-    ensures { λ r. ⌜ Size (now (row .entry)) r ⌝ }
+// The literals of both rows, in sixteen cells.
+pub(crate) fn join(p: &Cells, q: &Cells, cells: &mut Wide) -> usize
+    ensures { λ r. ⌜ Joined 12 (union (productOf (now (p .entry))) (productOf (now (q .entry)))) (now (cells .exit)) r ⌝ }
 {
-    let n = last_cell(row);
-    if n <= 6 { n } else { 6 }
+    let m = size(q);
+    let mut n = widen(p, cells);
+    let mut i = 0;
+    while i < m {
+        let x = q[i];
+        n = insert(cells, n, x);
+        i += 1;
+    }
+    n
 }
 
-fn lesser(x: u32, y: u32) -> u32
-    ensures { λ r. ⌜ r ≡ lesserOf x y ⌝ }
+// Some key is both plain and barred.
+pub(crate) fn contradictory(cells: &Wide, n: usize) -> bool
+    requires { ⌜ Blank (now cells) n ⌝ }
+    ensures { λ r. ⌜ r ≡ contradictory (wideOf n (now (cells .entry))) ⌝ }
 {
-    if x < y { x } else { y }
+    let mut i = 0;
+    while i < n {
+        let x = cells[i];
+        if clashes(cells, n, i + 1, x) {
+            return true;
+        }
+        i += 1;
+    }
+    false
 }
 
-fn greater(x: u32, y: u32) -> u32
-    ensures { λ r. ⌜ r ≡ greaterOf x y ⌝ }
+// The row of a product that has at most 6 literals.
+pub(crate) fn narrow(cells: &Wide, n: usize) -> Cells
+    requires { ⌜ (n ≤ 6) × (Blank (now cells) n) ⌝ }
+    ensures { λ r. ⌜ Row (wideOf n (now (cells .entry))) r ⌝ }
 {
-    if x < y { y } else { x }
+    [
+        cells[0],
+        cells[1],
+        cells[2],
+        cells[3],
+        cells[4],
+        cells[5],
+        0,
+        n as u32,
+    ]
+}
+
+pub(crate) fn same(p: &Cells, q: &Cells) -> bool
+    ensures { λ r. ⌜ r ≡ sameCells (now (p .entry)) (now (q .entry)) ⌝ }
+{
+    (p[0] == q[0])
+        & ((p[1] == q[1])
+            & ((p[2] == q[2])
+                & ((p[3] == q[3])
+                    & ((p[4] == q[4]) & ((p[5] == q[5]) & ((p[6] == q[6]) & (p[7] == q[7])))))))
 }
 
 // Puts x in its place among the first n literals, unless it is there. Answers how many they are then.
-fn insert(cells: &mut [u32; 16], n: usize, x: u32) -> usize
+fn insert(cells: &mut Wide, n: usize, x: u32) -> usize
     requires { ⌜ (n < 12) × (Blank (now cells) n) ⌝ }
     ensures { λ r. ⌜ Inserted x n (now (cells .entry)) (now (cells .exit)) r ⌝ }
 {
@@ -54,43 +108,8 @@ fn insert(cells: &mut [u32; 16], n: usize, x: u32) -> usize
     n + 1
 }
 
-// The row's product, in sixteen cells.
-pub(crate) fn widen(row: &[u32; 8], cells: &mut [u32; 16]) -> usize
-    ensures { λ r. ⌜ Joined 6 (productOf (now (row .entry))) (now (cells .exit)) r ⌝ }
-{
-    let n = size(row);
-    *cells = [0u32; 16];
-    let mut i = 0;
-    while i < n {
-        cells[i] = row[i];
-        i += 1;
-    }
-    n
-}
-
-// The literals of both rows, in sixteen cells.
-pub(crate) fn join(p: &[u32; 8], q: &[u32; 8], cells: &mut [u32; 16]) -> usize
-    ensures { λ r. ⌜ Joined 12 (union (productOf (now (p .entry))) (productOf (now (q .entry)))) (now (cells .exit)) r ⌝ }
-{
-    let m = size(q);
-    let mut n = widen(p, cells);
-    let mut i = 0;
-    while i < m {
-        let x = q[i];
-        n = insert(cells, n, x);
-        i += 1;
-    }
-    n
-}
-
-fn opposed(x: u32, y: u32) -> bool
-    ensures { λ r. ⌜ r ≡ opposedCodes x y ⌝ }
-{
-    (x / 2 == y / 2) & (x != y)
-}
-
 // Some literal from place `from` on is opposed to x.
-fn clashes(cells: &[u32; 16], n: usize, from: usize, x: u32) -> bool
+fn clashes(cells: &Wide, n: usize, from: usize, x: u32) -> bool
     requires { ⌜ Blank (now cells) n ⌝ }
     ensures { λ r. ⌜ r ≡ clashes (literalAt x) (drop from (wideOf n (now (cells .entry)))) ⌝ }
 {
@@ -105,45 +124,34 @@ fn clashes(cells: &[u32; 16], n: usize, from: usize, x: u32) -> bool
     false
 }
 
-// Some key is both plain and barred.
-pub(crate) fn contradictory(cells: &[u32; 16], n: usize) -> bool
-    requires { ⌜ Blank (now cells) n ⌝ }
-    ensures { λ r. ⌜ r ≡ contradictory (wideOf n (now (cells .entry))) ⌝ }
+fn opposed(x: u32, y: u32) -> bool
+    ensures { λ r. ⌜ r ≡ opposedCodes x y ⌝ }
 {
-    let mut i = 0;
-    while i < n {
-        let x = cells[i];
-        if clashes(cells, n, i + 1, x) {
-            return true;
-        }
-        i += 1;
-    }
-    false
+    (x / 2 == y / 2) & (x != y)
 }
 
-// The row of a product that has at most 6 literals.
-pub(crate) fn narrow(cells: &[u32; 16], n: usize) -> [u32; 8]
-    requires { ⌜ (n ≤ 6) × (Blank (now cells) n) ⌝ }
-    ensures { λ r. ⌜ Row (wideOf n (now (cells .entry))) r ⌝ }
+fn lesser(x: u32, y: u32) -> u32
+    ensures { λ r. ⌜ r ≡ lesserOf x y ⌝ }
 {
-    [
-        cells[0],
-        cells[1],
-        cells[2],
-        cells[3],
-        cells[4],
-        cells[5],
-        0,
-        n as u32,
-    ]
+    if x < y { x } else { y }
 }
 
-pub(crate) fn same(p: &[u32; 8], q: &[u32; 8]) -> bool
-    ensures { λ r. ⌜ r ≡ sameCells (now (p .entry)) (now (q .entry)) ⌝ }
+fn greater(x: u32, y: u32) -> u32
+    ensures { λ r. ⌜ r ≡ greaterOf x y ⌝ }
 {
-    (p[0] == q[0])
-        & ((p[1] == q[1])
-            & ((p[2] == q[2])
-                & ((p[3] == q[3])
-                    & ((p[4] == q[4]) & ((p[5] == q[5]) & ((p[6] == q[6]) & (p[7] == q[7])))))))
+    if x < y { y } else { x }
+}
+
+// How many literals a row holds.
+fn size(row: &Cells) -> usize
+    ensures { λ r. ⌜ Size (now (row .entry)) r ⌝ }
+{
+    let n = last_cell(row);
+    if n <= MOST_LITERALS { n } else { MOST_LITERALS }
+}
+
+fn last_cell(row: &[u32]) -> usize
+    ensures { λ r. ⌜ r ≡ getD (now (row .entry)) 7 0 ⌝ }
+{
+    if 7 < row.len() { row[7] as usize } else { 0 }
 }

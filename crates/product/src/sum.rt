@@ -8,96 +8,62 @@ ghost use Rattle.product.specs.Sum.{conjoin, disjoin, joined, present, j
 ghost use Rattle.product.specs.Cells.{productOf, productsOf, sumOf, rowOf, Written};
 ghost use Rattle.product.specs.Steps.{Blank, Clean, Filled, wideOf, addTo, addEach};
 use crate::literal::Literal;
+use crate::literal::encode;
+use crate::row;
+use crate::row::Cells;
+use crate::row::Wide;
 
-// The count of a sum that is too wide.
+// A sum's rows, each of them a product.
+pub type Rows = [[u32; 8]; 8];
+
+// The most products of a sum that fits, and the count of one that is too wide.
+pub const MOST_PRODUCTS: usize = 8;
+
 pub const TOO_WIDE: usize = 9;
 
-// The product is among the first n rows.
-fn present(rows: &[[u32; 8]; 8], n: usize, row: &[u32; 8]) -> bool
-    requires { ⌜ (n ≤ 8) × (Clean (now rows) n) × (now row ≡ rowOf (productOf (now row))) ⌝ }
-    ensures { λ r. ⌜ r ≡ present (productOf (now (row .entry))) (productsOf n (now (rows .entry))) ⌝ }
+// The sum of one literal.
+pub fn single(rows: &mut Rows, l: Literal) -> usize
+    ensures { λ r. ⌜ Written (some ((l ∷ []) ∷ [])) (now (rows .exit)) r ⌝ }
 {
-    let mut i = 0;
-    while i < n {
-        if crate::row::same(row, &rows[i]) {
-            return true;
-        }
-        i += 1;
-    }
-    false
+    *rows = [[0u32; 8]; 8];
+    let code = encode(l);
+    rows[0] = [code, 0, 0, 0, 0, 0, 0, 1];
+    1
 }
 
-// Adds a product, unless it is contradictory or there already.
-fn add(rows: &mut [[u32; 8]; 8], n: usize, cells: &[u32; 16], size: usize) -> usize
-    requires { ⌜ (Clean (now rows) n) × (Blank (now cells) size) ⌝ }
-    ensures { λ r. ⌜ Filled (addTo (sumOf n (now (rows .entry))) (wideOf size (now (cells .entry)))) (now (rows .exit)) r ⌝ }
+// The list of an AND node: the left sum joined with the right one.
+pub fn conjoin(left: &Rows, n: usize, right: &Rows, m: usize, rows: &mut Rows) -> usize
+    ensures { λ r. ⌜ Written (joined conjoin (sumOf n (now (left .entry))) (sumOf m (now (right .entry)))) (now (rows .exit)) r ⌝ }
 {
-    if 8 < n {
-        return n;
-    }
-    if crate::row::contradictory(cells, size) {
-        return n;
-    }
-    if 6 < size {
+    *rows = [[0u32; 8]; 8];
+    if MOST_PRODUCTS < n {
         return TOO_WIDE;
     }
-    let row = crate::row::narrow(cells, size);
-    if present(rows, n, &row) {
-        return n;
-    }
-    if n == 8 {
+    if MOST_PRODUCTS < m {
         return TOO_WIDE;
     }
-    rows[n] = row;
-    n + 1
+    let count = add_all_joined(rows, left, n, right, m);
+    finish(rows, count)
 }
 
-// Adds the first m products of another sum.
-fn add_each(rows: &mut [[u32; 8]; 8], n: usize, more: &[[u32; 8]], m: usize) -> usize
-    requires { ⌜ (Clean (now rows) n) × (m ≤ length (now more)) ⌝ }
-    ensures { λ r. ⌜ Filled (addEach (sumOf n (now (rows .entry))) (productsOf m (now (more .entry)))) (now (rows .exit)) r ⌝ }
+// The list of an OR node, in the same way.
+pub fn disjoin(left: &Rows, n: usize, right: &Rows, m: usize, rows: &mut Rows) -> usize
+    ensures { λ r. ⌜ Written (joined disjoin (sumOf n (now (left .entry))) (sumOf m (now (right .entry)))) (now (rows .exit)) r ⌝ }
 {
-    let mut cells = [0u32; 16];
-    let mut count = n;
-    let mut i = 0;
-    while i < m {
-        let size = crate::row::widen(&more[i], &mut cells);
-        count = add(rows, count, &cells, size);
-        i += 1;
+    *rows = [[0u32; 8]; 8];
+    if MOST_PRODUCTS < n {
+        return TOO_WIDE;
     }
-    count
-}
-
-// Adds p joined with each of the first m products of another sum.
-fn add_joined(
-    rows: &mut [[u32; 8]; 8],
-    n: usize,
-    p: &[u32; 8],
-    more: &[[u32; 8]],
-    m: usize,
-) -> usize
-    requires { ⌜ (Clean (now rows) n) × (m ≤ length (now more)) ⌝ }
-    ensures { λ r. ⌜ Filled (addEach (sumOf n (now (rows .entry))) (joinEach (productOf (now (p .entry))) (productsOf m (now (more .entry))))) (now (rows .exit)) r ⌝ }
-{
-    let mut cells = [0u32; 16];
-    let mut count = n;
-    let mut i = 0;
-    while i < m {
-        let size = crate::row::join(p, &more[i], &mut cells);
-        count = add(rows, count, &cells, size);
-        i += 1;
+    if MOST_PRODUCTS < m {
+        return TOO_WIDE;
     }
-    count
+    let count = add_each(rows, 0, left, n);
+    let total = add_each(rows, count, right, m);
+    finish(rows, total)
 }
 
 // Adds each of the first n left products, in order, joined with each of the first m right ones.
-fn add_all_joined(
-    rows: &mut [[u32; 8]; 8],
-    left: &[[u32; 8]],
-    n: usize,
-    right: &[[u32; 8]],
-    m: usize,
-) -> usize
+fn add_all_joined(rows: &mut Rows, left: &[Cells], n: usize, right: &[Cells], m: usize) -> usize
     requires { ⌜ (Clean (now rows) 0) × (n ≤ length (now left)) × (m ≤ length (now right)) ⌝ }
     ensures { λ r. ⌜ Filled (addEach (some []) (joinAll (productsOf n (now (left .entry))) (productsOf m (now (right .entry))))) (now (rows .exit)) r ⌝ }
 {
@@ -110,67 +76,86 @@ fn add_all_joined(
     count
 }
 
+// Adds p joined with each of the first m products of another sum.
+fn add_joined(rows: &mut Rows, n: usize, p: &Cells, more: &[Cells], m: usize) -> usize
+    requires { ⌜ (Clean (now rows) n) × (m ≤ length (now more)) ⌝ }
+    ensures { λ r. ⌜ Filled (addEach (sumOf n (now (rows .entry))) (joinEach (productOf (now (p .entry))) (productsOf m (now (more .entry))))) (now (rows .exit)) r ⌝ }
+{
+    let mut cells = [0u32; 16];
+    let mut count = n;
+    let mut i = 0;
+    while i < m {
+        let size = row::join(p, &more[i], &mut cells);
+        count = add(rows, count, &cells, size);
+        i += 1;
+    }
+    count
+}
+
+// Adds the first m products of another sum.
+fn add_each(rows: &mut Rows, n: usize, more: &[Cells], m: usize) -> usize
+    requires { ⌜ (Clean (now rows) n) × (m ≤ length (now more)) ⌝ }
+    ensures { λ r. ⌜ Filled (addEach (sumOf n (now (rows .entry))) (productsOf m (now (more .entry)))) (now (rows .exit)) r ⌝ }
+{
+    let mut cells = [0u32; 16];
+    let mut count = n;
+    let mut i = 0;
+    while i < m {
+        let size = row::widen(&more[i], &mut cells);
+        count = add(rows, count, &cells, size);
+        i += 1;
+    }
+    count
+}
+
+// Adds a product, unless it is contradictory or there already.
+fn add(rows: &mut Rows, n: usize, cells: &Wide, size: usize) -> usize
+    requires { ⌜ (Clean (now rows) n) × (Blank (now cells) size) ⌝ }
+    ensures { λ r. ⌜ Filled (addTo (sumOf n (now (rows .entry))) (wideOf size (now (cells .entry)))) (now (rows .exit)) r ⌝ }
+{
+    if MOST_PRODUCTS < n {
+        return n;
+    }
+    if row::contradictory(cells, size) {
+        return n;
+    }
+    if row::MOST_LITERALS < size {
+        return TOO_WIDE;
+    }
+    let row = row::narrow(cells, size);
+    if present(rows, n, &row) {
+        return n;
+    }
+    if n == MOST_PRODUCTS {
+        return TOO_WIDE;
+    }
+    rows[n] = row;
+    n + 1
+}
+
+// The product is among the first n rows.
+fn present(rows: &Rows, n: usize, row: &Cells) -> bool
+    requires { ⌜ (n ≤ 8) × (Clean (now rows) n) × (now row ≡ rowOf (productOf (now row))) ⌝ }
+    ensures { λ r. ⌜ r ≡ present (productOf (now (row .entry))) (productsOf n (now (rows .entry))) ⌝ }
+{
+    let mut i = 0;
+    while i < n {
+        if row::same(row, &rows[i]) {
+            return true;
+        }
+        i += 1;
+    }
+    false
+}
+
 // Leaves no cell of a sum that is too wide.
-fn finish(rows: &mut [[u32; 8]; 8], n: usize) -> usize
+fn finish(rows: &mut Rows, n: usize) -> usize
     requires { ⌜ Clean (now rows) n ⌝ }
     ensures { λ r. ⌜ Written (sumOf n (now (rows .entry))) (now (rows .exit)) r ⌝ }
 {
-    if n <= 8 {
+    if n <= MOST_PRODUCTS {
         return n;
     }
     *rows = [[0u32; 8]; 8];
     TOO_WIDE
-}
-
-// The sum of one literal.
-pub fn single(rows: &mut [[u32; 8]; 8], l: Literal) -> usize
-    ensures { λ r. ⌜ Written (some ((l ∷ []) ∷ [])) (now (rows .exit)) r ⌝ }
-{
-    *rows = [[0u32; 8]; 8];
-    let code = crate::literal::encode(l);
-    rows[0] = [code, 0, 0, 0, 0, 0, 0, 1];
-    1
-}
-
-// The list of an AND node: the left sum joined with the right one.
-pub fn conjoin(
-    left: &[[u32; 8]; 8],
-    n: usize,
-    right: &[[u32; 8]; 8],
-    m: usize,
-    rows: &mut [[u32; 8]; 8],
-) -> usize
-    ensures { λ r. ⌜ Written (joined conjoin (sumOf n (now (left .entry))) (sumOf m (now (right .entry)))) (now (rows .exit)) r ⌝ }
-{
-    *rows = [[0u32; 8]; 8];
-    if 8 < n {
-        return TOO_WIDE;
-    }
-    if 8 < m {
-        return TOO_WIDE;
-    }
-    let count = add_all_joined(rows, left, n, right, m);
-    finish(rows, count)
-}
-
-// The list of an OR node, in the same way.
-pub fn disjoin(
-    left: &[[u32; 8]; 8],
-    n: usize,
-    right: &[[u32; 8]; 8],
-    m: usize,
-    rows: &mut [[u32; 8]; 8],
-) -> usize
-    ensures { λ r. ⌜ Written (joined disjoin (sumOf n (now (left .entry))) (sumOf m (now (right .entry)))) (now (rows .exit)) r ⌝ }
-{
-    *rows = [[0u32; 8]; 8];
-    if 8 < n {
-        return TOO_WIDE;
-    }
-    if 8 < m {
-        return TOO_WIDE;
-    }
-    let count = add_each(rows, 0, left, n);
-    let total = add_each(rows, count, right, m);
-    finish(rows, total)
 }
