@@ -9,19 +9,45 @@ use Rattle.abi.proofs.text.rotundaaloe_compile.Statement.{statement}
 use Rattle.abi.proofs.text.rotundaaloe_compile.Tie as tie
 
 cast-result : tie.Need-cast-result
-cast-result c = let a = c .before .before .before .before .before .before .args in let i = issuedWith (a .users) (a .threads) (a .segments) (a .defined) in let s = now (a .text) in let e = c .before .before .before .before .compile .ensures in omega (arith, accepted-few i s (now (a .rows)) e (c .before .before .enum-told4 .given .1))
+cast-result c =
+    let a = c .before .before .before .before .before .before .args in
+    let i = issuedWith (a .users) (a .threads) (a .segments) (a .defined) in
+    let s = now (a .text) in
+    let e = c .before .before .before .before .compile .ensures in
+    omega (arith, accepted-few i s (now (a .rows)) e (c .before .before .enum-told4 .given .1))
 
 returns : tie.Need-returns
-returns c = let a = c .before .before .before .before .args in let i = issuedWith (a .users) (a .threads) (a .segments) (a .defined) in let s = now (a .text) in let e = c .before .before .compile .ensures in says (outcomeOf i s) (now (a .rows)) e (c .enum-told .given .1)
+returns c =
+    let a = c .before .before .before .before .args in
+    let i = issuedWith (a .users) (a .threads) (a .segments) (a .defined) in
+    let s = now (a .text) in
+    let e = c .before .before .compile .ensures in
+    says (outcomeOf i s) (now (a .rows)) e (c .enum-told .given .1)
 
 returns-2 : tie.Need-returns-2
-returns-2 c = let a = c .before .before .before .before .args in let i = issuedWith (a .users) (a .threads) (a .segments) (a .defined) in let s = now (a .text) in let e = c .before .before .compile .ensures in says (outcomeOf i s) (now (a .rows)) e (c .enum-told2 .given .1)
+returns-2 c =
+    let a = c .before .before .before .before .args in
+    let i = issuedWith (a .users) (a .threads) (a .segments) (a .defined) in
+    let s = now (a .text) in
+    let e = c .before .before .compile .ensures in
+    says (outcomeOf i s) (now (a .rows)) e (c .enum-told2 .given .1)
 
 returns-3 : tie.Need-returns-3
-returns-3 c = let a = c .before .before .before .before .args in let i = issuedWith (a .users) (a .threads) (a .segments) (a .defined) in let s = now (a .text) in let e = c .before .before .compile .ensures in says (outcomeOf i s) (now (a .rows)) e (c .enum-told3 .given .1)
+returns-3 c =
+    let a = c .before .before .before .before .args in
+    let i = issuedWith (a .users) (a .threads) (a .segments) (a .defined) in
+    let s = now (a .text) in
+    let e = c .before .before .compile .ensures in
+    says (outcomeOf i s) (now (a .rows)) e (c .enum-told3 .given .1)
 
 returns-4 : tie.Need-returns-4
-returns-4 c = let a = c .before .before .before .before .before .before .args in let i = issuedWith (a .users) (a .threads) (a .segments) (a .defined) in let s = now (a .text) in let e = c .before .before .before .before .compile .ensures in let t = c .before .before .enum-told4 .given .1 in (accepted-number i s (now (a .rows)) e t, c .cells-of .ensures ∙ accepted-rows i s (now (a .rows)) e t)
+returns-4 c =
+    let a = c .before .before .before .before .before .before .args in
+    let i = issuedWith (a .users) (a .threads) (a .segments) (a .defined) in
+    let s = now (a .text) in
+    let e = c .before .before .before .before .compile .ensures in
+    let t = c .before .before .enum-told4 .given .1 in
+    (accepted-number i s (now (a .rows)) e t, c .cells-of .ensures ∙ accepted-rows i s (now (a .rows)) e t)
 
 pub rotundaaloe-compile-spec : {M : Type 1} → statement M
 rotundaaloe-compile-spec =

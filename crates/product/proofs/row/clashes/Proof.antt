@@ -29,11 +29,17 @@ element-copy-out-y c = omega (arith, c .before .before .pre .most)
 
 returns : tie.Need-returns Inv-loop μ-loop
 unfolding clashes
-returns c = let b = c .before .before .before .before .before in let v = c .before .before .before .before .loop in sym (v .inv ∙ rw (wide-cons (b .pre) (v .i) (search needs), opposed-codes (b .args .x) (getD (now (b .args .cells)) (v .i) 0), ← c .before .opposed .ensures, c .if1 .taken))
+returns c =
+    let b = c .before .before .before .before .before in
+    let v = c .before .before .before .before .loop in
+    sym (v .inv ∙ rw (wide-cons (b .pre) (v .i) (search needs), opposed-codes (b .args .x) (getD (now (b .args .cells)) (v .i) 0), ← c .before .opposed .ensures, c .if1 .taken))
 
 loop-again : tie.Need-loop-again Inv-loop μ-loop
 unfolding clashes
-loop-again c = let b = c .before .before .before .before .before in let v = c .before .before .before .before .loop in v .inv ∙ rw (wide-cons (b .pre) (v .i) (search needs), opposed-codes (b .args .x) (getD (now (b .args .cells)) (v .i) 0), ← c .before .opposed .ensures, c .if1 .left)
+loop-again c =
+    let b = c .before .before .before .before .before in
+    let v = c .before .before .before .before .loop in
+    v .inv ∙ rw (wide-cons (b .pre) (v .i) (search needs), opposed-codes (b .args .x) (getD (now (b .args .cells)) (v .i) 0), ← c .before .opposed .ensures, c .if1 .left)
 
 returns-2 : tie.Need-returns-2 Inv-loop μ-loop
 unfolding clashes

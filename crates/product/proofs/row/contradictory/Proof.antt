@@ -26,11 +26,17 @@ element-copy-out-x c = omega (arith, c .before .before .pre .most)
 
 returns : tie.Need-returns Inv-loop μ-loop
 unfolding contradictory
-returns c = let b = c .before .before .before .before .before in let v = c .before .before .before .before .loop in sym (v .inv ∙ rw (wide-cons (b .pre) (v .i) (search needs), ← c .before .clashes .ensures, c .if1 .taken))
+returns c =
+    let b = c .before .before .before .before .before in
+    let v = c .before .before .before .before .loop in
+    sym (v .inv ∙ rw (wide-cons (b .pre) (v .i) (search needs), ← c .before .clashes .ensures, c .if1 .taken))
 
 loop-again : tie.Need-loop-again Inv-loop μ-loop
 unfolding contradictory
-loop-again c = let b = c .before .before .before .before .before in let v = c .before .before .before .before .loop in v .inv ∙ rw (wide-cons (b .pre) (v .i) (search needs), ← c .before .clashes .ensures, c .if1 .left)
+loop-again c =
+    let b = c .before .before .before .before .before in
+    let v = c .before .before .before .before .loop in
+    v .inv ∙ rw (wide-cons (b .pre) (v .i) (search needs), ← c .before .clashes .ensures, c .if1 .left)
 
 returns-2 : tie.Need-returns-2 Inv-loop μ-loop
 unfolding contradictory

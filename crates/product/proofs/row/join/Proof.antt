@@ -22,7 +22,10 @@ element-copy-out-x : tie.Need-element-copy-out-x Inv-loop μ-loop
 element-copy-out-x c = let z = c .before .before .before .before .size .ensures in omega (arith, z .small)
 
 insert-requires : tie.Need-insert-requires Inv-loop μ-loop
-insert-requires c κs = let z = c .before .before .before .before .before .before .size .ensures in let u = c .before .before .before .loop .inv in (omega (arith, z .small, u .few), u .blank)
+insert-requires c κs =
+    let z = c .before .before .before .before .before .before .size .ensures in
+    let u = c .before .before .before .loop .inv in
+    (omega (arith, z .small, u .few), u .blank)
 
 loop-again : tie.Need-loop-again Inv-loop μ-loop
 loop-again c = uniting-next (c .before .before .before .before .before .before .before .size .ensures) (c .before .before .before .before .loop .inv) (search needs) (c .insert .ensures)

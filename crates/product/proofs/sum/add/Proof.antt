@@ -18,10 +18,16 @@ contradictory-requires : tie.Need-contradictory-requires
 contradictory-requires c κs = c .before .pre .1
 
 returns-2 : tie.Need-returns-2
-returns-2 c = let b = c .before .before .before in let e : contradictory (wideOf (b .args .size) (now (b .args .cells))) ≡ true = cc in filled-skip (search needs) (b .pre .0) _ (rw e)
+returns-2 c =
+    let b = c .before .before .before in
+    let e : contradictory (wideOf (b .args .size) (now (b .args .cells))) ≡ true = cc in
+    filled-skip (search needs) (b .pre .0) _ (rw e)
 
 returns-3 : tie.Need-returns-3
-returns-3 c = let b = c .before .before .before .before in let e : contradictory (wideOf (b .args .size) (now (b .args .cells))) ≡ false = cc in filled-long (search needs) (b .pre .0) _ e (rw (wide-length (b .pre .1)) (c .if3 .taken))
+returns-3 c =
+    let b = c .before .before .before .before in
+    let e : contradictory (wideOf (b .args .size) (now (b .args .cells))) ≡ false = cc in
+    filled-long (search needs) (b .pre .0) _ e (rw (wide-length (b .pre .1)) (c .if3 .taken))
 
 narrow-requires : tie.Need-narrow-requires
 narrow-requires c κs = (search needs, c .before .before .before .before .pre .1)
@@ -30,13 +36,34 @@ present-requires : tie.Need-present-requires
 present-requires c κs = (search needs, c .before .before .before .before .before .before .before .pre .0, row-clean (c .before .before .narrow .ensures))
 
 returns-4 : tie.Need-returns-4
-returns-4 c = let b = c .before .before .before .before .before .before .before .before .before in let p = wideOf (b .args .size) (now (b .args .cells)) in let row = c .before .before .before .before .narrow in let e : contradictory p ≡ false = cc in let q : present (productOf (row .result)) (productsOf (b .args .n) (now (b .args .rows))) ≡ true = cc in let d : present p (productsOf (b .args .n) (now (b .args .rows))) ≡ true = rw (row .ensures .product) at q in filled-skip (search needs) (b .pre .0) p (rw (e, d))
+returns-4 c =
+    let b = c .before .before .before .before .before .before .before .before .before in
+    let p = wideOf (b .args .size) (now (b .args .cells)) in
+    let row = c .before .before .before .before .narrow in
+    let e : contradictory p ≡ false = cc in
+    let q : present (productOf (row .result)) (productsOf (b .args .n) (now (b .args .rows))) ≡ true = cc in
+    let d : present p (productsOf (b .args .n) (now (b .args .rows))) ≡ true = rw (row .ensures .product) at q in
+    filled-skip (search needs) (b .pre .0) p (rw (e, d))
 
 returns-5 : tie.Need-returns-5
-returns-5 c = let b = c .before .before .before .before .before .before .before .before .before .before in let p = wideOf (b .args .size) (now (b .args .cells)) in let row = c .before .before .before .before .before .narrow in let e : contradictory p ≡ false = cc in let q : present (productOf (row .result)) (productsOf (b .args .n) (now (b .args .rows))) ≡ false = cc in let d : present p (productsOf (b .args .n) (now (b .args .rows))) ≡ false = rw (row .ensures .product) at q in filled-full (search needs) (b .pre .0) p e d (c .if5 .taken)
+returns-5 c =
+    let b = c .before .before .before .before .before .before .before .before .before .before in
+    let p = wideOf (b .args .size) (now (b .args .cells)) in
+    let row = c .before .before .before .before .before .narrow in
+    let e : contradictory p ≡ false = cc in
+    let q : present (productOf (row .result)) (productsOf (b .args .n) (now (b .args .rows))) ≡ false = cc in
+    let d : present p (productsOf (b .args .n) (now (b .args .rows))) ≡ false = rw (row .ensures .product) at q in
+    filled-full (search needs) (b .pre .0) p e d (c .if5 .taken)
 
 returns-6 : tie.Need-returns-6
-returns-6 c = let b = c .before .before .before .before .before .before .before .before .before .before in let p = wideOf (b .args .size) (now (b .args .cells)) in let row = c .before .before .before .before .before .narrow in let e : contradictory p ≡ false = cc in let q : present (productOf (row .result)) (productsOf (b .args .n) (now (b .args .rows))) ≡ false = cc in let d : present p (productsOf (b .args .n) (now (b .args .rows))) ≡ false = rw (row .ensures .product) at q in filled-last (search needs) (b .pre .0) p e d (search needs) (rw (wide-length (b .pre .1)) (search needs)) (row .ensures)
+returns-6 c =
+    let b = c .before .before .before .before .before .before .before .before .before .before in
+    let p = wideOf (b .args .size) (now (b .args .cells)) in
+    let row = c .before .before .before .before .before .narrow in
+    let e : contradictory p ≡ false = cc in
+    let q : present (productOf (row .result)) (productsOf (b .args .n) (now (b .args .rows))) ≡ false = cc in
+    let d : present p (productsOf (b .args .n) (now (b .args .rows))) ≡ false = rw (row .ensures .product) at q in
+    filled-last (search needs) (b .pre .0) p e d (search needs) (rw (wide-length (b .pre .1)) (search needs)) (row .ensures)
 
 pub add-spec : {M : Type 1} → statement M
 add-spec =

@@ -34,11 +34,18 @@ add-joined-requires c κs = (c .before .before .before .loop .inv .clean, c .bef
 
 loop-again : tie.Need-loop-again Inv-loop μ-loop
 unfolding joinAll
-loop-again c = let b = c .before .before .before .before .before in let v = c .before .before .before .before .loop in let rights = productsOf (b .args .m) (now (b .args .right)) in adding-more (v .inv) (joinEach (productOf (getD (now (b .args .left)) (v .i) [])) rights) (joinAll (drop (v .i + 1) (productsOf (b .args .n) (now (b .args .left)))) rights) (ap (λ (ps : Sum). joinAll ps rights) (part-cons productOf (now (b .args .left)) (b .args .n) (b .pre .1) (v .i) [] (search needs))) (c .add-joined .ensures)
+loop-again c =
+    let b = c .before .before .before .before .before in
+    let v = c .before .before .before .before .loop in
+    let rights = productsOf (b .args .m) (now (b .args .right)) in
+    adding-more (v .inv) (joinEach (productOf (getD (now (b .args .left)) (v .i) [])) rights) (joinAll (drop (v .i + 1) (productsOf (b .args .n) (now (b .args .left)))) rights) (ap (λ (ps : Sum). joinAll ps rights) (part-cons productOf (now (b .args .left)) (b .args .n) (b .pre .1) (v .i) [] (search needs))) (c .add-joined .ensures)
 
 returns : tie.Need-returns Inv-loop μ-loop
 unfolding joinAll
-returns c = let b = c .before .before in let v = c .before .loop in adding-end (v .inv) (ap (λ (ps : Sum). joinAll ps (productsOf (b .args .m) (now (b .args .right)))) (part-past productOf (now (b .args .left)) (b .args .n) (b .pre .1) (v .i) (search needs)))
+returns c =
+    let b = c .before .before in
+    let v = c .before .loop in
+    adding-end (v .inv) (ap (λ (ps : Sum). joinAll ps (productsOf (b .args .m) (now (b .args .right)))) (part-past productOf (now (b .args .left)) (b .args .n) (b .pre .1) (v .i) (search needs)))
 
 pub add-all-joined-spec : {M : Type 1} → statement M
 add-all-joined-spec =

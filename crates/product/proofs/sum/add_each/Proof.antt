@@ -30,10 +30,16 @@ add-requires : tie.Need-add-requires Inv-loop μ-loop
 add-requires c κs = (c .before .before .before .before .before .before .loop .inv .clean, c .before .before .widen .ensures .blank)
 
 loop-again : tie.Need-loop-again Inv-loop μ-loop
-loop-again c = let b = c .before .before .before .before .before .before .before .before in let v = c .before .before .before .before .before .before .before .loop in adding-next (v .inv) _ _ (part-cons productOf (now (b .args .more)) (b .args .m) (b .pre .1) (v .i) [] (search needs)) (rw (c .before .before .before .widen .ensures .product) at (c .add .ensures))
+loop-again c =
+    let b = c .before .before .before .before .before .before .before .before in
+    let v = c .before .before .before .before .before .before .before .loop in
+    adding-next (v .inv) _ _ (part-cons productOf (now (b .args .more)) (b .args .m) (b .pre .1) (v .i) [] (search needs)) (rw (c .before .before .before .widen .ensures .product) at (c .add .ensures))
 
 returns : tie.Need-returns Inv-loop μ-loop
-returns c = let b = c .before .before in let v = c .before .loop in adding-end (v .inv) (part-past productOf (now (b .args .more)) (b .args .m) (b .pre .1) (v .i) (search needs))
+returns c =
+    let b = c .before .before in
+    let v = c .before .loop in
+    adding-end (v .inv) (part-past productOf (now (b .args .more)) (b .args .m) (b .pre .1) (v .i) (search needs))
 
 pub add-each-spec : {M : Type 1} → statement M
 add-each-spec =

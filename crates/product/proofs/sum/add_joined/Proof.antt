@@ -33,11 +33,17 @@ add-requires c κs = (c .before .before .before .before .before .before .loop .i
 
 loop-again : tie.Need-loop-again Inv-loop μ-loop
 unfolding joinEach
-loop-again c = let b = c .before .before .before .before .before .before .before .before in let v = c .before .before .before .before .before .before .before .loop in adding-next (v .inv) _ _ (ap (joinEach (productOf (now (b .args .p)))) (part-cons productOf (now (b .args .more)) (b .args .m) (b .pre .1) (v .i) [] (search needs))) (rw (c .before .before .before .join .ensures .product) at (c .add .ensures))
+loop-again c =
+    let b = c .before .before .before .before .before .before .before .before in
+    let v = c .before .before .before .before .before .before .before .loop in
+    adding-next (v .inv) _ _ (ap (joinEach (productOf (now (b .args .p)))) (part-cons productOf (now (b .args .more)) (b .args .m) (b .pre .1) (v .i) [] (search needs))) (rw (c .before .before .before .join .ensures .product) at (c .add .ensures))
 
 returns : tie.Need-returns Inv-loop μ-loop
 unfolding joinEach
-returns c = let b = c .before .before in let v = c .before .loop in adding-end (v .inv) (ap (joinEach (productOf (now (b .args .p)))) (part-past productOf (now (b .args .more)) (b .args .m) (b .pre .1) (v .i) (search needs)))
+returns c =
+    let b = c .before .before in
+    let v = c .before .loop in
+    adding-end (v .inv) (ap (joinEach (productOf (now (b .args .p)))) (part-past productOf (now (b .args .more)) (b .args .m) (b .pre .1) (v .i) (search needs)))
 
 pub add-joined-spec : {M : Type 1} → statement M
 add-joined-spec =

@@ -26,11 +26,19 @@ index-1-same c = omega (arith, c .before .before .pre .0)
 
 returns : tie.Need-returns Inv-loop μ-loop
 unfolding present
-returns c = let b = c .before .before .before .before .before in let v = c .before .before .before .before .loop in let t = present-same (b .pre) (v .i) (search needs) in sym (v .inv ∙ rw (t .0, ← t .1, ← c .before .same .ensures, c .if1 .taken))
+returns c =
+    let b = c .before .before .before .before .before in
+    let v = c .before .before .before .before .loop in
+    let t = present-same (b .pre) (v .i) (search needs) in
+    sym (v .inv ∙ rw (t .0, ← t .1, ← c .before .same .ensures, c .if1 .taken))
 
 loop-again : tie.Need-loop-again Inv-loop μ-loop
 unfolding present
-loop-again c = let b = c .before .before .before .before .before in let v = c .before .before .before .before .loop in let t = present-same (b .pre) (v .i) (search needs) in v .inv ∙ rw (t .0, ← t .1, ← c .before .same .ensures, c .if1 .left)
+loop-again c =
+    let b = c .before .before .before .before .before in
+    let v = c .before .before .before .before .loop in
+    let t = present-same (b .pre) (v .i) (search needs) in
+    v .inv ∙ rw (t .0, ← t .1, ← c .before .same .ensures, c .if1 .left)
 
 returns-2 : tie.Need-returns-2 Inv-loop μ-loop
 unfolding present
