@@ -1,44 +1,27 @@
 -- From what the reader of a whole formula found to the answer, a law for each way that `compile` returns. Assumes nothing.
 use mathlib.Core.Path.{_≡_, refl, sym, ap, _∙_}
-use mathlib.Core.Bool.{Bool, true, false, cond}
+use mathlib.Core.Bool.{false}
 use mathlib.Core.List.{List, [], _∷_, map}
-use mathlib.Core.Option.{Option, none, some}
-use Prim.Native.Nat.{ℕ, _+_, _*_, _-_, _≤_, _<_}
+use mathlib.Core.Option.{none, some}
+use Prim.Native.Nat.{ℕ, _+_, _*_, _≤_, _<_}
 use native.Mathlib.Omega.{arith}
-use lib.Dec.{eqb}
 use lib.ListN.{length, length-drop}
-use borrow.Author.Tests.{le-leb, lt-leb, eqb-true, eqb-false}
+use borrow.Author.Tests.{le-leb, lt-leb, eq-eqb, ne-eqb}
 use Rattle.product.specs.Sum.{Sum?}
 use Rattle.product.specs.Cells.{Written}
-use Rattle.product.proofs.Truth.{true-false}
 use Rattle.product.proofs.Lists.{read, read-all}
 use Rattle.product.proofs.Filling.{rows-length, sum-wide}
 use Rattle.formula.specs.declared.text.Issued.{Issued}
 use Rattle.formula.specs.declared.text.Verdict.the-variants.{Accepted, Malformed, TooWide, Unsatisfiable}
 use Rattle.formula.specs.declared.text.Compiled.{Compiled}
-use Rattle.formula.specs.declared.reader.Node.{Node}
-use Rattle.formula.specs.Tree.{ors, Tree}
-use Rattle.formula.specs.Text.{issuedTo}
+use Rattle.formula.specs.declared.reader.Read.{Read}
+use Rattle.formula.specs.declared.reader.Read.the-variants.{Malformed as Unread, Node}
+use Rattle.formula.specs.Tree.{ors}
 use Rattle.formula.specs.Nodes.{listOf}
 use Rattle.formula.specs.Reader.{Found, wholeOf, readText}
 use Rattle.formula.specs.Outcome.{tooWide, unsatisfiable, judgeList, judge, outcomeOf, rowWith, answerOf, refusedOf, compiledOf}
 use Rattle.formula.specs.Steps.{Reads, failed, parsed, OrAt, eightRows}
-
--- the whole text, of what was read in front of it
-pub data Whole (s : List ℕ) (n : Node) (rows : List (List ℕ)) : Option (Tree ors) → Type 0 where
-  unread : (n .ok ≡ true → n .at < length s) → Whole s n rows none
-  whole : {t : Tree ors} → n .ok ≡ true → length s ≤ n .at → Written (listOf false t) rows (n .count) → Whole s n rows (some t)
-
-all-read : {s : List ℕ} {n : Node} {rows : List (List ℕ)} {x : Found ors} → Reads false s n rows x → Whole s n rows (wholeOf x)
-all-read (failed e) = unread (λ o. absurd (true-false o e))
-all-read {s} {n} {rows} (parsed {t} {rest} e w h) = go (eqb (length rest) 0) refl
-  where
-    size : length rest ≡ length s - n .at
-    size = ap length w ∙ length-drop (n .at) s
-
-    go : (b : Bool) → eqb (length rest) 0 ≡ b → Whole s n rows (cond b (some t) none)
-    go true z = whole e (omega (arith, eqb-true (length rest) 0 z, size)) h
-    go false z = unread (λ o. omega (arith, eqb-false (length rest) 0 z, size))
+use Rattle.formula.proofs.Walking.{told}
 
 -- the answer of a list of products that is written in rows
 
@@ -70,36 +53,37 @@ pub long-text : (i : Issued) (s : List ℕ) → 96 < length s → refusedOf Malf
 unfolding outcomeOf
 long-text i s h = rw (lt-leb (length s) 96 h)
 
-module _ (i : Issued) (s : List ℕ) {n : Node} {rows : List (List ℕ)} (h : length s ≤ 96) (p : OrAt i s 8 false n rows 0) where
-  text-read : Whole s n rows (readText (issuedTo i) s)
-  unfolding readText
-  text-read = all-read (p (4 * length s + 3) (omega arith))
-
-  short-text : outcomeOf i s ≡ judge (readText (issuedTo i) s)
-  unfolding outcomeOf
-  short-text = rw (le-leb (length s) 96 h)
+module _ (i : Issued) (s : List ℕ) {r : Read} {rows : List (List ℕ)} (h : length s ≤ 96) (p : OrAt i s 8 false r rows 0) where
+  short-text : {q : Read} {c : Compiled} → r ≡ q → ((x : Found ors) → Reads false s rows q x → c ≡ answerOf (judge (wholeOf x))) → c ≡ compiledOf i s
+  unfolding outcomeOf readText
+  short-text e f = rw (le-leb (length s) 96 h) (f _ (told e (p (4 * length s + 3) (omega arith))))
 
   -- not spelt right, or not up to its end
-  pub text-unread : (n .ok ≡ true → n .at < length s) → refusedOf Malformed ≡ compiledOf i s
-  text-unread e = rw short-text (go text-read)
+  pub text-unread : r ≡ Unread → refusedOf Malformed ≡ compiledOf i s
+  text-unread e = short-text e (λ x q. go q)
     where
-      go : {o : Option (Tree ors)} → Whole s n rows o → refusedOf Malformed ≡ answerOf (judge o)
-      go (unread f) = refl
-      go (whole a b w) = let l = e a in let z : ⊥ = omega arith in absurd z
+      go : {x : Found ors} → Reads false s rows Unread x → refusedOf Malformed ≡ answerOf (judge (wholeOf x))
+      go failed = refl
 
-  module _ (o : n .ok ≡ true) (e : length s ≤ n .at) where
-    found : {c : Compiled} → ((x : Sum?) → Written x rows (n .count) → c ≡ answerOf (judgeList x)) → c ≡ compiledOf i s
-    found {c} f = rw short-text (go text-read)
+  module _ {a n : ℕ} (e : r ≡ Node a n) where
+    pub text-longer : a < length s → refusedOf Malformed ≡ compiledOf i s
+    text-longer l = short-text e (λ x q. go q)
       where
-        go : {t : Option (Tree ors)} → Whole s n rows t → c ≡ answerOf (judge t)
-        go (unread g) = let l = g o in let z : ⊥ = omega arith in absurd z
-        go (whole {t} a b w) = f (listOf false t) w
+        go : {x : Found ors} → Reads false s rows (Node a n) x → refusedOf Malformed ≡ answerOf (judge (wholeOf x))
+        go (parsed {rest} w k) = rw (ne-eqb (length rest) 0 (λ z. omega (arith, ap length w, length-drop a s)))
 
-    pub text-wide : 8 < n .count → refusedOf TooWide ≡ compiledOf i s
-    text-wide l = found (λ x w. ap answerOf (sym (wide-list x w l)))
+    module _ (l : length s ≤ a) where
+      found : {c : Compiled} → ((x : Sum?) → Written x rows n → c ≡ answerOf (judgeList x)) → c ≡ compiledOf i s
+      found {c} f = short-text e (λ x q. go q)
+        where
+          go : {x : Found ors} → Reads false s rows (Node a n) x → c ≡ answerOf (judge (wholeOf x))
+          go (parsed {t} {rest} w k) = rw (eq-eqb (length rest) 0 (omega (arith, ap length w, length-drop a s))) (f (listOf false t) k)
 
-    pub text-void : n .count ≡ 0 → refusedOf Unsatisfiable ≡ compiledOf i s
-    text-void l = found (λ x w. ap answerOf (sym (void-list x w l)))
+      pub text-wide : 8 < n → refusedOf TooWide ≡ compiledOf i s
+      text-wide b = found (λ x w. ap answerOf (sym (wide-list x w b)))
 
-    pub text-accepted : (n .count ≡ 0 → ⊥) → n .count ≤ 8 → acceptedOf (n .count) rows ≡ compiledOf i s
-    text-accepted a b = found (λ x w. filled-list x w a b)
+      pub text-void : n ≡ 0 → refusedOf Unsatisfiable ≡ compiledOf i s
+      text-void b = found (λ x w. ap answerOf (sym (void-list x w b)))
+
+      pub text-accepted : (n ≡ 0 → ⊥) → n ≤ 8 → acceptedOf n rows ≡ compiledOf i s
+      text-accepted b d = found (λ x w. filled-list x w b d)

@@ -1,6 +1,6 @@
 -- The steps of the readers in code: what a reader promises follows from what its callees promise, a law for each way through a reader.
 -- Assumes nothing.
-use mathlib.Core.Path.{_≡_, refl, ap, _∙_}
+use mathlib.Core.Path.{_≡_, refl, ap}
 use mathlib.Core.Bool.{Bool, true, false, not, cond}
 use mathlib.Core.List.{List, [], _∷_}
 use mathlib.Core.Option.{Option, none, some}
@@ -15,10 +15,12 @@ use Rattle.product.specs.declared.literal.Literal.{Literal}
 use Rattle.product.specs.Atom.{Atom, numberOf}
 use Rattle.product.specs.Sum.{Sum, Sum?, joined}
 use Rattle.product.specs.Cells.{sumOf, Written}
-use Rattle.product.proofs.Truth.{true-false}
 use Rattle.formula.specs.declared.text.Issued.{Issued}
 use Rattle.formula.specs.declared.number.Numeral.{Numeral}
-use Rattle.formula.specs.declared.reader.Node.{Node}
+use Rattle.formula.specs.declared.number.Numeral.the-variants.{Missing, Value}
+use Rattle.formula.specs.declared.reader.Read.{Read}
+use Rattle.formula.specs.declared.reader.Read.the-variants.{Malformed, Node}
+use Rattle.formula.specs.declared.reader.Lookup.{Lookup}
 use Rattle.formula.specs.declared.reader.Lookup.the-variants.{Named, Nothing}
 use Rattle.formula.specs.Tree.{Level, nots, ands, ors, Tree, atom, negate, bracket, factor, and, term, or}
 use Rattle.formula.specs.Spelling.{spell}
@@ -57,31 +59,30 @@ shorter (reads {t} {r} p d n) = omega (arith, ap length p, length-append (spell 
 
 -- what was read
 
+-- by the answer's variant
+pub told : {odd : Bool} {s : List ℕ} {l : Level} {rows : List (List ℕ)} {r q : Read} {x : Found l} → r ≡ q → Reads odd s rows r x → Reads odd s rows q x
+told e p = rw e at p
+
 module _ (odd : Bool) (s : List ℕ) where
-  next-failed : {l m : Level} {n : Node} {rows : List (List ℕ)} {x : Found l} (g : Tree l → List ℕ → Found m) → Reads odd s n rows x → n .ok ≡ false → (r : Node) (new : List (List ℕ)) → r .ok ≡ false → Reads odd s r new (next x g)
-  next-failed g (failed e) p r new q = failed q
-  next-failed g (parsed e w h) p r new q = absurd (true-false e p)
+  next-failed : {l m : Level} {rows new : List (List ℕ)} {x : Found l} (g : Tree l → List ℕ → Found m) → Reads odd s rows Malformed x → Reads odd s new Malformed (next x g)
+  next-failed g failed = failed
 
-  negated : {r : Node} {rows : List (List ℕ)} {x : Found nots} → Reads (not odd) s r rows x → Reads odd s r rows (next x (λ t u. found (negate t) u))
-  negated (failed e) = failed e
-  negated (parsed {t} e w h) = parsed e w (list-at (list-negate odd t) h)
+  negated : {r : Read} {rows : List (List ℕ)} {x : Found nots} → Reads (not odd) s rows r x → Reads odd s rows r (next x (λ t u. found (negate t) u))
+  negated failed = failed
+  negated (parsed {t} w h) = parsed w (list-at (list-negate odd t) h)
 
-  closed : {n r : Node} {rows : List (List ℕ)} {x : Found ors} → Reads odd s n rows x → n .ok ≡ true → getD s (n .at) 0 ≡ 41 → r .ok ≡ true → r .at ≡ n .at + 1 → r .count ≡ n .count → Reads odd s r rows (next x close)
-  closed (failed e) p b o a w = absurd (true-false p e)
-  closed {n} {r} {rows} (parsed {t} {rest} e u h) p b o a w =
-      rw (u, head-at s (n .at), b) (parsed {t = bracket t} o (drop-drop 1 (n .at) s ∙ rw a) (rw w (list-at (list-bracket odd t) h)))
+  closed : {a n : ℕ} {rows : List (List ℕ)} {x : Found ors} → getD s a 0 ≡ 41 → Reads odd s rows (Node a n) x → Reads odd s rows (Node (a + 1) n) (next x close)
+  closed {a} b (parsed {t} u h) = rw (u, head-at s a, b) (parsed {t = bracket t} (drop-drop 1 a s) (list-at (list-bracket odd t) h))
 
-  unclosed : {n r : Node} {rows new : List (List ℕ)} {x : Found ors} → Reads odd s n rows x → n .ok ≡ true → (getD s (n .at) 0 ≡ 41 → ⊥) → r .ok ≡ false → Reads odd s r new (next x close)
-  unclosed (failed e) p b o = failed o
-  unclosed {n} (parsed e u h) p b o = rw (u, head-at s (n .at), ne-eqb (getD s (n .at) 0) 41 b) (failed o)
+  unclosed : {a n : ℕ} {rows new : List (List ℕ)} {x : Found ors} → (getD s a 0 ≡ 41 → ⊥) → Reads odd s rows (Node a n) x → Reads odd s new Malformed (next x close)
+  unclosed {a} b (parsed u h) = rw (u, head-at s a, ne-eqb (getD s a 0) 41 b) failed
 
-  further : {l : Level} {n : Node} {rows : List (List ℕ)} {x : Found l} (at : ℕ) → Reads odd s n rows x → Shorter (drop at s) x → n .ok ≡ true → length s - n .at < length s - at
-  further at (failed e) g p = absurd (true-false p e)
-  further {n} at (parsed e w h) g p = omega (arith, ap length w, g, length-drop at s, length-drop (n .at) s)
+  further : {l : Level} {a n : ℕ} {rows : List (List ℕ)} {x : Found l} (at : ℕ) → Reads odd s rows (Node a n) x → Shorter (drop at s) x → length s - a < length s - at
+  further {a = a} at (parsed w h) g = omega (arith, ap length w, g, length-drop at s, length-drop a s)
 
 -- NOT
 
-module _ (i : Issued) (s : List ℕ) (level : ℕ) (odd : Bool) (at : ℕ) {r : Node} {rows : List (List ℕ)} where
+module _ (i : Issued) (s : List ℕ) (level : ℕ) (odd : Bool) (at : ℕ) {r : Read} {rows : List (List ℕ)} where
   pub not-negated : getD s at 0 ≡ 33 → NotAt i s level (not odd) r rows (at + 1) → NotAt i s level odd r rows at
   unfolding readNots
   not-negated b p zero h = let z : ⊥ = omega arith in absurd z
@@ -106,33 +107,29 @@ module _ (i : Issued) (s : List ℕ) (level : ℕ) (odd : Bool) (at : ℕ) {r : 
 less-one : (k : ℕ) → suc k - 1 ≡ k
 less-one k = omega arith
 
-module _ (i : Issued) (s : List ℕ) (odd : Bool) (at : ℕ) {r : Node} {rows : List (List ℕ)} where
-  pub bracket-deep : (level : ℕ) → level ≡ 0 → r .ok ≡ false → BracketAt i s level odd r rows at
+module _ (i : Issued) (s : List ℕ) (odd : Bool) (at : ℕ) {new : List (List ℕ)} where
+  pub bracket-deep : (level : ℕ) → level ≡ 0 → BracketAt i s level odd Malformed new at
   unfolding readNots
-  bracket-deep level e q zero h = let z : ⊥ = omega arith in absurd z
-  bracket-deep level e q (suc f) h = rw e (failed q)
+  bracket-deep level e zero h = let z : ⊥ = omega arith in absurd z
+  bracket-deep level e (suc f) h = rw e failed
 
-  pub bracket-failed : (level : ℕ) → (level ≡ 0 → ⊥) → OrAt i s (level - 1) odd r rows at → r .ok ≡ false → BracketAt i s level odd r rows at
+  -- what was read inside, and what follows it
+  inner : (level : ℕ) {r q u : Read} {rows : List (List ℕ)} → (level ≡ 0 → ⊥) → r ≡ q → OrAt i s (level - 1) odd r rows at
+      → ((x : Found ors) → Reads odd s rows q x → Reads odd s new u (next x close)) → BracketAt i s level odd u new at
   unfolding readNots
-  bracket-failed level e p a zero h = let z : ⊥ = omega arith in absurd z
-  bracket-failed zero e p a (suc f) h = absurd (e refl)
-  bracket-failed (suc k) e p a (suc f) h =
-      let q : OrAt i s k odd r rows at = rw (less-one k) at p in
-      next-failed odd s _ (q f (omega arith)) a r rows a
+  inner level e d p g zero h = let z : ⊥ = omega arith in absurd z
+  inner zero e d p g (suc f) h = absurd (e refl)
+  inner (suc k) {r} {rows = rows} e d p g (suc f) h = let o : OrAt i s k odd r rows at = rw (less-one k) at p in g _ (told d (o f (omega arith)))
 
-  pub bracket-unclosed : (level : ℕ) {n : Node} {new : List (List ℕ)} → (level ≡ 0 → ⊥) → OrAt i s (level - 1) odd n new at → n .ok ≡ true → (getD s (n .at) 0 ≡ 41 → ⊥) → r .ok ≡ false
-      → BracketAt i s level odd r rows at
-  unfolding readNots
-  bracket-unclosed level e p a b q zero h = let z : ⊥ = omega arith in absurd z
-  bracket-unclosed zero e p a b q (suc f) h = absurd (e refl)
-  bracket-unclosed (suc k) {n} {new} e p a b q (suc f) h = let o : OrAt i s k odd n new at = rw (less-one k) at p in unclosed odd s (o f (omega arith)) a b q
+  pub bracket-failed : (level : ℕ) {r : Read} {rows : List (List ℕ)} → (level ≡ 0 → ⊥) → r ≡ Malformed → OrAt i s (level - 1) odd r rows at → BracketAt i s level odd Malformed new at
+  bracket-failed level e d p = inner level e d p (λ x q. next-failed odd s close q)
 
-  pub bracket-closed : (level : ℕ) {n : Node} → (level ≡ 0 → ⊥) → OrAt i s (level - 1) odd n rows at → n .ok ≡ true → getD s (n .at) 0 ≡ 41
-      → r .ok ≡ true → r .at ≡ n .at + 1 → r .count ≡ n .count → BracketAt i s level odd r rows at
-  unfolding readNots
-  bracket-closed level e p a b o v w zero h = let z : ⊥ = omega arith in absurd z
-  bracket-closed zero e p a b o v w (suc f) h = absurd (e refl)
-  bracket-closed (suc k) {n} e p a b o v w (suc f) h = let q : OrAt i s k odd n rows at = rw (less-one k) at p in closed odd s (q f (omega arith)) a b o v w
+  module _ (level : ℕ) {r : Read} {a n : ℕ} (e : level ≡ 0 → ⊥) (d : r ≡ Node a n) where
+    pub bracket-unclosed : {rows : List (List ℕ)} → OrAt i s (level - 1) odd r rows at → (getD s a 0 ≡ 41 → ⊥) → BracketAt i s level odd Malformed new at
+    bracket-unclosed p b = inner level e d p (λ x q. unclosed odd s b q)
+
+    pub bracket-closed : OrAt i s (level - 1) odd r new at → getD s a 0 ≡ 41 → BracketAt i s level odd (Node (a + 1) n) new at
+    bracket-closed p b = inner level e d p (λ x q. closed odd s b q)
 
 -- AND and OR: parts joined by a byte, read one after the other. Both readers are one chain, at different levels.
 
@@ -150,63 +147,59 @@ pub record Chain (odd : Bool) (part whole : Level) (cost byte : ℕ) (join : Sum
   pub parts-shorter : (f : ℕ) (s : List ℕ) → Shorter s (parts f s)
 
 module _ {odd : Bool} {part whole : Level} {cost byte : ℕ} {join : Sum → Sum → Sum} (c : Chain odd part whole cost byte join) (s : List ℕ) where
-  abbrev pub PartAt : Node → List (List ℕ) → ℕ → Type 0
-  PartAt r rows at = (f : ℕ) → 4 * (length s - at) + cost ≤ f → Reads odd s r rows (c .parts f (drop at s))
+  abbrev pub PartAt : Read → List (List ℕ) → ℕ → Type 0
+  PartAt r rows at = (f : ℕ) → 4 * (length s - at) + cost ≤ f → Reads odd s rows r (c .parts f (drop at s))
 
-  abbrev pub WholeAt : Node → List (List ℕ) → ℕ → Type 0
-  WholeAt r rows at = (f : ℕ) → 4 * (length s - at) + (cost + 1) ≤ f → Reads odd s r rows (c .wholes f (drop at s))
+  abbrev pub WholeAt : Read → List (List ℕ) → ℕ → Type 0
+  WholeAt r rows at = (f : ℕ) → 4 * (length s - at) + (cost + 1) ≤ f → Reads odd s rows r (c .wholes f (drop at s))
 
-  abbrev pub MoreAt : Node → List (List ℕ) → Node → List (List ℕ) → Type 0
-  MoreAt r rows n old = (t : Tree whole) → Written (listOf odd t) old (n .count) → (f : ℕ) → 4 * (length s - n .at) + (cost + 1) ≤ f
-      → Reads odd s r rows (c .more f t (drop (n .at) s))
+  abbrev pub MoreAt : Read → List (List ℕ) → ℕ → ℕ → List (List ℕ) → Type 0
+  MoreAt r rows at n old = (t : Tree whole) → Written (listOf odd t) old n → (f : ℕ) → 4 * (length s - at) + (cost + 1) ≤ f → Reads odd s rows r (c .more f t (drop at s))
 
-  pub chain-further : (at : ℕ) {n : Node} {rows : List (List ℕ)} → PartAt n rows at → n .ok ≡ true → length s - n .at < length s - at
-  chain-further at p e = further odd s at (p (4 * (length s - at) + cost) (omega arith)) (c .parts-shorter (4 * (length s - at) + cost) (drop at s)) e
+  pub chain-further : (at : ℕ) {r : Read} {a n : ℕ} {rows : List (List ℕ)} → r ≡ Node a n → PartAt r rows at → length s - a < length s - at
+  chain-further at e p = further odd s at (told e (p (4 * (length s - at) + cost) (omega arith))) (c .parts-shorter (4 * (length s - at) + cost) (drop at s))
 
-  pub chain-failed : (at : ℕ) {n : Node} {rows : List (List ℕ)} → PartAt n rows at → n .ok ≡ false → WholeAt n rows at
-  chain-failed at p a zero h = let z : ⊥ = omega arith in absurd z
-  chain-failed at {n} {rows} p a (suc f) h = rw (c .wholes-suc f (drop at s)) (next-failed odd s _ (p f (omega arith)) a n rows a)
+  pub chain-failed : (at : ℕ) {r : Read} {rows new : List (List ℕ)} → r ≡ Malformed → PartAt r rows at → WholeAt Malformed new at
+  chain-failed at e p zero h = let z : ⊥ = omega arith in absurd z
+  chain-failed at e p (suc f) h = rw (c .wholes-suc f (drop at s)) (next-failed odd s _ (told e (p f (omega arith))))
 
   -- the first part, and what follows it
-  begun : {n r : Node} {rows new : List (List ℕ)} {x : Found part} (f : ℕ) → 4 * (length s - n .at) + (cost + 1) ≤ f → Reads odd s n rows x → n .ok ≡ true → MoreAt r new n rows
-      → Reads odd s r new (next x (λ t u. c .more f (c .one t) u))
-  begun f h (failed e) p m = absurd (true-false p e)
-  begun f h (parsed {t} e w k) p m = rw w (m (c .one t) (list-at (c .list-one t) k) f h)
+  begun : {a n : ℕ} {r : Read} {rows new : List (List ℕ)} {x : Found part} (f : ℕ) → 4 * (length s - a) + (cost + 1) ≤ f → Reads odd s rows (Node a n) x → MoreAt r new a n rows
+      → Reads odd s new r (next x (λ t u. c .more f (c .one t) u))
+  begun f h (parsed {t} w k) m = rw w (m (c .one t) (list-at (c .list-one t) k) f h)
 
-  pub chain-begun : (at : ℕ) {n r : Node} {rows new : List (List ℕ)} → PartAt n rows at → n .ok ≡ true → MoreAt r new n rows → WholeAt r new at
-  chain-begun at p a m zero h = let z : ⊥ = omega arith in absurd z
-  chain-begun at p a m (suc f) h =
-      let g = chain-further at p a in
-      rw (c .wholes-suc f (drop at s)) (begun f (omega arith) (p f (omega arith)) a m)
+  pub chain-begun : (at : ℕ) {r q : Read} {a n : ℕ} {rows new : List (List ℕ)} → q ≡ Node a n → PartAt q rows at → MoreAt r new a n rows → WholeAt r new at
+  chain-begun at e p m zero h = let z : ⊥ = omega arith in absurd z
+  chain-begun at e p m (suc f) h =
+      let g = chain-further at e p in
+      rw (c .wholes-suc f (drop at s)) (begun f (omega arith) (told e (p f (omega arith))) m)
 
   -- no further part
-  pub chain-stop : {n : Node} {rows : List (List ℕ)} → n .ok ≡ true → (getD s (n .at) 0 ≡ byte → ⊥) → MoreAt n rows n rows
-  chain-stop o b t k zero h = let z : ⊥ = omega arith in absurd z
-  chain-stop {n} o b t k (suc f) h =
-      rw (c .more-suc f t (drop (n .at) s), head-at s (n .at), ne-eqb (getD s (n .at) 0) byte b) (parsed o refl k)
+  pub chain-stop : {at n : ℕ} {rows : List (List ℕ)} → (getD s at 0 ≡ byte → ⊥) → MoreAt (Node at n) rows at n rows
+  chain-stop b t k zero h = let z : ⊥ = omega arith in absurd z
+  chain-stop {at} b t k (suc f) h = rw (c .more-suc f t (drop at s), head-at s at, ne-eqb (getD s at 0) byte b) (parsed refl k)
 
   -- a further part that fails
-  pub chain-broken : (l : Node) {n : Node} {old right new : List (List ℕ)} → getD s (l .at) 0 ≡ byte → PartAt n right (l .at + 1) → n .ok ≡ false → MoreAt n new l old
-  chain-broken l b p a t k zero h = let z : ⊥ = omega arith in absurd z
-  chain-broken l {n} {new = new} b p a t k (suc f) h =
-      let i = inside s (l .at) byte (c .printable) b in
-      rw (c .more-suc f t (drop (l .at) s), head-at s (l .at), eq-eqb (getD s (l .at) 0) byte b, drop-drop 1 (l .at) s) (next-failed odd s _ (p f (omega arith)) a n new a)
+  pub chain-broken : (at : ℕ) {n : ℕ} {r : Read} {old right new : List (List ℕ)} → getD s at 0 ≡ byte → r ≡ Malformed → PartAt r right (at + 1) → MoreAt Malformed new at n old
+  chain-broken at b e p t k zero h = let z : ⊥ = omega arith in absurd z
+  chain-broken at b e p t k (suc f) h =
+      let i = inside s at byte (c .printable) b in
+      rw (c .more-suc f t (drop at s), head-at s at, eq-eqb (getD s at 0) byte b, drop-drop 1 at s) (next-failed odd s _ (told e (p f (omega arith))))
 
   -- a further part, joined to what stands to its left
-  grown : (l j : Node) {n r : Node} {old right both new : List (List ℕ)} {x : Found part} (t : Tree whole) (f : ℕ) → 4 * (length s - j .at) + (cost + 1) ≤ f → Written (listOf odd t) old (l .count) → Reads odd s n right x → n .ok ≡ true
-      → Written (joined join (sumOf (l .count) old) (sumOf (n .count) right)) both (j .count) → j .at ≡ n .at → MoreAt r new j both → Reads odd s r new (next x (λ u v. c .more f (c .two t u) v))
-  grown l j t f h k (failed e) p w q m = absurd (true-false p e)
-  grown l j {n} {both = both} t f h k (parsed {t = u} e d v) p w q m =
-      let z : Written (joined join (listOf odd t) (listOf odd u)) both (j .count) = rw (k .reads, v .reads) at w in
-      rw (d, ← q) (m (c .two t u) (list-at (c .list-two t u) z) f h)
+  grown : {a n m j : ℕ} {r : Read} {old right both new : List (List ℕ)} {x : Found part} (t : Tree whole) (f : ℕ) → 4 * (length s - a) + (cost + 1) ≤ f → Written (listOf odd t) old n → Reads odd s right (Node a m) x
+      → Written (joined join (sumOf n old) (sumOf m right)) both j → MoreAt r new a j both → Reads odd s new r (next x (λ u v. c .more f (c .two t u) v))
+  grown {j = j} {both = both} t f h k (parsed {t = u} d v) w m =
+      let z : Written (joined join (listOf odd t) (listOf odd u)) both j = rw (k .reads, v .reads) at w in
+      rw d (m (c .two t u) (list-at (c .list-two t u) z) f h)
 
-  pub chain-grown : (l j : Node) {n r : Node} {old right both new : List (List ℕ)} → getD s (l .at) 0 ≡ byte → PartAt n right (l .at + 1) → n .ok ≡ true
-      → Written (joined join (sumOf (l .count) old) (sumOf (n .count) right)) both (j .count) → j .at ≡ n .at → MoreAt r new j both → MoreAt r new l old
-  chain-grown l j b p a w q m t k zero h = let z : ⊥ = omega arith in absurd z
-  chain-grown l j b p a w q m t k (suc f) h =
-      let i = inside s (l .at) byte (c .printable) b in
-      let g = chain-further (l .at + 1) p a in
-      rw (c .more-suc f t (drop (l .at) s), head-at s (l .at), eq-eqb (getD s (l .at) 0) byte b, drop-drop 1 (l .at) s) (grown l j t f (omega arith) k (p f (omega arith)) a w q m)
+  pub chain-grown : (at : ℕ) {a n m j : ℕ} {r q : Read} {old right both new : List (List ℕ)} → getD s at 0 ≡ byte → q ≡ Node a m → PartAt q right (at + 1)
+      → Written (joined join (sumOf n old) (sumOf m right)) both j → MoreAt r new a j both → MoreAt r new at n old
+  chain-grown at b e p w m t k zero h = let z : ⊥ = omega arith in absurd z
+  chain-grown at b e p w m t k (suc f) h =
+      let i = inside s at byte (c .printable) b in
+      let g = chain-further (at + 1) e p in
+      rw (c .more-suc f t (drop at s), head-at s at, eq-eqb (getD s at 0) byte b, drop-drop 1 at s) (grown t f (omega arith) k (told e (p f (omega arith))) w m)
 
 -- the chains of AND and of OR
 
@@ -264,13 +257,11 @@ module _ (i : Issued) (level : ℕ) (odd : Bool) where
 
 -- keys
 
-pub lookup-named : (o : Option Atom) (k : Atom) → lookupOf o ≡ Named k → o ≡ some k
-lookup-named none k e = cc
-lookup-named (some a) k e = let j : a ≡ k = cc in ap some j
-
-pub lookup-nothing : (o : Option Atom) → lookupOf o ≡ Nothing → o ≡ none
-lookup-nothing none e = refl
-lookup-nothing (some a) e = cc
+same-key : (o p : Option Atom) → lookupOf o ≡ lookupOf p → o ≡ p
+same-key none none e = refl
+same-key none (some a) e = cc
+same-key (some a) none e = cc
+same-key (some a) (some b) e = let j : a ≡ b = cc in ap some j
 
 module _ (i : Issued) where
   large : (k : Atom) (r : List ℕ) → 65535 < numberOf k → keep (issuedTo i) (some k) r ≡ none
@@ -291,35 +282,38 @@ module _ (i : Issued) where
   unfolding readAtom
   atom-at s at = rw (head-at s at, drop-drop 1 at s)
 
-  module _ (s : List ℕ) (odd : Bool) (at : ℕ) {r : Node} {rows : List (List ℕ)} where
-    pub atom-past : length s ≤ at → r .ok ≡ false → AtomAt i s odd r rows at
+  module _ (s : List ℕ) (odd : Bool) (at : ℕ) {rows : List (List ℕ)} where
+    pub atom-past : length s ≤ at → AtomAt i s odd Malformed rows at
     unfolding readAtom readNumber
-    atom-past h q = rw (drop-of-length-le s h) (failed q)
+    atom-past h = rw (drop-of-length-le s h) failed
 
-    no-key : {m : Numeral} {x : Option (ℕ × List ℕ)} (b : ℕ) → NumberReads s m x → m .ok ≡ false → r .ok ≡ false → Reads odd s r rows (named (issuedTo i) b x)
-    no-key b (no-digits e) p q = failed q
-    no-key b (too-large {p = y} e h) p q = rw (large-named b (y .0) (y .1) h) (failed q)
-    no-key b (number e v w) p q = absurd (true-false e p)
+    no-key : {x : Option (ℕ × List ℕ)} (b : ℕ) → NumberReads s Missing x → Reads odd s rows Malformed (named (issuedTo i) b x)
+    no-key b no-digits = failed
+    no-key b (too-large {p} h) = rw (large-named b (p .0) (p .1) h) failed
 
-    pub atom-unread : {m : Numeral} → NumberReads s m (readNumber (drop (at + 1) s)) → m .ok ≡ false → r .ok ≡ false → AtomAt i s odd r rows at
-    atom-unread p a q = rw (← atom-at s at) (no-key (getD s at 0) p a q)
+    pub atom-unread : {m : Numeral} → m ≡ Missing → NumberReads s m (readNumber (drop (at + 1) s)) → AtomAt i s odd Malformed rows at
+    atom-unread e p =
+        let q : NumberReads s Missing (readNumber (drop (at + 1) s)) = rw e at p in
+        rw (← atom-at s at) (no-key (getD s at 0) q)
 
-    with-key : {m : Numeral} {x : Option (ℕ × List ℕ)} (b : ℕ) (o : Option Atom) → NumberReads s m x → m .ok ≡ true → keyNamed b (m .value) ≡ o
-        → Reads odd s r rows (keep (issuedTo i) o (drop (m .at) s)) → Reads odd s r rows (named (issuedTo i) b x)
-    with-key b o (no-digits e) p q k = absurd (true-false p e)
-    with-key b o (too-large e h) p q k = absurd (true-false p e)
-    with-key b o (number e v w) p q k = rw (v, w, q) k
+    with-key : {v a : ℕ} {r : Read} {x : Option (ℕ × List ℕ)} (b : ℕ) (o : Option Atom) → NumberReads s (Value v a) x → keyNamed b v ≡ o
+        → Reads odd s rows r (keep (issuedTo i) o (drop a s)) → Reads odd s rows r (named (issuedTo i) b x)
+    with-key b o number q k = rw q k
 
-    module _ {m : Numeral} (p : NumberReads s m (readNumber (drop (at + 1) s))) (a : m .ok ≡ true) where
-      pub atom-unnamed : keyNamed (getD s at 0) (m .value) ≡ none → r .ok ≡ false → AtomAt i s odd r rows at
-      atom-unnamed k q = rw (← atom-at s at) (with-key (getD s at 0) none p a k (failed q))
+    module _ {m : Numeral} {v a : ℕ} (e : m ≡ Value v a) (p : NumberReads s m (readNumber (drop (at + 1) s))) {l : Lookup} (n : l ≡ lookupOf (keyNamed (getD s at 0) v)) where
+      atom-keep : (o : Option Atom) {r : Read} → l ≡ lookupOf o → Reads odd s rows r (keep (issuedTo i) o (drop a s)) → AtomAt i s odd r rows at
+      atom-keep o g k =
+          let q : NumberReads s (Value v a) (readNumber (drop (at + 1) s)) = rw e at p in
+          rw (← atom-at s at) (with-key (getD s at 0) o q (same-key _ o (cc)) k)
 
-      pub atom-unknown : (k : Atom) → keyNamed (getD s at 0) (m .value) ≡ some k → issuedTo i k ≡ false → r .ok ≡ false → AtomAt i s odd r rows at
-      atom-unknown k e h q = rw (← atom-at s at) (with-key (getD s at 0) (some k) p a e (rw h (failed q)))
+      pub atom-unnamed : l ≡ Nothing → AtomAt i s odd Malformed rows at
+      atom-unnamed g = atom-keep none g failed
 
-      pub atom-known : (k : Atom) → keyNamed (getD s at 0) (m .value) ≡ some k → issuedTo i k ≡ true → r .ok ≡ true → r .at ≡ m .at
-          → Written (listOf odd (atom k)) rows (r .count) → AtomAt i s odd r rows at
-      atom-known k e h q d w = rw (← atom-at s at) (with-key (getD s at 0) (some k) p a e (rw (h, ← d) (parsed q refl w)))
+      pub atom-unknown : (k : Atom) → l ≡ Named k → issuedTo i k ≡ false → AtomAt i s odd Malformed rows at
+      atom-unknown k g h = atom-keep (some k) g (rw h failed)
+
+      pub atom-known : (k : Atom) {j : ℕ} → l ≡ Named k → issuedTo i k ≡ true → Written (listOf odd (atom k)) rows j → AtomAt i s odd (Node a j) rows at
+      atom-known k g h w = atom-keep (some k) g (rw h (parsed refl w))
 
 pub atom-list : (odd : Bool) (k : Atom) {l : Literal} {rows : List (List ℕ)} {n : ℕ} → l ≡ literal odd k → Written (some ((l ∷ []) ∷ [])) rows n → Written (listOf odd (atom k)) rows n
 atom-list odd k e w = rw (list-atom odd k, ← e) w

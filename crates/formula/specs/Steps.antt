@@ -1,7 +1,7 @@
 -- What the crate's private functions promise each other. Nothing here is part of what a reader must believe.
 -- The readers' promise: their answer is that of the reader of lists, with the tree's products in the rows in place of the tree.
 use mathlib.Core.Path.{_≡_}
-use mathlib.Core.Bool.{Bool, true, false, _&&_}
+use mathlib.Core.Bool.{Bool, _&&_}
 use mathlib.Core.List.{List, [], _∷_}
 use mathlib.Core.Option.{Option, none, some}
 use Prim.Native.Nat.{ℕ, _+_, _*_, _-_, _≤_, _<_}
@@ -12,7 +12,9 @@ use Rattle.product.specs.Cells.{Written}
 use Rattle.formula.specs.declared.text.Issued.{Issued}
 use Rattle.formula.specs.declared.text.Row.{Row}
 use Rattle.formula.specs.declared.number.Numeral.{Numeral}
-use Rattle.formula.specs.declared.reader.Node.{Node}
+use Rattle.formula.specs.declared.number.Numeral.the-variants.{Missing, Value}
+use Rattle.formula.specs.declared.reader.Read.{Read}
+use Rattle.formula.specs.declared.reader.Read.the-variants.{Malformed, Node}
 use Rattle.formula.specs.declared.reader.Lookup.{Lookup}
 use Rattle.formula.specs.declared.reader.Lookup.the-variants.{Named, Nothing}
 use Rattle.formula.specs.Tree.{Level, ands, ors, Tree}
@@ -22,10 +24,10 @@ use Rattle.formula.specs.Reader.{Found, readAtom, readNots, readBracket,
 use Rattle.formula.specs.Outcome.{rowWith}
 
 -- a number, of what was read: nothing, one of more than 16 bits, or one and the place after it
-pub data NumberReads (s : List ℕ) (r : Numeral) : Option (ℕ × List ℕ) → Type 0 where
-  no-digits : r .ok ≡ false → NumberReads s r none
-  too-large : {p : ℕ × List ℕ} → r .ok ≡ false → 65535 < p .0 → NumberReads s r (some p)
-  number : {p : ℕ × List ℕ} → r .ok ≡ true → p .0 ≡ r .value → p .1 ≡ drop (r .at) s → NumberReads s r (some p)
+pub data NumberReads (s : List ℕ) : Numeral → Option (ℕ × List ℕ) → Type 0 where
+  no-digits : NumberReads s Missing none
+  too-large : {p : ℕ × List ℕ} → 65535 < p .0 → NumberReads s Missing (some p)
+  number : {n at : ℕ} → NumberReads s (Value n at) (some (n, drop at s))
 
 -- a key's number is one of 16 bits, and handed out
 abbrev pub below : ℕ → ℕ → Bool
@@ -36,36 +38,36 @@ abbrev pub lookupOf : Option Atom → Lookup
 lookupOf none = Nothing
 lookupOf (some a) = Named a
 
--- a node and rows, of what was read: nothing, or a tree's products and the place after it
-pub data Reads (odd : Bool) (s : List ℕ) {l : Level} (r : Node) (rows : List (List ℕ)) : Found l → Type 0 where
-  failed : r .ok ≡ false → Reads odd s r rows none
-  parsed : {t : Tree l} {rest : List ℕ} → r .ok ≡ true → rest ≡ drop (r .at) s → Written (listOf odd t) rows (r .count) → Reads odd s r rows (some (t, rest))
+-- an answer and rows, of what was read: nothing, or a tree's products and the place after it
+pub data Reads (odd : Bool) (s : List ℕ) {l : Level} (rows : List (List ℕ)) : Read → Found l → Type 0 where
+  failed : Reads odd s rows Malformed none
+  parsed : {t : Tree l} {rest : List ℕ} {at n : ℕ} → rest ≡ drop at s → Written (listOf odd t) rows n → Reads odd s rows (Node at n) (some (t, rest))
 
 -- Each promise holds at any fuel that is enough for the bytes that remain.
-module _ (i : Issued) (s : List ℕ) (level : ℕ) (odd : Bool) (r : Node) (rows : List (List ℕ)) where
+module _ (i : Issued) (s : List ℕ) (level : ℕ) (odd : Bool) (r : Read) (rows : List (List ℕ)) where
   abbrev pub NotAt : ℕ → Type 0
-  NotAt at = (f : ℕ) → 4 * (length s - at) + 1 ≤ f → Reads odd s r rows (readNots (issuedTo i) f level (drop at s))
+  NotAt at = (f : ℕ) → 4 * (length s - at) + 1 ≤ f → Reads odd s rows r (readNots (issuedTo i) f level (drop at s))
 
   abbrev pub BracketAt : ℕ → Type 0
-  BracketAt at = (f : ℕ) → 4 * (length s - at) + 4 ≤ f → Reads odd s r rows (readBracket (issuedTo i) f level (drop at s))
+  BracketAt at = (f : ℕ) → 4 * (length s - at) + 4 ≤ f → Reads odd s rows r (readBracket (issuedTo i) f level (drop at s))
 
   abbrev pub AndAt : ℕ → Type 0
-  AndAt at = (f : ℕ) → 4 * (length s - at) + 2 ≤ f → Reads odd s r rows (readAnds (issuedTo i) f level (drop at s))
+  AndAt at = (f : ℕ) → 4 * (length s - at) + 2 ≤ f → Reads odd s rows r (readAnds (issuedTo i) f level (drop at s))
 
   abbrev pub OrAt : ℕ → Type 0
-  OrAt at = (f : ℕ) → 4 * (length s - at) + 3 ≤ f → Reads odd s r rows (readOrs (issuedTo i) f level (drop at s))
+  OrAt at = (f : ℕ) → 4 * (length s - at) + 3 ≤ f → Reads odd s rows r (readOrs (issuedTo i) f level (drop at s))
 
   -- of a row that goes on, whose left part's products are in the rows at first
-  abbrev pub MoreAnd : Node → List (List ℕ) → Type 0
-  MoreAnd n old = (t : Tree ands) → Written (listOf odd t) old (n .count) → (f : ℕ) → 4 * (length s - n .at) + 2 ≤ f
-      → Reads odd s r rows (moreAnds (issuedTo i) f level t (drop (n .at) s))
+  abbrev pub MoreAnd : ℕ → ℕ → List (List ℕ) → Type 0
+  MoreAnd at n old = (t : Tree ands) → Written (listOf odd t) old n → (f : ℕ) → 4 * (length s - at) + 2 ≤ f
+      → Reads odd s rows r (moreAnds (issuedTo i) f level t (drop at s))
 
-  abbrev pub MoreOr : Node → List (List ℕ) → Type 0
-  MoreOr n old = (t : Tree ors) → Written (listOf odd t) old (n .count) → (f : ℕ) → 4 * (length s - n .at) + 3 ≤ f
-      → Reads odd s r rows (moreOrs (issuedTo i) f level t (drop (n .at) s))
+  abbrev pub MoreOr : ℕ → ℕ → List (List ℕ) → Type 0
+  MoreOr at n old = (t : Tree ors) → Written (listOf odd t) old n → (f : ℕ) → 4 * (length s - at) + 3 ≤ f
+      → Reads odd s rows r (moreOrs (issuedTo i) f level t (drop at s))
 
-abbrev pub AtomAt : Issued → List ℕ → Bool → Node → List (List ℕ) → ℕ → Type 0
-AtomAt i s odd r rows at = Reads odd s r rows (readAtom (issuedTo i) (drop at s))
+abbrev pub AtomAt : Issued → List ℕ → Bool → Read → List (List ℕ) → ℕ → Type 0
+AtomAt i s odd r rows at = Reads odd s rows r (readAtom (issuedTo i) (drop at s))
 
 -- eight rows as the answer holds them
 abbrev pub eightRows : List (List ℕ) → List Row

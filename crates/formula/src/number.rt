@@ -1,17 +1,15 @@
 // Decimal numbers without leading zeros, at a place of a text.
 ghost use mathlib.Core.Path.{_≡_};
-ghost use mathlib.Core.Bool.{true, false};
 ghost use mathlib.Core.Option.{some};
 ghost use Prim.Native.Nat.{_≤_};
 ghost use lib.ListN.{getD, drop, length};
 ghost use Rattle.formula.specs.Reader.{digit, readDigits, readNumber};
 ghost use Rattle.formula.specs.Steps.{NumberReads};
 
-// A number that was read, where there is one of 16 bits, and the place after it.
-pub(crate) struct Numeral {
-    pub(crate) ok: bool,
-    pub(crate) value: u16,
-    pub(crate) at: usize,
+// A number of 16 bits and the place after it, or none.
+pub(crate) enum Numeral {
+    Missing,
+    Value(u16, usize),
 }
 
 // The byte at a place, 0 beyond the text.
@@ -27,16 +25,6 @@ fn is_digit(b: u8) -> bool
     (b'0' <= b) & (b <= b'9')
 }
 
-fn no_number() -> Numeral
-    ensures { λ r. ⌜ r .ok ≡ false ⌝ }
-{
-    Numeral {
-        ok: false,
-        value: 0,
-        at: 0,
-    }
-}
-
 // The digits from a place on.
 fn read_digits(text: &[u8], at: usize) -> Numeral
     ensures { λ r. ⌜ NumberReads (now (text .entry)) r (some (readDigits 0 (drop at (now (text .entry))))) ⌝ }
@@ -46,25 +34,17 @@ fn read_digits(text: &[u8], at: usize) -> Numeral
     while i < text.len() {
         let b = text[i];
         if !is_digit(b) {
-            return Numeral {
-                ok: true,
-                value: value as u16,
-                at: i,
-            };
+            return Numeral::Value(value as u16, i);
         }
         let d = (b - 48) as u32;
         let next = 10 * value + d;
         if 65535 < next {
-            return no_number();
+            return Numeral::Missing;
         }
         value = next;
         i += 1;
     }
-    Numeral {
-        ok: true,
-        value: value as u16,
-        at: i,
-    }
+    Numeral::Value(value as u16, i)
 }
 
 // The number from a place on: a digit, and no other after a 0.
@@ -74,12 +54,12 @@ pub(crate) fn read_number(text: &[u8], at: usize) -> Numeral
 {
     let first = byte_at(text, at);
     if !is_digit(first) {
-        return no_number();
+        return Numeral::Missing;
     }
     if first == b'0' {
         let second = byte_at(text, at + 1);
         if is_digit(second) {
-            return no_number();
+            return Numeral::Missing;
         }
         return read_digits(text, at);
     }

@@ -1,35 +1,25 @@
 // The readers of formula texts: OR, AND, NOT and bracket call each other, and each leaves the node's list of products in rows that the
 // caller lends. `odd` says that the node stands under an odd number of NOTs; `level` is how many brackets may still be opened.
 ghost use mathlib.Core.Path.{_≡_};
-ghost use mathlib.Core.Bool.{true, false};
 ghost use Rattle.product.specs.Sum.{joined};
 ghost use Rattle.product.specs.Cells.{sumOf, Written};
 ghost use Rattle.formula.specs.Text.{issuedTo};
 ghost use Rattle.formula.specs.Nodes.{literal, joinAnd};
 ghost use Rattle.formula.specs.Reader.{keyNamed};
 ghost use Rattle.formula.specs.Steps.{below, lookupOf, AtomAt, NotAt, BracketAt, AndAt, OrAt, MoreAnd, MoreOr};
+use crate::number::Numeral;
 use crate::number::byte_at;
 use crate::number::read_number;
 use crate::text::Issued;
 use product::literal::Key;
 use product::literal::Literal;
 use product::sum;
+use product::sum::Rows;
 
-// A formula that was read, where it is spelt right: the place after it, and how many products it has.
-pub(crate) struct Node {
-    pub(crate) ok: bool,
-    pub(crate) at: usize,
-    pub(crate) count: usize,
-}
-
-fn malformed() -> Node
-    ensures { λ r. ⌜ r .ok ≡ false ⌝ }
-{
-    Node {
-        ok: false,
-        at: 0,
-        count: 0,
-    }
+// A formula that was read, by the place after it and how many products it has; or nothing.
+pub(crate) enum Read {
+    Malformed,
+    Node(usize, usize),
 }
 
 // A whole formula: parts joined by `|`.
@@ -39,44 +29,39 @@ pub(crate) fn read_or(
     level: usize,
     odd: bool,
     issued: Issued,
-    rows: &mut [[u32; 8]; 8],
-) -> Node
+    rows: &mut Rows,
+) -> Read
     ensures { λ r. ⌜ OrAt issued (now (text .entry)) level odd r (now (rows .exit)) at ⌝ }
 {
     let first = read_and(text, at, level, odd, issued, rows);
-    if !first.ok {
-        return first;
-    }
-    more_or(text, first, level, odd, issued, rows)
+    let Read::Node(next, count) = first else {
+        return Read::Malformed;
+    };
+    more_or(text, next, count, level, odd, issued, rows)
 }
 
+// The rest of it: the part to the left ends at `at`, and its products are the first `count` rows.
 fn more_or(
     text: &[u8],
-    left: Node,
+    at: usize,
+    count: usize,
     level: usize,
     odd: bool,
     issued: Issued,
-    rows: &mut [[u32; 8]; 8],
-) -> Node
-    requires { ⌜ left .ok ≡ true ⌝ }
-    ensures { λ r. ⌜ MoreOr issued (now (text .entry)) level odd r (now (rows .exit)) left (now (rows .entry)) ⌝ }
+    rows: &mut Rows,
+) -> Read
+    ensures { λ r. ⌜ MoreOr issued (now (text .entry)) level odd r (now (rows .exit)) at count (now (rows .entry)) ⌝ }
 {
-    let at = left.at;
     if byte_at(text, at) != b'|' {
-        return left;
+        return Read::Node(at, count);
     }
     let mut right = [[0u32; 8]; 8];
-    let next = read_and(text, at + 1, level, odd, issued, &mut right);
-    if !next.ok {
-        return next;
-    }
-    let count = join(!odd, rows, left.count, &right, next.count);
-    let whole = Node {
-        ok: true,
-        at: next.at,
-        count,
+    let part = read_and(text, at + 1, level, odd, issued, &mut right);
+    let Read::Node(next, more) = part else {
+        return Read::Malformed;
     };
-    more_or(text, whole, level, odd, issued, rows)
+    let joined = join(!odd, rows, count, &right, more);
+    more_or(text, next, joined, level, odd, issued, rows)
 }
 
 // Parts joined by `&`.
@@ -86,44 +71,39 @@ fn read_and(
     level: usize,
     odd: bool,
     issued: Issued,
-    rows: &mut [[u32; 8]; 8],
-) -> Node
+    rows: &mut Rows,
+) -> Read
     ensures { λ r. ⌜ AndAt issued (now (text .entry)) level odd r (now (rows .exit)) at ⌝ }
 {
     let first = read_not(text, at, level, odd, issued, rows);
-    if !first.ok {
-        return first;
-    }
-    more_and(text, first, level, odd, issued, rows)
+    let Read::Node(next, count) = first else {
+        return Read::Malformed;
+    };
+    more_and(text, next, count, level, odd, issued, rows)
 }
 
+// The rest of it, in the same way.
 fn more_and(
     text: &[u8],
-    left: Node,
+    at: usize,
+    count: usize,
     level: usize,
     odd: bool,
     issued: Issued,
-    rows: &mut [[u32; 8]; 8],
-) -> Node
-    requires { ⌜ left .ok ≡ true ⌝ }
-    ensures { λ r. ⌜ MoreAnd issued (now (text .entry)) level odd r (now (rows .exit)) left (now (rows .entry)) ⌝ }
+    rows: &mut Rows,
+) -> Read
+    ensures { λ r. ⌜ MoreAnd issued (now (text .entry)) level odd r (now (rows .exit)) at count (now (rows .entry)) ⌝ }
 {
-    let at = left.at;
     if byte_at(text, at) != b'&' {
-        return left;
+        return Read::Node(at, count);
     }
     let mut right = [[0u32; 8]; 8];
-    let next = read_not(text, at + 1, level, odd, issued, &mut right);
-    if !next.ok {
-        return next;
-    }
-    let count = join(odd, rows, left.count, &right, next.count);
-    let whole = Node {
-        ok: true,
-        at: next.at,
-        count,
+    let part = read_not(text, at + 1, level, odd, issued, &mut right);
+    let Read::Node(next, more) = part else {
+        return Read::Malformed;
     };
-    more_and(text, whole, level, odd, issued, rows)
+    let joined = join(odd, rows, count, &right, more);
+    more_and(text, next, joined, level, odd, issued, rows)
 }
 
 // A key, a bracket or a NOT.
@@ -133,8 +113,8 @@ fn read_not(
     level: usize,
     odd: bool,
     issued: Issued,
-    rows: &mut [[u32; 8]; 8],
-) -> Node
+    rows: &mut Rows,
+) -> Read
     ensures { λ r. ⌜ NotAt issued (now (text .entry)) level odd r (now (rows .exit)) at ⌝ }
 {
     let b = byte_at(text, at);
@@ -154,53 +134,44 @@ fn read_bracket(
     level: usize,
     odd: bool,
     issued: Issued,
-    rows: &mut [[u32; 8]; 8],
-) -> Node
+    rows: &mut Rows,
+) -> Read
     ensures { λ r. ⌜ BracketAt issued (now (text .entry)) level odd r (now (rows .exit)) at ⌝ }
 {
     if level == 0 {
-        return malformed();
+        return Read::Malformed;
     }
     let inner = read_or(text, at, level - 1, odd, issued, rows);
-    if !inner.ok {
-        return inner;
-    }
-    let end = inner.at;
+    let Read::Node(end, count) = inner else {
+        return Read::Malformed;
+    };
     if byte_at(text, end) != b')' {
-        return malformed();
+        return Read::Malformed;
     }
-    Node {
-        ok: true,
-        at: end + 1,
-        count: inner.count,
-    }
+    Read::Node(end + 1, count)
 }
 
 // A key that was handed out.
-fn read_atom(text: &[u8], at: usize, odd: bool, issued: Issued, rows: &mut [[u32; 8]; 8]) -> Node
+fn read_atom(text: &[u8], at: usize, odd: bool, issued: Issued, rows: &mut Rows) -> Read
     ensures { λ r. ⌜ AtomAt issued (now (text .entry)) odd r (now (rows .exit)) at ⌝ }
 {
     if text.len() <= at {
-        return malformed();
+        return Read::Malformed;
     }
     let letter = text[at];
     let number = read_number(text, at + 1);
-    if !number.ok {
-        return malformed();
-    }
-    let found = key_named(letter, number.value);
+    let Numeral::Value(n, end) = number else {
+        return Read::Malformed;
+    };
+    let found = key_named(letter, n);
     let Lookup::Named(key) = found else {
-        return malformed();
+        return Read::Malformed;
     };
     if !is_issued(key, issued) {
-        return malformed();
+        return Read::Malformed;
     }
     let count = sum::single(rows, signed(odd, key));
-    Node {
-        ok: true,
-        at: number.at,
-        count,
-    }
+    Read::Node(end, count)
 }
 
 // Under an odd number of NOTs a key is barred.
@@ -214,6 +185,7 @@ fn signed(odd: bool, key: Key) -> Literal
     }
 }
 
+// A key, or none for a letter that is no kind's.
 pub(crate) enum Lookup {
     Named(Key),
     Nothing,
@@ -254,7 +226,7 @@ fn is_issued(k: Key, issued: Issued) -> bool
 }
 
 // The left sum, which is the first n rows, joined with the right one: as an OR's or as an AND's.
-fn join(or: bool, rows: &mut [[u32; 8]; 8], n: usize, right: &[[u32; 8]; 8], m: usize) -> usize
+fn join(or: bool, rows: &mut Rows, n: usize, right: &Rows, m: usize) -> usize
     ensures { λ r. ⌜ Written (joined (joinAnd or) (sumOf n (now (rows .entry))) (sumOf m (now (right .entry)))) (now (rows .exit)) r ⌝ }
 {
     let left = *rows;

@@ -1,8 +1,11 @@
 // From a formula text to its products.
 ghost use mathlib.Core.Path.{_≡_};
-ghost use Rattle.formula.specs.Outcome.{verdictOf, answerOf, refusedOf, compiledOf};
+ghost use Rattle.formula.specs.Outcome.{refusedOf, compiledOf};
 ghost use Rattle.formula.specs.Steps.{eightRows};
+use crate::reader::Read;
 use crate::reader::read_or;
+use product::sum::MOST_PRODUCTS;
+use product::sum::Rows;
 
 // How many keys of each kind were handed out.
 pub struct Issued {
@@ -12,6 +15,7 @@ pub struct Issued {
     pub defined: u32,
 }
 
+// Document 01: misspelt, too wide, void.
 pub enum Verdict {
     Accepted,
     Malformed,
@@ -45,15 +49,13 @@ pub fn compile(text: &[u8], issued: Issued) -> Compiled
     }
     let mut rows = [[0u32; 8]; 8];
     let node = read_or(text, 0, MOST_DEEP, false, issued, &mut rows);
-    if !node.ok {
+    let Read::Node(end, count) = node else {
         return refused(Verdict::Malformed);
-    }
-    let end = node.at;
-    let count = node.count;
+    };
     if end < text.len() {
         return refused(Verdict::Malformed);
     }
-    if 8 < count {
+    if MOST_PRODUCTS < count {
         return refused(Verdict::TooWide);
     }
     if count == 0 {
@@ -76,7 +78,7 @@ fn refused(verdict: Verdict) -> Compiled
     }
 }
 
-fn packed(rows: &[[u32; 8]; 8]) -> [Row; 8]
+fn packed(rows: &Rows) -> [Row; 8]
     ensures { λ r. ⌜ r ≡ eightRows (now (rows .entry)) ⌝ }
 {
     [

@@ -1,10 +1,10 @@
 use borrow.Author.Needs.{needs}
 use borrow.Author.Tests.{not-true, not-false}
 use denote.Ref.{now}
-use mathlib.Core.Path.{_≡_, refl, sym, ap, _∙_}
+use mathlib.Core.Path.{_≡_, refl, sym, _∙_}
 use mathlib.Core.Bool.{true, false}
-use mathlib.Core.List.{List, []}
-use Prim.Native.Nat.{ℕ, _≤_, _+_, _-_, _*_}
+use mathlib.Core.List.{[]}
+use Prim.Native.Nat.{_≤_, _+_, _-_, _*_}
 use native.Mathlib.Omega.{arith}
 use lib.ListN.{length, drop, getD, drop-of-length-le}
 use Rattle.formula.proofs.Decimals.{digit-range}
@@ -27,29 +27,62 @@ shared-slice-read-b : tie.Need-shared-slice-read-b Inv-loop μ-loop
 shared-slice-read-b c = omega arith
 
 returns : tie.Need-returns Inv-loop μ-loop
-returns c = let a = c .before .before .before .before .before .before .args in let v = c .before .before .before .before .loop in let t = now (a .text) in let e : digit (getD t (v .i) 0) ≡ false = sym (c .before .is-digit .ensures) ∙ not-true (c .before .is-digit .result) (c .if1 .taken) in let p = v .inv .1 ∙ digits-end t (v .i) (v .value) e in number refl (ap (λ (x : ℕ × List ℕ). x .0) p) (ap (λ (x : ℕ × List ℕ). x .1) p)
+returns c =
+    let a = c .before .before .before .before .before .before .args in
+    let v = c .before .before .before .before .loop in
+    let t = now (a .text) in
+    let e : digit (getD t (v .i) 0) ≡ false = sym (c .before .is-digit .ensures) ∙ not-true (c .before .is-digit .result) (c .if1 .taken) in
+    let p = v .inv .1 ∙ digits-end t (v .i) (v .value) e in
+    rw p number
 
 sub-d : tie.Need-sub-d Inv-loop μ-loop
-sub-d c = let a = c .before .before .before .before .before .before .args in let v = c .before .before .before .before .loop in digit-range (getD (now (a .text)) (v .i) 0) (sym (c .before .is-digit .ensures) ∙ not-false (c .before .is-digit .result) (c .if1 .left)) .0
+sub-d c =
+    let a = c .before .before .before .before .before .before .args in
+    let v = c .before .before .before .before .loop in
+    digit-range (getD (now (a .text)) (v .i) 0) (sym (c .before .is-digit .ensures) ∙ not-false (c .before .is-digit .result) (c .if1 .left)) .0
 
 cast-d : tie.Need-cast-d Inv-loop μ-loop
-cast-d c = let a = c .before .before .before .before .before .before .args in let v = c .before .before .before .before .loop in omega (arith, digit-range (getD (now (a .text)) (v .i) 0) (sym (c .before .is-digit .ensures) ∙ not-false (c .before .is-digit .result) (c .if1 .left)))
+cast-d c =
+    let a = c .before .before .before .before .before .before .args in
+    let v = c .before .before .before .before .loop in
+    omega (arith, digit-range (getD (now (a .text)) (v .i) 0) (sym (c .before .is-digit .ensures) ∙ not-false (c .before .is-digit .result) (c .if1 .left)))
 
 mul-next : tie.Need-mul-next Inv-loop μ-loop
 mul-next c = omega arith
 
 add-next : tie.Need-add-next Inv-loop μ-loop
-add-next c = let a = c .before .before .before .before .before .before .args in let v = c .before .before .before .before .loop in omega (arith, digit-range (getD (now (a .text)) (v .i) 0) (sym (c .before .is-digit .ensures) ∙ not-false (c .before .is-digit .result) (c .if1 .left)))
+add-next c =
+    let a = c .before .before .before .before .before .before .args in
+    let v = c .before .before .before .before .loop in
+    omega (arith, digit-range (getD (now (a .text)) (v .i) 0) (sym (c .before .is-digit .ensures) ∙ not-false (c .before .is-digit .result) (c .if1 .left)))
 
 returns-2 : tie.Need-returns-2 Inv-loop μ-loop
-returns-2 c = let a = c .before .before .before .before .before .before .before .before .args in let b = c .before .before in let v = b .before .before .before .before .loop in let t = now (a .text) in let e : digit (getD t (v .i) 0) ≡ true = sym (b .before .is-digit .ensures) ∙ not-false (b .before .is-digit .result) (b .if1 .left) in let p = v .inv .1 ∙ digits-step t (v .i) (v .value) (omega arith) e in too-large {p = readDigits 0 (drop (a .at) t)} (c .no-number .ensures) (rw p (omega (arith, digits-grow (10 * v .value + (getD t (v .i) 0 - 48)) (drop (v .i + 1) t))))
+returns-2 c =
+    let a = c .before .before .before .before .before .before .before .args in
+    let b = c .before in
+    let v = b .before .before .before .before .loop in
+    let t = now (a .text) in
+    let e : digit (getD t (v .i) 0) ≡ true = sym (b .before .is-digit .ensures) ∙ not-false (b .before .is-digit .result) (b .if1 .left) in
+    let p = v .inv .1 ∙ digits-step t (v .i) (v .value) (omega arith) e in
+    too-large {p = readDigits 0 (drop (a .at) t)} (rw p (omega (arith, digits-grow (10 * v .value + (getD t (v .i) 0 - 48)) (drop (v .i + 1) t))))
 
 loop-again : tie.Need-loop-again Inv-loop μ-loop
-loop-again c = let a = c .before .before .before .before .before .before .before .args in let b = c .before in let v = b .before .before .before .before .loop in let t = now (a .text) in let e : digit (getD t (v .i) 0) ≡ true = sym (b .before .is-digit .ensures) ∙ not-false (b .before .is-digit .result) (b .if1 .left) in (omega arith, v .inv .1 ∙ digits-step t (v .i) (v .value) (omega arith) e)
+loop-again c =
+    let a = c .before .before .before .before .before .before .before .args in
+    let b = c .before in
+    let v = b .before .before .before .before .loop in
+    let t = now (a .text) in
+    let e : digit (getD t (v .i) 0) ≡ true = sym (b .before .is-digit .ensures) ∙ not-false (b .before .is-digit .result) (b .if1 .left) in
+    (omega arith, v .inv .1 ∙ digits-step t (v .i) (v .value) (omega arith) e)
 
 returns-3 : tie.Need-returns-3 Inv-loop μ-loop
 unfolding readDigits
-returns-3 c = let a = c .before .before .before .args in let v = c .before .loop in let t = now (a .text) in let e : drop (v .i) t ≡ [] = drop-of-length-le t (c .loop-test .left) in let p = v .inv .1 ∙ ap (λ (x : List ℕ). readDigits (v .value) x) e in number refl (ap (λ (x : ℕ × List ℕ). x .0) p) (ap (λ (x : ℕ × List ℕ). x .1) p ∙ sym e)
+returns-3 c =
+    let a = c .before .before .before .args in
+    let v = c .before .loop in
+    let t = now (a .text) in
+    let e : drop (v .i) t ≡ [] = drop-of-length-le t (c .loop-test .left) in
+    rw (v .inv .1, e, ← e) number
 
 pub read-digits-spec : {M : Type 1} → statement M
 read-digits-spec =
@@ -66,7 +99,6 @@ read-digits-spec =
     cast-d
     mul-next
     add-next
-    (λ c κs. search needs)  -- no-number-requires
     returns-2
     (λ c. search needs)  -- add-i
     (λ c. search needs)  -- loop-less

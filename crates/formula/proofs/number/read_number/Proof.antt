@@ -10,16 +10,24 @@ use Rattle.formula.proofs.number.read_number.Statement.{statement}
 use Rattle.formula.proofs.number.read_number.Tie as tie
 
 returns : tie.Need-returns
-returns c = let a = c .before .before .before .before .before .args in rw (number-none (now (a .text)) (a .at) (ap (λ (x : ℕ). digit x) (sym (c .before .before .before .byte-at .ensures)) ∙ (sym (c .before .before .is-digit .ensures) ∙ not-true (c .before .before .is-digit .result) (c .before .if1 .taken)))) (no-digits (c .no-number .ensures))
+returns c =
+    let a = c .before .before .before .before .args in
+    rw (number-none (now (a .text)) (a .at) (ap (λ (x : ℕ). digit x) (sym (c .before .before .byte-at .ensures)) ∙ (sym (c .before .is-digit .ensures) ∙ not-true (c .before .is-digit .result) (c .if1 .taken)))) no-digits
 
 returns-2 : tie.Need-returns-2
-returns-2 c = let a = c .before .before .before .before .before .before .before .before .before .args in rw (number-padded (now (a .text)) (a .at) (sym (c .before .before .before .before .before .before .before .byte-at .ensures) ∙ c .before .before .before .before .if2 .taken) (ap (λ (x : ℕ). digit x) (sym (c .before .before .before .byte-at2 .ensures)) ∙ (sym (c .before .before .is-digit2 .ensures) ∙ c .before .if3 .taken))) (no-digits (c .no-number2 .ensures))
+returns-2 c =
+    let a = c .before .before .before .before .before .before .before .before .args in
+    rw (number-padded (now (a .text)) (a .at) (sym (c .before .before .before .before .before .before .byte-at .ensures) ∙ c .before .before .before .if2 .taken) (ap (λ (x : ℕ). digit x) (sym (c .before .before .byte-at2 .ensures)) ∙ (sym (c .before .is-digit2 .ensures) ∙ c .if3 .taken))) no-digits
 
 returns-3 : tie.Need-returns-3
-returns-3 c = let a = c .before .before .before .before .before .before .before .before .before .args in rw (number-zero (now (a .text)) (a .at) (sym (c .before .before .before .before .before .before .before .byte-at .ensures) ∙ c .before .before .before .before .if2 .taken) (ap (λ (x : ℕ). digit x) (sym (c .before .before .before .byte-at2 .ensures)) ∙ (sym (c .before .before .is-digit2 .ensures) ∙ c .before .if3 .left))) (c .read-digits .ensures)
+returns-3 c =
+    let a = c .before .before .before .before .before .before .before .before .before .args in
+    rw (number-zero (now (a .text)) (a .at) (sym (c .before .before .before .before .before .before .before .byte-at .ensures) ∙ c .before .before .before .before .if2 .taken) (ap (λ (x : ℕ). digit x) (sym (c .before .before .before .byte-at2 .ensures)) ∙ (sym (c .before .before .is-digit2 .ensures) ∙ c .before .if3 .left))) (c .read-digits .ensures)
 
 returns-4 : tie.Need-returns-4
-returns-4 c = let a = c .before .before .before .before .before .before .args in rw (number-some (now (a .text)) (a .at) (ap (λ (x : ℕ). digit x) (sym (c .before .before .before .before .byte-at .ensures)) ∙ (sym (c .before .before .before .is-digit .ensures) ∙ not-false (c .before .before .before .is-digit .result) (c .before .before .if1 .left))) (λ e. c .before .if2 .left (c .before .before .before .before .byte-at .ensures ∙ e))) (c .read-digits2 .ensures)
+returns-4 c =
+    let a = c .before .before .before .before .before .before .args in
+    rw (number-some (now (a .text)) (a .at) (ap (λ (x : ℕ). digit x) (sym (c .before .before .before .before .byte-at .ensures)) ∙ (sym (c .before .before .before .is-digit .ensures) ∙ not-false (c .before .before .before .is-digit .result) (c .before .before .if1 .left))) (λ e. c .before .if2 .left (c .before .before .before .before .byte-at .ensures ∙ e))) (c .read-digits2 .ensures)
 
 pub read-number-spec : {M : Type 1} → statement M
 read-number-spec =
@@ -27,12 +35,10 @@ read-number-spec =
     (tie.spec
     (λ c κs. search needs)  -- byte-at-requires
     (λ c κs. search needs)  -- is-digit-requires
-    (λ c κs. search needs)  -- no-number-requires
     returns
     (λ c. search needs)  -- add-byte-at
     (λ c κs. search needs)  -- byte-at-requires-2
     (λ c κs. search needs)  -- is-digit-requires-2
-    (λ c κs. search needs)  -- no-number-requires-2
     returns-2
     (λ c κs. search needs)  -- read-digits-requires
     returns-3

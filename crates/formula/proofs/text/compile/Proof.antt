@@ -1,29 +1,45 @@
 use borrow.Author.Needs.{needs}
-use borrow.Author.Tests.{not-true, not-false}
 use denote.Ref.{now}
 use mathlib.Core.Path.{_∙_}
-use Rattle.formula.proofs.Answering.{long-text, text-unread, text-wide, text-void, text-accepted}
-use Rattle.product.proofs.Truth.{true-false}
+use Rattle.formula.proofs.Answering.{long-text, text-unread, text-longer, text-wide, text-void, text-accepted}
 use Rattle.formula.proofs.text.compile.Statement.{statement}
 use Rattle.formula.proofs.text.compile.Tie as tie
 
 returns : tie.Need-returns
-returns c = let a = c .before .before .before .args in c .refused .ensures ∙ long-text (a .issued) (now (a .text)) (c .before .if1 .taken)
+returns c =
+    let a = c .before .before .before .args in
+    let s = now (a .text) in
+    c .refused .ensures ∙ long-text (a .issued) s (c .before .if1 .taken)
 
 returns-2 : tie.Need-returns-2
-returns-2 c = let a = c .before .before .before .before .before .before .before .args in let s = now (a .text) in let p = c .before .before .before .read-or in let l = c .before .before .before .before .before .if1 .left in c .refused2 .ensures ∙ text-unread (a .issued) s l (p .ensures) (λ o. absurd (true-false o (not-true _ (c .before .if2 .taken))))
+returns-2 c =
+    let a = c .before .before .before .before .before .before .before .args in
+    let s = now (a .text) in
+    c .refused2 .ensures ∙ text-unread (a .issued) s (c .before .before .before .before .before .if1 .left) (c .before .before .before .read-or .ensures) (c .before .enum-told .given .1)
 
 returns-3 : tie.Need-returns-3
-returns-3 c = let a = c .before .before .before .before .before .before .before .before .args in let s = now (a .text) in let p = c .before .before .before .before .read-or in let l = c .before .before .before .before .before .before .if1 .left in c .refused3 .ensures ∙ text-unread (a .issued) s l (p .ensures) (λ o. c .before .if3 .taken)
+returns-3 c =
+    let a = c .before .before .before .before .before .before .before .before .before .args in
+    let s = now (a .text) in
+    c .refused3 .ensures ∙ text-longer (a .issued) s (c .before .before .before .before .before .before .before .if1 .left) (c .before .before .before .before .before .read-or .ensures) (c .before .before .before .node .given .1) (c .before .if2 .taken)
 
 returns-4 : tie.Need-returns-4
-returns-4 c = let a = c .before .before .before .before .before .before .before .before .before .args in let s = now (a .text) in let p = c .before .before .before .before .before .read-or in let l = c .before .before .before .before .before .before .before .if1 .left in c .refused4 .ensures ∙ text-wide (a .issued) s l (p .ensures) (not-false _ (c .before .before .before .if2 .left)) (c .before .before .if3 .left) (c .before .if4 .taken)
+returns-4 c =
+    let a = c .before .before .before .before .before .before .before .before .before .before .args in
+    let s = now (a .text) in
+    c .refused4 .ensures ∙ text-wide (a .issued) s (c .before .before .before .before .before .before .before .before .if1 .left) (c .before .before .before .before .before .before .read-or .ensures) (c .before .before .before .before .node .given .1) (c .before .before .if2 .left) (c .before .if3 .taken)
 
 returns-5 : tie.Need-returns-5
-returns-5 c = let a = c .before .before .before .before .before .before .before .before .before .before .args in let s = now (a .text) in let p = c .before .before .before .before .before .before .read-or in let l = c .before .before .before .before .before .before .before .before .if1 .left in c .refused5 .ensures ∙ text-void (a .issued) s l (p .ensures) (not-false _ (c .before .before .before .before .if2 .left)) (c .before .before .before .if3 .left) (c .before .if5 .taken)
+returns-5 c =
+    let a = c .before .before .before .before .before .before .before .before .before .before .before .args in
+    let s = now (a .text) in
+    c .refused5 .ensures ∙ text-void (a .issued) s (c .before .before .before .before .before .before .before .before .before .if1 .left) (c .before .before .before .before .before .before .before .read-or .ensures) (c .before .before .before .before .before .node .given .1) (c .before .before .before .if2 .left) (c .before .if4 .taken)
 
 returns-6 : tie.Need-returns-6
-returns-6 c = let a = c .before .before .before .before .before .before .before .before .before .before .before .args in let s = now (a .text) in let p = c .before .before .before .before .before .before .before .read-or in let l = c .before .before .before .before .before .before .before .before .before .if1 .left in rw (c .packed .ensures) (text-accepted (a .issued) s l (p .ensures) (not-false _ (c .before .before .before .before .before .if2 .left)) (c .before .before .before .before .if3 .left) (c .before .before .if5 .left) (c .before .before .before .if4 .left))
+returns-6 c =
+    let a = c .before .before .before .before .before .before .before .before .before .before .before .before .args in
+    let s = now (a .text) in
+    rw (c .packed .ensures) (text-accepted (a .issued) s (c .before .before .before .before .before .before .before .before .before .before .if1 .left) (c .before .before .before .before .before .before .before .before .read-or .ensures) (c .before .before .before .before .before .before .node .given .1) (c .before .before .before .before .if2 .left) (c .before .before .if4 .left) (c .before .before .before .if3 .left))
 
 pub compile-spec : {M : Type 1} → statement M
 compile-spec =
@@ -32,6 +48,8 @@ compile-spec =
     (λ c κs. search needs)  -- refused-requires
     returns
     (λ c κs. search needs)  -- read-or-requires
+    (λ c. search needs)  -- enum-known-node
+    (λ c. search needs)  -- enum-told
     (λ c κs. search needs)  -- refused-requires-2
     returns-2
     (λ c κs. search needs)  -- refused-requires-3
