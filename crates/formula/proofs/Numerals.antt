@@ -4,12 +4,12 @@ use mathlib.Core.Bool.{Bool, true, false, cond}
 use mathlib.Core.List.{List, [], _∷_}
 use mathlib.Core.Option.{none, some}
 use Prim.Native.Nat.{ℕ, suc, _+_, _*_, _-_, _≤_, _<_}
-use native.Mathlib.Nat.{add-zero}
 use native.Mathlib.Numerals.{add-one}
 use native.Mathlib.Omega.{arith}
 use lib.ListN.{length, getD, drop}
 use lib.Seq.{drop-cons, getD-drop}
 use borrow.Author.Tests.{ne-eqb}
+use Rattle.product.proofs.Lists.{head-drop}
 use Rattle.formula.specs.Reader.{digit, readDigits, readNumber}
 use Rattle.formula.proofs.Decimals.{digits-end as digits-over}
 
@@ -33,25 +33,22 @@ module _ (s : List ℕ) (i : ℕ) where
       → readDigits sofar (drop i s) ≡ readDigits (10 * sofar + (getD s i 0 - 48)) (drop (i + 1) s)
   digits-step sofar h e = rw (drop-cons s i 0 h, add-one i) (digits-more sofar (getD s i 0) (drop (suc i) s) e)
 
-  first-byte : getD (drop i s) 0 0 ≡ getD s i 0
-  first-byte = rw (getD-drop i s 0 0, add-zero i)
-
   pub digits-end : (sofar : ℕ) → digit (getD s i 0) ≡ false → readDigits sofar (drop i s) ≡ (sofar, drop i s)
-  digits-end sofar e = digits-over sofar (drop i s) (rw first-byte e)
+  digits-end sofar e = digits-over sofar (drop i s) (rw (head-drop i s 0) e)
 
   -- the ways that a number begins
   pub number-none : digit (getD s i 0) ≡ false → readNumber (drop i s) ≡ none
   unfolding readNumber
-  number-none h = rw (first-byte, h)
+  number-none h = rw (head-drop i s 0, h)
 
   pub number-padded : getD s i 0 ≡ 48 → digit (getD s (i + 1) 0) ≡ true → readNumber (drop i s) ≡ none
   unfolding readNumber
-  number-padded e h = rw (first-byte, getD-drop i s 1 0, e, h)
+  number-padded e h = rw (head-drop i s 0, getD-drop i s 1 0, e, h)
 
   pub number-zero : getD s i 0 ≡ 48 → digit (getD s (i + 1) 0) ≡ false → readNumber (drop i s) ≡ some (readDigits 0 (drop i s))
   unfolding readNumber
-  number-zero e h = rw (first-byte, getD-drop i s 1 0, e, h)
+  number-zero e h = rw (head-drop i s 0, getD-drop i s 1 0, e, h)
 
   pub number-some : digit (getD s i 0) ≡ true → (getD s i 0 ≡ 48 → ⊥) → readNumber (drop i s) ≡ some (readDigits 0 (drop i s))
   unfolding readNumber
-  number-some h n = rw (first-byte, h, ne-eqb (getD s i 0) 48 n)
+  number-some h n = rw (head-drop i s 0, h, ne-eqb (getD s i 0) 48 n)

@@ -15,6 +15,7 @@ use Rattle.product.specs.declared.literal.Literal.{Literal}
 use Rattle.product.specs.Atom.{Atom, numberOf}
 use Rattle.product.specs.Sum.{Sum, Sum?, joined}
 use Rattle.product.specs.Cells.{sumOf, Written}
+use Rattle.product.proofs.Lists.{head-drop}
 use Rattle.formula.specs.declared.text.Issued.{Issued}
 use Rattle.formula.specs.declared.number.Numeral.{Numeral}
 use Rattle.formula.specs.declared.number.Numeral.the-variants.{Missing, Value}
@@ -37,12 +38,6 @@ pub inside : (s : List ℕ) (at b : ℕ) → 1 ≤ b → getD s at 0 ≡ b → a
 inside [] at b h e = omega arith
 inside (x ∷ s) zero b h e = omega arith
 inside (x ∷ s) (suc at) b h e = let i = inside s at b h e in omega arith
-
-head-at : (s : List ℕ) (at : ℕ) → getD (drop at s) 0 0 ≡ getD s at 0
-head-at [] zero = refl
-head-at [] (suc at) = refl
-head-at (x ∷ s) zero = refl
-head-at (x ∷ s) (suc at) = head-at s at
 
 -- the same rows of the same list
 list-at : {x y : Sum?} {rows : List (List ℕ)} {n : ℕ} → y ≡ x → Written x rows n → Written y rows n
@@ -72,10 +67,10 @@ module _ (odd : Bool) (s : List ℕ) where
   negated (parsed {t} w h) = parsed w (list-at (list-negate odd t) h)
 
   closed : {a n : ℕ} {rows : List (List ℕ)} {x : Found ors} → getD s a 0 ≡ 41 → Reads odd s rows (Node a n) x → Reads odd s rows (Node (a + 1) n) (next x close)
-  closed {a} b (parsed {t} u h) = rw (u, head-at s a, b) (parsed {t = bracket t} (drop-drop 1 a s) (list-at (list-bracket odd t) h))
+  closed {a} b (parsed {t} u h) = rw (u, head-drop a s 0, b) (parsed {t = bracket t} (drop-drop 1 a s) (list-at (list-bracket odd t) h))
 
   unclosed : {a n : ℕ} {rows new : List (List ℕ)} {x : Found ors} → (getD s a 0 ≡ 41 → ⊥) → Reads odd s rows (Node a n) x → Reads odd s new Malformed (next x close)
-  unclosed {a} b (parsed u h) = rw (u, head-at s a, ne-eqb (getD s a 0) 41 b) failed
+  unclosed {a} b (parsed u h) = rw (u, head-drop a s 0, ne-eqb (getD s a 0) 41 b) failed
 
   further : {l : Level} {a n : ℕ} {rows : List (List ℕ)} {x : Found l} (at : ℕ) → Reads odd s rows (Node a n) x → Shorter (drop at s) x → length s - a < length s - at
   further {a = a} at (parsed w h) g = omega (arith, ap length w, g, length-drop at s, length-drop a s)
@@ -88,19 +83,19 @@ module _ (i : Issued) (s : List ℕ) (level : ℕ) (odd : Bool) (at : ℕ) {r : 
   not-negated b p zero h = let z : ⊥ = omega arith in absurd z
   not-negated b p (suc f) h =
       let j = inside s at 33 (omega arith) b in
-      rw (head-at s at, b, drop-drop 1 at s) (negated odd s (p f (omega arith)))
+      rw (head-drop at s 0, b, drop-drop 1 at s) (negated odd s (p f (omega arith)))
 
   pub not-bracketed : getD s at 0 ≡ 40 → BracketAt i s level odd r rows (at + 1) → NotAt i s level odd r rows at
   unfolding readNots
   not-bracketed b p zero h = let z : ⊥ = omega arith in absurd z
   not-bracketed b p (suc f) h =
       let j = inside s at 40 (omega arith) b in
-      rw (head-at s at, b, drop-drop 1 at s) (p f (omega arith))
+      rw (head-drop at s 0, b, drop-drop 1 at s) (p f (omega arith))
 
   pub not-atom : (getD s at 0 ≡ 33 → ⊥) → (getD s at 0 ≡ 40 → ⊥) → AtomAt i s odd r rows at → NotAt i s level odd r rows at
   unfolding readNots
   not-atom b d p zero h = let z : ⊥ = omega arith in absurd z
-  not-atom b d p (suc f) h = rw (head-at s at, ne-eqb (getD s at 0) 33 b, ne-eqb (getD s at 0) 40 d) p
+  not-atom b d p (suc f) h = rw (head-drop at s 0, ne-eqb (getD s at 0) 33 b, ne-eqb (getD s at 0) 40 d) p
 
 -- Brackets: `level` may still be opened.
 
@@ -177,14 +172,14 @@ module _ {odd : Bool} {part whole : Level} {cost byte : ℕ} {join : Sum → Sum
   -- no further part
   pub chain-stop : {at n : ℕ} {rows : List (List ℕ)} → (getD s at 0 ≡ byte → ⊥) → MoreAt (Node at n) rows at n rows
   chain-stop b t k zero h = let z : ⊥ = omega arith in absurd z
-  chain-stop {at} b t k (suc f) h = rw (c .more-suc f t (drop at s), head-at s at, ne-eqb (getD s at 0) byte b) (parsed refl k)
+  chain-stop {at} b t k (suc f) h = rw (c .more-suc f t (drop at s), head-drop at s 0, ne-eqb (getD s at 0) byte b) (parsed refl k)
 
   -- a further part that fails
   pub chain-broken : (at : ℕ) {n : ℕ} {r : Read} {old right new : List (List ℕ)} → getD s at 0 ≡ byte → r ≡ Malformed → PartAt r right (at + 1) → MoreAt Malformed new at n old
   chain-broken at b e p t k zero h = let z : ⊥ = omega arith in absurd z
   chain-broken at b e p t k (suc f) h =
       let i = inside s at byte (c .printable) b in
-      rw (c .more-suc f t (drop at s), head-at s at, eq-eqb (getD s at 0) byte b, drop-drop 1 at s) (next-failed odd s _ (told e (p f (omega arith))))
+      rw (c .more-suc f t (drop at s), head-drop at s 0, eq-eqb (getD s at 0) byte b, drop-drop 1 at s) (next-failed odd s _ (told e (p f (omega arith))))
 
   -- a further part, joined to what stands to its left
   grown : {a n m j : ℕ} {r : Read} {old right both new : List (List ℕ)} {x : Found part} (t : Tree whole) (f : ℕ) → 4 * (length s - a) + (cost + 1) ≤ f → Written (listOf odd t) old n → Reads odd s right (Node a m) x
@@ -199,7 +194,7 @@ module _ {odd : Bool} {part whole : Level} {cost byte : ℕ} {join : Sum → Sum
   chain-grown at b e p w m t k (suc f) h =
       let i = inside s at byte (c .printable) b in
       let g = chain-further (at + 1) e p in
-      rw (c .more-suc f t (drop at s), head-at s at, eq-eqb (getD s at 0) byte b, drop-drop 1 at s) (grown t f (omega arith) k (told e (p f (omega arith))) w m)
+      rw (c .more-suc f t (drop at s), head-drop at s 0, eq-eqb (getD s at 0) byte b, drop-drop 1 at s) (grown t f (omega arith) k (told e (p f (omega arith))) w m)
 
 -- the chains of AND and of OR
 
@@ -280,7 +275,7 @@ module _ (i : Issued) where
 
   atom-at : (s : List ℕ) (at : ℕ) → named (issuedTo i) (getD s at 0) (readNumber (drop (at + 1) s)) ≡ readAtom (issuedTo i) (drop at s)
   unfolding readAtom
-  atom-at s at = rw (head-at s at, drop-drop 1 at s)
+  atom-at s at = rw (head-drop at s 0, drop-drop 1 at s)
 
   module _ (s : List ℕ) (odd : Bool) (at : ℕ) {rows : List (List ℕ)} where
     pub atom-past : length s ≤ at → AtomAt i s odd Malformed rows at

@@ -7,54 +7,25 @@ use Prim.Native.Nat.{ℕ, _+_, _*_, _-_, _/_, _%_, _≤_, _<_}
 use native.Mathlib.Omega.{arith}
 use native.Mathlib.Nat.{mul-le-mul-left, mul-suc}
 use lib.Dec.{ltb, eqb}
-use borrow.Author.Tests.{ltb-true, ltb-false, lt-ltb, le-ltb, eqb-true, eqb-false, eq-eqb, ne-eqb}
+use borrow.Author.Tests.{ltb-true, ltb-false, lt-ltb, le-ltb, eqb-true, eqb-false}
 use Rattle.product.specs.declared.literal.Key.{Key}
 use Rattle.product.specs.declared.literal.Key.the-variants.{User, Thread, Segment, Defined}
 use Rattle.product.specs.declared.literal.Literal.{Literal}
 use Rattle.product.specs.declared.literal.Literal.the-variants.{Plain, Barred}
-use Rattle.product.specs.Atom.{kindOf, numberOf, Order, Less, Equal, Greater, orderOf, thenBy, compareAtoms, atomOf, signOf, compareLiterals, isLess, isEqual}
+use Rattle.product.specs.Atom.{kindOf, numberOf, orderOf, thenBy, compareAtoms, atomOf, signOf, compareLiterals}
 use Rattle.product.specs.Product.{same, before, opposed}
 use Rattle.product.specs.Code.{keyCode, codeOf, keyAt, literalAt, EncodedKey, Encoded}
 use Rattle.product.specs.Steps.{opposedCodes}
-
--- numbers
-
-pub order-less : {m n : ℕ} → m < n → orderOf m n ≡ Less
-unfolding orderOf
-order-less {m} {n} h = rw (lt-ltb m n h)
-
-pub order-equal : {m n : ℕ} → m ≡ n → orderOf m n ≡ Equal
-unfolding orderOf
-order-equal {m} {n} h = rw (le-ltb m n (omega arith), eq-eqb m n h)
-
-pub order-greater : {m n : ℕ} → n < m → orderOf m n ≡ Greater
-unfolding orderOf
-order-greater {m} {n} h = rw (le-ltb m n (omega arith), ne-eqb m n (λ e. omega arith))
-
--- the order of two numbers, with its reason
-pub order-cases : (P : Order → Type 0) (m n : ℕ) → (m < n → P Less) → (m ≡ n → P Equal) → (n < m → P Greater) → P (orderOf m n)
-order-cases P m n f g h = go (ltb m n) (eqb m n) refl refl
-  where
-    go : (a b : Bool) → ltb m n ≡ a → eqb m n ≡ b → P (orderOf m n)
-    go true b e d = let l = ltb-true m n e in rw (order-less l) (f l)
-    go false true e d = let l = eqb-true m n d in rw (order-equal l) (g l)
-    go false false e d = let l : n < m = omega (arith, ltb-false m n e, eqb-false m n d) in rw (order-greater l) (h l)
-
-pub order-tests : (m n : ℕ) → (isLess (orderOf m n) ≡ ltb m n) × (isEqual (orderOf m n) ≡ eqb m n)
-order-tests m n =
-    order-cases (λ o. (isLess o ≡ ltb m n) × (isEqual o ≡ eqb m n)) m n
-    (λ h. (sym (lt-ltb m n h), sym (ne-eqb m n (λ e. omega arith))))
-    (λ h. (sym (le-ltb m n (omega arith)), sym (eq-eqb m n h)))
-    (λ h. (sym (le-ltb m n (omega arith)), sym (ne-eqb m n (λ e. omega arith))))
+use Rattle.product.proofs.Numbers.{less-order, equal-order, greater-order, order-cases, order-tests}
 
 -- two pairs compare as the numbers that they are two digits of do, where the second digit of the lesser pair is below the base
 pairs : (base x y a b c d : ℕ) → x ≡ base * a + b → y ≡ base * c + d → (a < c → b < base) → (c < a → d < base) → thenBy (orderOf a c) (orderOf b d) ≡ orderOf x y
 pairs base x y a b c d p q low high =
     order-cases (λ o. thenBy o (orderOf b d) ≡ orderOf x y) a c
-    (λ h. let l = low h in let m = further a c h in sym (order-less (omega arith)))
+    (λ h. let l = low h in let m = further a c h in sym (less-order (omega arith)))
     (λ h. let e : base * a ≡ base * c = ap (λ (n : ℕ). base * n) h in order-cases (λ o. o ≡ orderOf x y) b d
-    (λ k. sym (order-less (omega arith))) (λ k. sym (order-equal (omega arith))) (λ k. sym (order-greater (omega arith))))
-    (λ h. let l = high h in let m = further c a h in sym (order-greater (omega arith)))
+    (λ k. sym (less-order (omega arith))) (λ k. sym (equal-order (omega arith))) (λ k. sym (greater-order (omega arith))))
+    (λ h. let l = high h in let m = further c a h in sym (greater-order (omega arith)))
   where
     further : (m n : ℕ) → m < n → base * m + base ≤ base * n
     further m n h = let k = mul-le-mul-left base h in omega (arith, mul-suc base m)

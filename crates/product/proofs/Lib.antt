@@ -1,4 +1,5 @@
 pub mod Truth
+pub mod Numbers
 pub mod Ordering
 pub mod Every
 pub mod Opening

@@ -36,6 +36,11 @@ pub map-id : {A : Type 0} (f : A → A) → ((x : A) → f x ≡ x) → (s : Lis
 map-id f h [] = refl
 map-id f h (x ∷ s) = rw (h x, map-id f h s)
 
+pub head-drop : {A : Type 0} (i : ℕ) (l : List A) (d : A) → getD (drop i l) 0 d ≡ getD l i d
+head-drop zero l d = refl
+head-drop (suc i) [] d = refl
+head-drop (suc i) (x ∷ l) d = head-drop i l d
+
 pub drop-replicate : {A : Type 0} (a : A) (k n : ℕ) → drop k (replicate n a) ≡ replicate (n - k) a
 drop-replicate a zero n = let e : n - 0 ≡ n = omega arith in rw e
 drop-replicate a (suc k) zero = let e : 0 - suc k ≡ 0 = omega arith in rw e

@@ -1,16 +1,14 @@
 -- How atoms and literals compare: Equal is said of equal ones alone, and Less is a strict order of all of them. Numbers have these laws, and
 -- a comparison that is made of two lawful ones, the first difference deciding, has them too. Assumes nothing.
 use mathlib.Core.Path.{_≡_, refl, ap}
-use mathlib.Core.Bool.{Bool, true, false}
-use Prim.Native.Nat.{ℕ, _<_}
+use mathlib.Core.Bool.{true}
 use native.Mathlib.Omega.{arith}
-use lib.Dec.{ltb, eqb}
-use borrow.Author.Tests.{ltb-true, ltb-false, eqb-true, eqb-false, lt-ltb, le-ltb, eq-eqb}
 use Rattle.product.specs.declared.literal.Key.{Key}
 use Rattle.product.specs.declared.literal.Key.the-variants.{User, Thread, Segment, Defined}
 use Rattle.product.specs.declared.literal.Literal.{Literal}
 use Rattle.product.specs.declared.literal.Literal.the-variants.{Plain, Barred}
-use Rattle.product.specs.Atom.{Atom, kindOf, numberOf, Order, Less, Equal, Greater, pickOrder, orderOf, thenBy, compareAtoms, atomOf, signOf, compareLiterals, isLess, isEqual}
+use Rattle.product.specs.Atom.{Atom, kindOf, numberOf, Order, Less, Equal, Greater, orderOf, thenBy, compareAtoms, atomOf, signOf, compareLiterals, isLess, isEqual}
+use Rattle.product.proofs.Numbers.{less-order, same-order, order-less, order-equal, order-greater}
 
 -- a comparison that orders everything
 pub record Lawful {A : Type 0} (compare : A → A → Order) : Type 0 where
@@ -22,60 +20,14 @@ pub record Lawful {A : Type 0} (compare : A → A → Order) : Type 0 where
 
 -- numbers
 
-data Compared (m n : ℕ) : Order → Type 0 where
-  smaller : m < n → Compared m n Less
-  level : m ≡ n → Compared m n Equal
-  larger : n < m → Compared m n Greater
-
-compared : (m n : ℕ) → Compared m n (orderOf m n)
-unfolding orderOf
-compared m n = go (ltb m n) (eqb m n) refl refl
-  where
-    go : (b c : Bool) → ltb m n ≡ b → eqb m n ≡ c → Compared m n (pickOrder b Less (pickOrder c Equal Greater))
-    go true c e f = smaller (ltb-true m n e)
-    go false true e f = level (eqb-true m n f)
-    go false false e f = larger (omega (arith, ltb-false m n e, eqb-false m n f))
-
-pub order-less : (m n : ℕ) → orderOf m n ≡ Less → m < n
-order-less m n = go (compared m n)
-  where
-    go : {o : Order} → Compared m n o → o ≡ Less → m < n
-    go (smaller h) e = h
-    go (level h) e = let z : _≡_ {A = ℕ} 0 1 = cc in absurd (omega arith)
-    go (larger h) e = let z : _≡_ {A = ℕ} 0 1 = cc in absurd (omega arith)
-
-pub order-equal : (m n : ℕ) → orderOf m n ≡ Equal → m ≡ n
-order-equal m n = go (compared m n)
-  where
-    go : {o : Order} → Compared m n o → o ≡ Equal → m ≡ n
-    go (smaller h) e = cc
-    go (level h) e = h
-    go (larger h) e = cc
-
-pub order-greater : (m n : ℕ) → orderOf m n ≡ Greater → n < m
-order-greater m n = go (compared m n)
-  where
-    go : {o : Order} → Compared m n o → o ≡ Greater → n < m
-    go (smaller h) e = let z : _≡_ {A = ℕ} 0 1 = cc in absurd (omega arith)
-    go (level h) e = let z : _≡_ {A = ℕ} 0 1 = cc in absurd (omega arith)
-    go (larger h) e = h
-
-pub less-order : (m n : ℕ) → m < n → orderOf m n ≡ Less
-unfolding orderOf
-less-order m n h = rw (lt-ltb m n h)
-
-pub same-order : (n : ℕ) → orderOf n n ≡ Equal
-unfolding orderOf
-same-order n = rw (le-ltb n n (omega arith), eq-eqb n n refl)
-
 numbers : Lawful orderOf
 numbers =
     record {
       equal-left = λ x y z e. rw (order-equal x y e);
       equal-right = λ x y z e. rw (order-equal y z e);
       equal-back = λ x y e. rw (order-equal x y e) (same-order y);
-      greater-back = λ x y e. less-order y x (order-greater x y e);
-      transitive = λ x y z e f. less-order x z (omega (arith, order-less x y e, order-less y z f));
+      greater-back = λ x y e. less-order (order-greater x y e);
+      transitive = λ x y z e f. less-order (omega (arith, order-less x y e, order-less y z f));
     }
 
 -- comparing what a function reads of two things
