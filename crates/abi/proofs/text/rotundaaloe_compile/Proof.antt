@@ -1,3 +1,4 @@
+-- The verdict tells the outcome; of an accepted text the laws of the compiler bound the count. Assumes nothing.
 use borrow.Author.Needs.{needs}
 use denote.Ref.{now}
 use mathlib.Core.Path.{_∙_}

@@ -1,3 +1,4 @@
+-- Past its end a list gives 0 too. Assumes nothing.
 use borrow.Author.Needs.{needs}
 use mathlib.Core.Path.{sym}
 use denote.Ref.{now}

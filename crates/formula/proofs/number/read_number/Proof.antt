@@ -1,3 +1,4 @@
+-- The four ways that a number begins: no digit, a padded one, a 0, another digit. Assumes nothing.
 use borrow.Author.Needs.{needs}
 use borrow.Author.Tests.{not-true, not-false}
 use denote.Ref.{now}

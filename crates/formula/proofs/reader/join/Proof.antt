@@ -1,3 +1,4 @@
+-- By the test. Assumes nothing.
 use borrow.Author.Needs.{needs}
 use Rattle.formula.proofs.reader.join.Statement.{statement}
 use Rattle.formula.proofs.reader.join.Tie as tie

@@ -1,3 +1,4 @@
+-- A law for each way out (`atom-past` and on). Assumes nothing.
 use borrow.Author.Needs.{needs}
 use borrow.Author.Tests.{not-true, not-false}
 use denote.Ref.{now}

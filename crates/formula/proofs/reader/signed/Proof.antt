@@ -1,3 +1,4 @@
+-- By the test. Assumes nothing.
 use Rattle.formula.proofs.reader.signed.Statement.{statement}
 use Rattle.formula.proofs.reader.signed.Tie as tie
 

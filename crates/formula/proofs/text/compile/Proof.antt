@@ -1,3 +1,4 @@
+-- A law of `Answering` for each way out. Assumes nothing.
 use borrow.Author.Needs.{needs}
 use denote.Ref.{now}
 use mathlib.Core.Path.{_∙_}

@@ -1,3 +1,4 @@
+-- The tests on the number are those of `keyAt`. Assumes nothing.
 use borrow.Author.Needs.{needs}
 use borrow.Author.Tests.{lt-ltb, le-ltb}
 use Rattle.product.specs.Code.{keyAt}

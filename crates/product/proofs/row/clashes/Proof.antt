@@ -1,3 +1,4 @@
+-- What is left from place i on has the answer of the whole. Assumes nothing.
 use borrow.Author.Needs.{needs}
 use mathlib.Core.Path.{_≡_, refl, sym, _∙_}
 use Prim.Native.Nat.{_-_}

@@ -1,3 +1,4 @@
+-- By the test. Assumes nothing.
 use borrow.Author.Tests.{lt-ltb, le-ltb}
 use Rattle.product.proofs.row.greater.Statement.{statement}
 use Rattle.product.proofs.row.greater.Tie as tie

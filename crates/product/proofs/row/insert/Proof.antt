@@ -1,3 +1,4 @@
+-- The loop carries a literal upwards (`Placing`); the measure is the places that are left. Assumes nothing.
 use borrow.Author.Needs.{needs}
 use native.Mathlib.Omega.{arith}
 use Prim.Native.Nat.{_-_}

@@ -1,3 +1,4 @@
+-- The loop puts the second row's literals among the first's, one by one (`Uniting`). Assumes nothing.
 use borrow.Author.Needs.{needs}
 use Prim.Native.Nat.{_-_}
 use native.Mathlib.Omega.{arith}

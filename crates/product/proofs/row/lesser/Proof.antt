@@ -1,3 +1,4 @@
+-- By the test. Assumes nothing.
 use borrow.Author.Tests.{lt-ltb, le-ltb}
 use Rattle.product.proofs.row.lesser.Statement.{statement}
 use Rattle.product.proofs.row.lesser.Tie as tie

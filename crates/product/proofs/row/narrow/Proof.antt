@@ -1,3 +1,4 @@
+-- The first six cells, a 0 and the count are the product's row, since the cells beyond are 0. Assumes nothing.
 use borrow.Author.Needs.{needs}
 use native.Mathlib.Omega.{arith}
 use Rattle.product.proofs.Widening.{narrowed}

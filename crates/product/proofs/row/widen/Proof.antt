@@ -1,3 +1,4 @@
+-- The loop copies: below i the cells are the row's, from i on they are 0 (`Copied`). Assumes nothing.
 use borrow.Author.Needs.{needs}
 use Prim.Native.Nat.{_-_, _≤_}
 use native.Mathlib.Omega.{arith}

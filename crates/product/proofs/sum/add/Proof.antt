@@ -1,3 +1,4 @@
+-- A law for each way out: `filled-wide`, `filled-skip`, `filled-long`, `filled-full`, `filled-last`. Assumes nothing.
 use borrow.Author.Needs.{needs}
 use mathlib.Core.Path.{_≡_}
 use mathlib.Core.Bool.{true, false}

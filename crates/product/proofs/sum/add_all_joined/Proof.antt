@@ -1,3 +1,4 @@
+-- What is left to add makes the total (`Adding`), a left product with all right ones at a turn. Assumes nothing.
 use borrow.Author.Needs.{needs}
 use mathlib.Core.Path.{ap}
 use mathlib.Core.List.{[]}

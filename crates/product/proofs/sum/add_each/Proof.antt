@@ -1,3 +1,4 @@
+-- What is left to add makes the total (`Adding`). Assumes nothing.
 use borrow.Author.Needs.{needs}
 use Prim.Native.Nat.{_-_}
 use native.Mathlib.Omega.{arith}

@@ -1,3 +1,4 @@
+-- What is left to add makes the total (`Adding`). Assumes nothing.
 use borrow.Author.Needs.{needs}
 use mathlib.Core.Path.{ap}
 use Prim.Native.Nat.{_-_}

@@ -1,3 +1,4 @@
+-- A side that is too wide, or all products added, which is tidying their list. Assumes nothing.
 use borrow.Author.Needs.{needs}
 use denote.Ref.{now}
 use Rattle.product.proofs.Filling.{left-wide, right-wide, conjoined}

@@ -1,3 +1,4 @@
+-- Up to 8 products the rows are the sum's cells already; beyond, they are cleared. Assumes nothing.
 use borrow.Author.Needs.{needs}
 use denote.Ref.{now}
 use Rattle.product.proofs.Filling.{finished, blanked}
