@@ -13,17 +13,18 @@ use Rattle.formula.specs.declared.text.Verdict.the-variants.{Accepted, Malforme
 use Rattle.formula.specs.declared.text.Issued.{Issued}
 use Rattle.formula.specs.declared.text.Row.{Row}
 use Rattle.formula.specs.declared.text.Compiled.{Compiled}
-use Rattle.formula.specs.Outcome.{Outcome, accepted, malformed, tooWide, unsatisfiable, outcomeOf, verdictOf, sumIn, rowWith, answerOf, compiledOf}
+use Rattle.formula.specs.Outcome.{Outcome, accepted, malformed, tooWide, unsatisfiable, outcomeOf, refusalNumber, verdictOf, sumIn, rowWith, answerOf, compiledOf}
 use Rattle.formula.specs.Compiler.{Bounded}
 use Rattle.formula.proofs.Opening.{laws}
-use Rattle.abi.specs.Answers.{numberIn, rowsIn, cellsAt, eightCells}
+use Rattle.abi.specs.Answers.{numberIn, rowsIn}
+use Rattle.abi.specs.Steps.{cellsAt, eightCells}
 
 -- what a verdict tells of the outcome: of a refusal its number, and that the rows stay as they were
 abbrev Said : Verdict → Outcome → List (List ℕ) → Type 0
 Said Accepted o old = (ps : Sum) × (o ≡ accepted ps)
-Said Malformed o old = (11 ≡ numberIn o) × (old ≡ rowsIn o old)
-Said TooWide o old = (12 ≡ numberIn o) × (old ≡ rowsIn o old)
-Said Unsatisfiable o old = (13 ≡ numberIn o) × (old ≡ rowsIn o old)
+Said Malformed o old = (refusalNumber Malformed ≡ numberIn o) × (old ≡ rowsIn o old)
+Said TooWide o old = (refusalNumber TooWide ≡ numberIn o) × (old ≡ rowsIn o old)
+Said Unsatisfiable o old = (refusalNumber Unsatisfiable ≡ numberIn o) × (old ≡ rowsIn o old)
 
 said : (o : Outcome) (old : List (List ℕ)) → Said (verdictOf o) o old
 said (accepted ps) old = (ps, refl)

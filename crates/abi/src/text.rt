@@ -1,18 +1,14 @@
 // Formula texts for C: the answer is a number, and the products go into rows that the caller lends.
 ghost use mathlib.Core.Path.{_≡_};
 ghost use Rattle.formula.specs.Outcome.{outcomeOf};
-ghost use Rattle.abi.specs.Answers.{issuedWith, numberIn, rowsIn, eightCells};
+ghost use Rattle.abi.specs.Answers.{issuedWith, numberIn, rowsIn};
+ghost use Rattle.abi.specs.Steps.{eightCells};
 use formula::text::Issued;
 use formula::text::Row;
 use formula::text::Verdict;
 use formula::text::compile;
-
-// Document 01's numbers of the three refusals.
-const MALFORMED: u32 = 11;
-
-const TOO_WIDE: u32 = 12;
-
-const UNSATISFIABLE: u32 = 13;
+use formula::text::refusal_number;
+use product::sum::Rows;
 
 // The number of products, 1 to 8, with their cells in the rows; or the number of a refusal, and then no cell is changed.
 #[no_mangle]
@@ -22,7 +18,7 @@ pub extern "C" fn rotundaaloe_compile(
     threads: u32,
     segments: u32,
     defined: u32,
-    rows: &mut [[u32; 8]; 8],
+    rows: &mut Rows,
 ) -> u32
     ensures number { λ r. ⌜ r ≡ numberIn (outcomeOf (issuedWith users threads segments defined) (now (text .entry))) ⌝ }
     ensures cells { λ r. ⌜ now (rows .exit) ≡ rowsIn (outcomeOf (issuedWith users threads segments defined) (now (text .entry))) (now (rows .entry)) ⌝ }
@@ -35,10 +31,11 @@ pub extern "C" fn rotundaaloe_compile(
     };
     let compiled = compile(text, issued);
     let verdict = compiled.verdict;
+    let refusal = refusal_number(verdict);
     match verdict {
-        Verdict::Malformed => MALFORMED,
-        Verdict::TooWide => TOO_WIDE,
-        Verdict::Unsatisfiable => UNSATISFIABLE,
+        Verdict::Malformed => refusal,
+        Verdict::TooWide => refusal,
+        Verdict::Unsatisfiable => refusal,
         Verdict::Accepted => {
             let count = compiled.count;
             let products = compiled.rows;
@@ -48,7 +45,7 @@ pub extern "C" fn rotundaaloe_compile(
     }
 }
 
-fn cells_of(rows: [Row; 8]) -> [[u32; 8]; 8]
+fn cells_of(rows: [Row; 8]) -> Rows
     ensures { λ r. ⌜ r ≡ eightCells rows ⌝ }
 {
     let a = rows[0];

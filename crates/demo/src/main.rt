@@ -3,6 +3,7 @@ use formula::text::Compiled;
 use formula::text::Issued;
 use formula::text::Verdict;
 use formula::text::compile;
+use formula::text::refusal_number;
 use libc::STDOUT_FILENO;
 use product::literal::Key;
 use product::literal::Literal;
@@ -37,14 +38,19 @@ fn show(text: &[u8]) {
     let verdict = compiled.verdict;
     match verdict {
         Verdict::Accepted => print_products(compiled),
-        Verdict::Malformed => print(b" is refused: 11"),
-        Verdict::TooWide => print(b" is refused: 12"),
-        Verdict::Unsatisfiable => print(b" is refused: 13"),
+        Verdict::Malformed => print_refusal(verdict),
+        Verdict::TooWide => print_refusal(verdict),
+        Verdict::Unsatisfiable => print_refusal(verdict),
     }
     print(b"\n");
 }
 
-// Products joined by `|`.
+fn print_refusal(verdict: Verdict) {
+    print(b" is refused: ");
+    io::print_decimal(STDOUT_FILENO, refusal_number(verdict) as u64);
+}
+
+// One product after the other.
 fn print_products(compiled: Compiled) {
     let count = compiled.count;
     let rows = compiled.rows;

@@ -19,8 +19,8 @@ use Rattle.formula.specs.declared.reader.Read.the-variants.{Malformed as
 use Rattle.formula.specs.Tree.{ors}
 use Rattle.formula.specs.Nodes.{listOf}
 use Rattle.formula.specs.Reader.{Found, wholeOf, readText}
-use Rattle.formula.specs.Outcome.{tooWide, unsatisfiable, judgeList, judge, outcomeOf, rowWith, answerOf, refusedOf, compiledOf}
-use Rattle.formula.specs.Steps.{Reads, failed, parsed, OrAt, eightRows}
+use Rattle.formula.specs.Outcome.{tooWide, unsatisfiable, judgeList, judge, outcomeOf, rowWith, answerOf, compiledOf}
+use Rattle.formula.specs.Steps.{refusedOf, Reads, failed, parsed, OrAt, eightRows}
 use Rattle.formula.proofs.Walking.{told}
 
 -- the answer of a list of products that is written in rows

@@ -1,14 +1,14 @@
 -- Reading a number at a place of a text: the digits one by one, and the ways that a number begins. Assumes nothing.
 use mathlib.Core.Path.{_≡_}
-use mathlib.Core.Bool.{Bool, true, false, cond}
+use mathlib.Core.Bool.{Bool, true, false, cond, _&&_}
 use mathlib.Core.List.{List, [], _∷_}
 use mathlib.Core.Option.{none, some}
 use Prim.Native.Nat.{ℕ, suc, _+_, _*_, _-_, _≤_, _<_}
 use native.Mathlib.Numerals.{add-one}
 use native.Mathlib.Omega.{arith}
+use lib.Dec.{eqb}
 use lib.ListN.{length, getD, drop}
 use lib.Seq.{drop-cons, getD-drop}
-use borrow.Author.Tests.{ne-eqb}
 use Rattle.product.proofs.Lists.{head-drop}
 use Rattle.formula.specs.Reader.{digit, readDigits, readNumber}
 use Rattle.formula.proofs.Decimals.{digits-end as digits-over}
@@ -41,14 +41,14 @@ module _ (s : List ℕ) (i : ℕ) where
   unfolding readNumber
   number-none h = rw (head-drop i s 0, h)
 
-  pub number-padded : getD s i 0 ≡ 48 → digit (getD s (i + 1) 0) ≡ true → readNumber (drop i s) ≡ none
-  unfolding readNumber
-  number-padded e h = rw (head-drop i s 0, getD-drop i s 1 0, e, h)
+  -- a digit, and whether it is a 0 with another digit after it
+  abbrev padded : Bool
+  padded = eqb (getD s i 0) 48 && digit (getD s (i + 1) 0)
 
-  pub number-zero : getD s i 0 ≡ 48 → digit (getD s (i + 1) 0) ≡ false → readNumber (drop i s) ≡ some (readDigits 0 (drop i s))
+  pub number-padded : digit (getD s i 0) ≡ true → padded ≡ true → readNumber (drop i s) ≡ none
   unfolding readNumber
-  number-zero e h = rw (head-drop i s 0, getD-drop i s 1 0, e, h)
+  number-padded d h = rw (head-drop i s 0, getD-drop i s 1 0, d, h)
 
-  pub number-some : digit (getD s i 0) ≡ true → (getD s i 0 ≡ 48 → ⊥) → readNumber (drop i s) ≡ some (readDigits 0 (drop i s))
+  pub number-some : digit (getD s i 0) ≡ true → padded ≡ false → readNumber (drop i s) ≡ some (readDigits 0 (drop i s))
   unfolding readNumber
-  number-some h n = rw (head-drop i s 0, h, ne-eqb (getD s i 0) 48 n)
+  number-some d h = rw (head-drop i s 0, getD-drop i s 1 0, d, h)

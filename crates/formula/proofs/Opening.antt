@@ -15,14 +15,15 @@ use Rattle.product.specs.Sum.{Sum, opensAny, narrow, fitsNode}
 use Rattle.product.specs.Code.{Numbered}
 use Rattle.product.proofs.Truth.{and-both}
 use Rattle.product.proofs.Every.{all-mapped}
+use Rattle.product.proofs.Storing.{sum-back}
 use Rattle.product.proofs.Ordered.{Ordered, ordered-once}
 use Rattle.formula.specs.declared.text.Issued.{Issued}
-use Rattle.formula.specs.Tree.{ors, Tree, holds}
+use Rattle.formula.specs.Tree.{ors, Tree}
 use Rattle.formula.specs.Text.{issuedOf, issuedTo, allIssued}
 use Rattle.formula.specs.Nodes.{products, fits}
 use Rattle.formula.specs.Outcome.{Outcome, accepted, tooWide, judgeList, outcomeOf}
 use Rattle.formula.specs.Compiler.{Kept, Bounded, Laws}
-use Rattle.formula.specs.Opening.{Opened, OpeningLaw, AcceptedWhere, textHolds, HoldsSpelt}
+use Rattle.formula.specs.Opening.{Opened, OpeningLaw, AcceptedWhere, textHolds, HoldsSpelt, StoredLaw}
 use Rattle.formula.proofs.Reading.{reader-complete}
 use Rattle.formula.proofs.Nodes.{opening, every-atom, products-ordered, products-atoms, products-witness, fits-node}
 use Rattle.formula.proofs.Judging.{outcome-text, Judged, formula, none-such, judged, list-fits, judged-fits, judged-accepted}
@@ -101,10 +102,16 @@ holds-spelt i s t h ρ =
     rw (reader-complete (λ a. true) s t (record { spelt = h .spelt; shallow = h .shallow; known-atoms = every-atom t }))
 
 -- the laws of the compiler, of that formula
-abbrev pub laws : Laws outcomeOf
+pub laws : Laws outcomeOf textHolds
 laws =
     record {
-      holds = textHolds;
       opening = λ i s ps e ρ. let o = opening-law i s ps e in o .law ρ ∙ sym (holds-spelt i s (o .tree) (o .text) ρ);
       bounds = λ i s ps e. opening-law i s ps e .bounds;
     }
+
+-- what is stored
+
+pub stored-law : StoredLaw
+stored-law i s ps e =
+    let b = opening-law i s ps e .bounds in
+    sum-back ps (b .few) (all-mapped (λ p k. record { short = k .short; numbers = k .numbers }) (b .each))

@@ -28,9 +28,12 @@ pub record Bounded (ps : Sum) : Type 0 where
   pub few : length ps ≤ mostProducts
   pub each : All Kept ps
 
-pub record Laws (compile : Compiler) : Type 0 where
-  -- the text's formula is true of a key set, whatever keys were handed out when it was compiled
-  pub holds : (Atom → Bool) → List ℕ → Bool
+-- What a text means: whether its formula is true of a key set, whatever keys were handed out when it was compiled.
+abbrev pub Meaning : Type 0
+Meaning = (Atom → Bool) → List ℕ → Bool
+
+-- A compiler keeps a meaning. This crate's is `outcomeOf` and keeps `textHolds`: `laws` in `proofs/Opening.antt`.
+pub record Laws (compile : Compiler) (holds : Meaning) : Type 0 where
   -- a key set opens a product of an accepted text exactly where the formula is true of it
   pub opening : (i : Issued) (s : List ℕ) (ps : Sum) → compile i s ≡ accepted ps → (ρ : Atom → Bool) → opensAny ρ ps ≡ holds ρ s
   pub bounds : (i : Issued) (s : List ℕ) (ps : Sum) → compile i s ≡ accepted ps → Bounded ps

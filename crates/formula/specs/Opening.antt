@@ -6,15 +6,17 @@ use mathlib.Core.Bool.{Bool, true, false}
 use mathlib.Core.List.{List}
 use mathlib.Core.Option.{Option, none, some}
 use Prim.Native.Nat.{ℕ}
+use lib.ListN.{length}
 use Rattle.product.specs.Atom.{Atom}
 use Rattle.product.specs.Sum.{Sum, opensAny}
+use Rattle.product.specs.Cells.{sumOf, rowsOf}
 use Rattle.formula.specs.declared.text.Issued.{Issued}
 use Rattle.formula.specs.Tree.{ors, Tree, holds}
 use Rattle.formula.specs.Text.{Text}
 use Rattle.formula.specs.Nodes.{products, fits}
 use Rattle.formula.specs.Reader.{readText}
 use Rattle.formula.specs.Outcome.{accepted, outcomeOf}
-use Rattle.formula.specs.Compiler.{Bounded}
+use Rattle.formula.specs.Compiler.{Bounded, Meaning}
 
 pub record Opened (i : Issued) (s : List ℕ) (ps : Sum) : Type 0 where
   pub tree : Tree ors
@@ -41,9 +43,13 @@ abbrev pub treeHolds : (Atom → Bool) → Option (Tree ors) → Bool
 treeHolds ρ none = false
 treeHolds ρ (some t) = holds ρ t
 
-unfoldable pub textHolds : (Atom → Bool) → List ℕ → Bool
+unfoldable pub textHolds : Meaning
 textHolds ρ s = treeHolds ρ (readText (λ a. true) s)
 
 -- it is the formula as which the text is in the grammar
 abbrev pub HoldsSpelt : Type 0
 HoldsSpelt = (i : Issued) (s : List ℕ) (t : Tree ors) → Text i s t → (ρ : Atom → Bool) → textHolds ρ s ≡ holds ρ t
+
+-- what is stored of an accepted text, its products as rows of numbers, is read back as its products
+abbrev pub StoredLaw : Type 0
+StoredLaw = (i : Issued) (s : List ℕ) (ps : Sum) → outcomeOf i s ≡ accepted ps → sumOf (length ps) (rowsOf ps) ≡ some ps

@@ -35,12 +35,12 @@ judge (some t) = judgeList (listOf false t)
 unfoldable pub outcomeOf : Issued → List ℕ → Outcome
 outcomeOf i s = cond (leb (length s) mostBytes) (judge (readText (issuedTo i) s)) malformed
 
--- document 01's number of a refusal: misspelt, too wide, void
-abbrev pub refusalNumber : Outcome → Option ℕ
-refusalNumber (accepted ps) = none
-refusalNumber malformed = some 11
-refusalNumber tooWide = some 12
-refusalNumber unsatisfiable = some 13
+-- document 01's number of a refusal, misspelt, too wide or void; 0 of none
+abbrev pub refusalNumber : Verdict → ℕ
+refusalNumber Accepted = 0
+refusalNumber Malformed = 11
+refusalNumber TooWide = 12
+refusalNumber Unsatisfiable = 13
 
 -- the answer in arrays, every place of it: the products' rows, and blank rows after them; of a refusal none but blank ones
 
@@ -61,10 +61,6 @@ rowWith cells = record { cells = cells }
 
 abbrev pub answerOf : Outcome → Compiled
 answerOf o = record { verdict = verdictOf o; count = length (sumIn o); rows = map rowWith (rowsOf (sumIn o)) }
-
--- a refusal's
-abbrev pub refusedOf : Verdict → Compiled
-refusedOf v = record { verdict = v; count = 0; rows = map rowWith (rowsOf []) }
 
 abbrev pub compiledOf : Issued → List ℕ → Compiled
 compiledOf i s = answerOf (outcomeOf i s)

@@ -2,15 +2,17 @@
 -- The readers' promise: their answer is that of the reader of lists, with the tree's products in the rows in place of the tree.
 use mathlib.Core.Path.{_≡_}
 use mathlib.Core.Bool.{Bool, _&&_}
-use mathlib.Core.List.{List, [], _∷_}
+use mathlib.Core.List.{List, [], _∷_, map}
 use mathlib.Core.Option.{Option, none, some}
 use Prim.Native.Nat.{ℕ, _+_, _*_, _-_, _≤_, _<_}
 use lib.Dec.{ltb}
 use lib.ListN.{length, getD, drop}
 use Rattle.product.specs.Atom.{Atom}
-use Rattle.product.specs.Cells.{Written}
+use Rattle.product.specs.Cells.{rowsOf, Written}
 use Rattle.formula.specs.declared.text.Issued.{Issued}
 use Rattle.formula.specs.declared.text.Row.{Row}
+use Rattle.formula.specs.declared.text.Verdict.{Verdict}
+use Rattle.formula.specs.declared.text.Compiled.{Compiled}
 use Rattle.formula.specs.declared.number.Numeral.{Numeral}
 use Rattle.formula.specs.declared.number.Numeral.the-variants.{Missing, Value}
 use Rattle.formula.specs.declared.reader.Read.{Read}
@@ -74,3 +76,7 @@ abbrev pub eightRows : List (List ℕ) → List Row
 eightRows rows =
     rowWith (getD rows 0 []) ∷ rowWith (getD rows 1 []) ∷ rowWith (getD rows 2 []) ∷ rowWith (getD rows 3 [])
     ∷ rowWith (getD rows 4 []) ∷ rowWith (getD rows 5 []) ∷ rowWith (getD rows 6 []) ∷ rowWith (getD rows 7 []) ∷ []
+
+-- the answer of a refusal
+abbrev pub refusedOf : Verdict → Compiled
+refusedOf v = record { verdict = v; count = 0; rows = map rowWith (rowsOf []) }

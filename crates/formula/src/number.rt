@@ -12,6 +12,9 @@ pub(crate) enum Numeral {
     Value(u16, usize),
 }
 
+// The largest number of 16 bits.
+const MOST_NUMBER: u32 = 65535;
+
 // The byte at a place, 0 beyond the text.
 pub(crate) fn byte_at(text: &[u8], at: usize) -> u8
     ensures { λ r. ⌜ r ≡ getD (now (text .entry)) at 0 ⌝ }
@@ -36,9 +39,9 @@ fn read_digits(text: &[u8], at: usize) -> Numeral
         if !is_digit(b) {
             return Numeral::Value(value as u16, i);
         }
-        let d = (b - 48) as u32;
+        let d = (b - b'0') as u32;
         let next = 10 * value + d;
-        if 65535 < next {
+        if MOST_NUMBER < next {
             return Numeral::Missing;
         }
         value = next;
@@ -53,15 +56,12 @@ pub(crate) fn read_number(text: &[u8], at: usize) -> Numeral
     ensures { λ r. ⌜ NumberReads (now (text .entry)) r (readNumber (drop at (now (text .entry)))) ⌝ }
 {
     let first = byte_at(text, at);
+    let second = byte_at(text, at + 1);
     if !is_digit(first) {
         return Numeral::Missing;
     }
-    if first == b'0' {
-        let second = byte_at(text, at + 1);
-        if is_digit(second) {
-            return Numeral::Missing;
-        }
-        return read_digits(text, at);
+    if (first == b'0') & is_digit(second) {
+        return Numeral::Missing;
     }
     read_digits(text, at)
 }

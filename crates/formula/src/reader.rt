@@ -170,7 +170,7 @@ fn read_atom(text: &[u8], at: usize, odd: bool, issued: Issued, rows: &mut Rows)
     if !is_issued(key, issued) {
         return Read::Malformed;
     }
-    let count = sum::single(rows, signed(odd, key));
+    let count = sum::single(signed(odd, key), rows);
     Read::Node(end, count)
 }
 

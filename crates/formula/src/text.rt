@@ -1,7 +1,7 @@
 // From a formula text to its products.
 ghost use mathlib.Core.Path.{_≡_};
-ghost use Rattle.formula.specs.Outcome.{refusedOf, compiledOf};
-ghost use Rattle.formula.specs.Steps.{eightRows};
+ghost use Rattle.formula.specs.Outcome.{refusalNumber, compiledOf};
+ghost use Rattle.formula.specs.Steps.{refusedOf, eightRows};
 use crate::reader::Read;
 use crate::reader::read_or;
 use product::sum::MOST_PRODUCTS;
@@ -65,6 +65,18 @@ pub fn compile(text: &[u8], issued: Issued) -> Compiled
         verdict: Verdict::Accepted,
         count,
         rows: packed(&rows),
+    }
+}
+
+// Document 01's number of a refusal; 0 of none.
+pub fn refusal_number(verdict: Verdict) -> u32
+    ensures { λ r. ⌜ r ≡ refusalNumber verdict ⌝ }
+{
+    match verdict {
+        Verdict::Accepted => 0,
+        Verdict::Malformed => 11,
+        Verdict::TooWide => 12,
+        Verdict::Unsatisfiable => 13,
     }
 }
 

@@ -14,8 +14,8 @@ use Rattle.product.specs.declared.literal.Literal.{Literal}
 use Rattle.product.specs.declared.literal.Literal.the-variants.{Plain, Barred}
 use Rattle.product.specs.Atom.{kindOf, numberOf, orderOf, thenBy, compareAtoms, atomOf, signOf, compareLiterals}
 use Rattle.product.specs.Product.{same, before, opposed}
-use Rattle.product.specs.Code.{keyCode, codeOf, keyAt, literalAt, EncodedKey, Encoded}
-use Rattle.product.specs.Steps.{opposedCodes}
+use Rattle.product.specs.Code.{keyCode, codeOf, keyAt, literalAt, Encoded}
+use Rattle.product.specs.Steps.{EncodedKey, opposedCodes}
 use Rattle.product.proofs.Numbers.{less-order, equal-order, greater-order, order-cases, order-tests}
 
 -- two pairs compare as the numbers that they are two digits of do, where the second digit of the lesser pair is below the base

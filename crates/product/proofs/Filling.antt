@@ -3,7 +3,7 @@
 -- Assumes nothing.
 use mathlib.Core.Path.{_≡_, refl, sym, ap, _∙_}
 use mathlib.Core.Bool.{Bool, true, false, cond, _&&_, _||_, and-false, and-true}
-use mathlib.Core.List.{List, [], _∷_, _++_, map}
+use mathlib.Core.List.{List, [], _∷_, _++_, map, map-append}
 use mathlib.Core.Option.{none, some}
 use Prim.Native.Nat.{ℕ, zero, suc, _+_, _-_, _≤_, _<_}
 use native.Mathlib.Omega.{arith}
@@ -18,7 +18,7 @@ use Rattle.product.specs.Cells.{sizeOf, productOf, productsOf, sumOf, ro
 use Rattle.product.specs.Steps.{add, addTo, addEach, Clean, Filled, Row, sameFrom, sameCells}
 use Rattle.product.proofs.Truth.{and-both}
 use Rattle.product.proofs.Codes.{same-codes}
-use Rattle.product.proofs.Lists.{map-append, getD-mapped, read, read-all, part-snoc, length-part, part-cons, part-past}
+use Rattle.product.proofs.Lists.{getD-mapped, read, read-all, part-snoc, length-part, part-cons, part-past}
 
 -- lists of products: how wide they are
 
@@ -272,9 +272,6 @@ finished {rows} {n} c h =
 
 pub blanked : (rows : List (List ℕ)) (n : ℕ) → 8 < n → Written (sumOf n rows) (rowsOf []) 9
 blanked rows n h = record { cells = rw (sum-wide rows h); count = rw (sum-wide rows h); reads = rw (sum-wide rows h) }
-
-pub clean-blank : Clean (rowsOf []) 0
-clean-blank = record { bound = omega arith; cells = λ _. refl }
 
 -- a loop that adds products: what is left to add makes the total
 pub record Adding (total : Sum?) (rest : Sum) (rows : List (List ℕ)) (n : ℕ) : Type 0 where

@@ -1,6 +1,6 @@
 -- Laws of lists that several proofs cite. Assumes nothing.
 use mathlib.Core.Path.{_≡_, refl, sym, ap, _∙_}
-use mathlib.Core.List.{List, [], _∷_, _++_, map}
+use mathlib.Core.List.{List, [], _∷_, _++_, map, map-append}
 use Prim.Native.Nat.{ℕ, zero, suc, _+_, _-_, _≤_, _<_}
 use native.Mathlib.Omega.{arith}
 use native.Mathlib.Numerals.{add-one}
@@ -8,10 +8,6 @@ use lib.ListN.{length, getD, set, take, drop, replicate, length-map, List·getD-
 use lib.Seq.{take-all, drop-drop, take-take, take-suc-set, take-set-lt, drop-set-lt, length-take-le, getD-take, drop-cons}
 
 module _ {A B : Type 0} (f : A → B) where
-  pub map-append : (s t : List A) → map f (s ++ t) ≡ map f s ++ map f t
-  map-append [] t = refl
-  map-append (x ∷ s) t = ap (λ (u : List B). f x ∷ u) (map-append s t)
-
   pub map-take : (n : ℕ) (s : List A) → map f (take n s) ≡ take n (map f s)
   map-take zero s = refl
   map-take (suc n) [] = refl

@@ -13,9 +13,10 @@ use Rattle.product.specs.declared.literal.Literal.the-variants.{Plain, B
 use Rattle.product.specs.Atom.{numberOf}
 use Rattle.product.specs.Product.{Product, All, no-more, and-more}
 use Rattle.product.specs.Sum.{Sum}
-use Rattle.product.specs.Code.{keyCode, codeOf, literalAt, Numbered, EncodedKey}
+use Rattle.product.specs.Code.{keyCode, codeOf, literalAt, Numbered}
+use Rattle.product.specs.Steps.{EncodedKey}
 use Rattle.product.specs.Cells.{productOf, rowOf, blankRow, rowsOf}
-use Rattle.product.specs.Storing.{LiteralBack, Storable, ProductBack, SumBack}
+use Rattle.product.specs.Storing.{SameReading, LiteralBack, Storable, ProductBack, SumBack}
 use Rattle.product.proofs.Codes.{key-encoded, plain-encoded, barred-encoded}
 use Rattle.product.proofs.Widening.{row-for}
 use Rattle.product.proofs.Filling.{sum-few}
@@ -34,17 +35,20 @@ unfolding codeOf
 code-small (Plain k) h = omega (arith, encoded k h .small)
 code-small (Barred k) h = omega (arith, encoded k h .small)
 
-pub literal-back : LiteralBack
-literal-back x h = let s = code-small x h in let e : codeOf x % 524288 ≡ codeOf x = omega arith in rw e (literal-at x h)
+pub same-reading : SameReading
+same-reading x h = let e : x % 524288 ≡ x = omega arith in rw e
 
-codes-back : {p : Product} → All Numbered p → map literalAt (map codeOf p) ≡ p
-codes-back no-more = refl
-codes-back (and-more {x} h r) = rw (literal-at x h, codes-back r)
+pub literal-back : LiteralBack
+literal-back x h = same-reading (codeOf x) (code-small x h) ∙ literal-at x h
+
+literals-back : {p : Product} → All Numbered p → map literalAt (map codeOf p) ≡ p
+literals-back no-more = refl
+literals-back (and-more {x} h r) = rw (literal-at x h, literals-back r)
 
 pub product-back : ProductBack
 product-back p s =
     let n : length (map codeOf p) ≡ length p = length-map p codeOf in
-    row-for (map codeOf p) (length p) n (s .short) .product ∙ codes-back (s .numbers)
+    row-for (map codeOf p) (length p) n (s .short) .product ∙ literals-back (s .numbers)
 
 rows-back : {ps : Sum} → All Storable ps → map productOf (map rowOf ps) ≡ ps
 rows-back no-more = refl

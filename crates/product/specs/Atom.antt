@@ -1,6 +1,6 @@
 -- Atoms, which are the keys, their order, and literals. Document 01, 'Keys' and 'Lock text'. Assumes nothing.
--- Whatever stands above uses of an atom only how two compare and that equal ones alone compare as Equal, so that an atom can become
--- something else than a key.
+-- Products, sums, trees and nodes use only how two atoms compare, and that only equal ones compare as Equal, so that an atom can become
+-- something else than a key; how it is spelt, numbered and handed out is said elsewhere.
 use mathlib.Core.Bool.{Bool, true, false, not}
 use Prim.Native.Nat.{ℕ}
 use lib.Dec.{ltb, eqb}

@@ -23,24 +23,23 @@ codeOf l = 2 * keyCode (atomOf l) + signOf l
 -- what a number stands for
 unfoldable pub keyAt : ℕ → Key
 keyAt c =
-    cond (ltb c 65536) (User c)
-    (cond (ltb c 131072) (Thread (c - 65536)) (cond (ltb c 196608) (Segment (c - 131072)) (Defined (c - 196608))))
+    cond (ltb c numberLimit) (User c)
+    (cond (ltb c (2 * numberLimit)) (Thread (c - numberLimit))
+    (cond (ltb c (3 * numberLimit)) (Segment (c - 2 * numberLimit)) (Defined (c - 3 * numberLimit))))
 
 unfoldable pub literalAt : ℕ → Literal
 literalAt x = cond (eqb (x % 2) 0) (Plain (keyAt (x / 2))) (Barred (keyAt (x / 2)))
 
--- the same for any number at all, with a key's number of 16 bits
+-- The literals of 16-bit keys have the numbers below this. The code reads any number as one of these; `literalAt` differs from that only
+-- beyond the limit, where it gives keys of more than 16 bits, so that different numbers stand for different literals.
+abbrev pub codeLimit : ℕ
+codeLimit = 524288
+
 abbrev pub literalOf : ℕ → Literal
-literalOf x = literalAt (x % 524288)
+literalOf x = literalAt (x % codeLimit)
 
 abbrev pub Numbered : Literal → Type 0
 Numbered x = numberOf (atomOf x) < numberLimit
-
--- a key's number, which stands for it
-pub record EncodedKey (k : Key) (c : ℕ) : Type 0 where
-  pub code : c ≡ keyCode k
-  pub back : keyAt c ≡ k
-  pub small : c < 262144
 
 -- a literal's number, which stands for it
 pub record Encoded (l : Literal) (x : ℕ) : Type 0 where

@@ -3,12 +3,13 @@ use mathlib.Core.Path.{_≡_}
 use mathlib.Core.Bool.{Bool, true, not, cond, _&&_, _||_}
 use mathlib.Core.List.{List, [], _∷_, _++_, map}
 use mathlib.Core.Option.{none, some}
-use Prim.Native.Nat.{ℕ, zero, suc, _+_, _-_, _/_, _≤_}
+use Prim.Native.Nat.{ℕ, zero, suc, _+_, _-_, _/_, _≤_, _<_}
 use lib.Dec.{ltb, eqb}
 use lib.ListN.{length, getD, take, drop, replicate}
+use Rattle.product.specs.declared.literal.Key.{Key}
 use Rattle.product.specs.Product.{Product, insert, contradictory}
 use Rattle.product.specs.Sum.{Sum, Sum?, cap, present}
-use Rattle.product.specs.Code.{literalAt}
+use Rattle.product.specs.Code.{keyCode, keyAt, literalAt}
 use Rattle.product.specs.Cells.{sizeOf, productOf, productsOf, sumOf, rowOf, rowsOf}
 
 -- a count that is clamped, of a row of 8 cells
@@ -16,6 +17,12 @@ pub record Size (row : List ℕ) (n : ℕ) : Type 0 where
   pub size : n ≡ sizeOf row
   pub small : n ≤ 6
   pub cells : length row ≡ 8
+
+-- a key's number, which stands for it
+pub record EncodedKey (k : Key) (c : ℕ) : Type 0 where
+  pub code : c ≡ keyCode k
+  pub back : keyAt c ≡ k
+  pub small : c < 262144
 
 -- the product that the first n of sixteen cells hold
 abbrev pub wideOf : ℕ → List ℕ → Product

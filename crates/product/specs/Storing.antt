@@ -2,13 +2,17 @@
 -- of such products that fits 8 rows. Proved in `proofs/Storing.antt`. Assumes nothing.
 use mathlib.Core.Path.{_≡_}
 use mathlib.Core.Option.{some}
-use Prim.Native.Nat.{_≤_}
+use Prim.Native.Nat.{ℕ, _≤_, _<_}
 use lib.ListN.{length}
 use Rattle.product.specs.declared.literal.Literal.{Literal}
 use Rattle.product.specs.Product.{Product, All}
 use Rattle.product.specs.Sum.{Sum, mostProducts, mostLiterals}
-use Rattle.product.specs.Code.{codeOf, literalOf, Numbered}
+use Rattle.product.specs.Code.{codeOf, literalAt, literalOf, codeLimit, Numbered}
 use Rattle.product.specs.Cells.{productOf, rowOf, sumOf, rowsOf}
+
+-- the two readings of a number agree where a literal's number can be
+abbrev pub SameReading : Type 0
+SameReading = (x : ℕ) → x < codeLimit → literalOf x ≡ literalAt x
 
 abbrev pub LiteralBack : Type 0
 LiteralBack = (x : Literal) → Numbered x → literalOf (codeOf x) ≡ x

@@ -1,7 +1,8 @@
 // Keys and literals, and a literal as one number.
 ghost use mathlib.Core.Path.{_≡_};
 ghost use Prim.Native.Nat.{_<_};
-ghost use Rattle.product.specs.Code.{keyAt, literalOf, EncodedKey, Encoded};
+ghost use Rattle.product.specs.Code.{keyAt, literalOf, Encoded};
+ghost use Rattle.product.specs.Steps.{EncodedKey};
 
 // Document 01: a key is a kind with a 16-bit number: U user, R run, S segment, D defined by a user.
 pub enum Key {

@@ -22,7 +22,7 @@ pub const MOST_PRODUCTS: usize = 8;
 pub const TOO_WIDE: usize = 9;
 
 // The sum of one literal.
-pub fn single(rows: &mut Rows, l: Literal) -> usize
+pub fn single(l: Literal, rows: &mut Rows) -> usize
     ensures { λ r. ⌜ Written (some ((l ∷ []) ∷ [])) (now (rows .exit)) r ⌝ }
 {
     *rows = [[0u32; 8]; 8];
