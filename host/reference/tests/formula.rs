@@ -115,8 +115,8 @@ fn every_node_must_fit_as_it_stands() {
     refused("(D0|D1|D2)&(D3|D4|D5)&(D6&!D6)", 12);
     refused("(D6&!D6)&(D0|D1|D2)&(D3|D4|D5)", 13);
     refused("(D6&!D6)&((D0|D1|D2)&(D3|D4|D5))", 12);
-    // Only the node's own number of NOTs counts: nine products plain, but six
-    // and one barred.
+    // Only the node's own number of NOTs counts: nine products plain, but two
+    // barred.
     accepted("!((D0|D1|D2)&(D3|D4|D5))", &["!D0 !D1 !D2", "!D3 !D4 !D5"]);
     refused("!!((D0|D1|D2)&(D3|D4|D5))", 12);
     accepted("!(D0|D1|D2|D3|D4|D5)", &["!D0 !D1 !D2 !D3 !D4 !D5"]);

@@ -1,6 +1,6 @@
 //! Times both guards on the same formula texts, in one run, and prints a table.
 //!
-//! Run it with `cargo run --release --bin bench`. It fails where the proved
+//! Run it in `host/` with `cargo run --offline --release --bin bench`. It fails where the proved
 //! guard takes more than [`LIMIT`] times as long as the reference on a text
 //! that is marked.
 
