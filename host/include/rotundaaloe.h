@@ -29,6 +29,19 @@ extern "C" {
 uint32_t rotundaaloe_compile(const uint8_t *text, size_t length, uint32_t users, uint32_t threads,
                              uint32_t segments, uint32_t defined, uint32_t rows[8][8]);
 
+/*
+ * Whether a key set opens one of the first count products in the rows: each plain key of
+ * the product is in the set, and no barred one is.
+ *
+ * keys are the numbers of the set's keys, in any order; a key's number is
+ * kind * 65536 + number.
+ *
+ * Answer: 1 if it opens one, 0 if none. A count above 8 is that of a sum that is too wide,
+ * which no key set opens. No cell is changed.
+ */
+uint32_t rotundaaloe_opens(const uint32_t rows[8][8], size_t count, const uint32_t *keys,
+                           size_t keys_count);
+
 #ifdef __cplusplus
 }
 #endif

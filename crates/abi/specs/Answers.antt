@@ -1,4 +1,5 @@
--- How a caller in C sees the outcome of a formula text: one number, and rows of cells. Assumes nothing.
+-- How a caller in C sees the outcome of a formula text: one number, and rows of cells; and a truth value. Assumes nothing.
+use mathlib.Core.Bool.{Bool, true, false}
 use mathlib.Core.List.{List}
 use Prim.Native.Nat.{ℕ}
 use lib.ListN.{length}
@@ -23,3 +24,8 @@ rowsIn (accepted ps) old = rowsOf ps
 rowsIn malformed old = old
 rowsIn tooWide old = old
 rowsIn unsatisfiable old = old
+
+-- a truth value as a number
+abbrev pub bit : Bool → ℕ
+bit true = 1
+bit false = 0

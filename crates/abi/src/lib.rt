@@ -1,2 +1,3 @@
 // The guard for C and Rust: thin exported functions over the proved crates, with the C header in host/include.
+pub mod held;
 pub mod text;

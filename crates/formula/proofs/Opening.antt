@@ -1,5 +1,5 @@
 -- The opening law of an accepted text, its bounds, and with them the laws of the compiler. Assumes nothing.
-use mathlib.Core.Path.{_≡_, refl, sym, _∙_}
+use mathlib.Core.Path.{_≡_, refl, sym, ap, _∙_}
 use mathlib.Core.Bool.{true, false}
 use mathlib.Core.List.{[], _∷_}
 use mathlib.Core.Option.{some}
@@ -13,6 +13,7 @@ use Rattle.product.specs.Atom.{numberOf, atomOf}
 use Rattle.product.specs.Product.{All, no-more, and-more}
 use Rattle.product.specs.Sum.{Sum, opensAny, narrow, fitsNode}
 use Rattle.product.specs.Code.{Numbered}
+use Rattle.product.specs.Held.{opensSum}
 use Rattle.product.proofs.Truth.{and-both}
 use Rattle.product.proofs.Every.{all-mapped}
 use Rattle.product.proofs.Storing.{sum-back}
@@ -23,7 +24,7 @@ use Rattle.formula.specs.Text.{issuedOf, issuedTo, allIssued}
 use Rattle.formula.specs.Nodes.{products, fits}
 use Rattle.formula.specs.Outcome.{Outcome, accepted, tooWide, judgeList, outcomeOf}
 use Rattle.formula.specs.Compiler.{Kept, Bounded, Laws}
-use Rattle.formula.specs.Opening.{Opened, OpeningLaw, AcceptedWhere, textHolds, HoldsSpelt, StoredLaw}
+use Rattle.formula.specs.Opening.{Opened, OpeningLaw, AcceptedWhere, textHolds, HoldsSpelt, StoredLaw, StoredOpens}
 use Rattle.formula.proofs.Reading.{reader-complete}
 use Rattle.formula.proofs.Nodes.{opening, every-atom, products-ordered, products-atoms, products-witness, fits-node}
 use Rattle.formula.proofs.Judging.{outcome-text, Judged, formula, none-such, judged, list-fits, judged-fits, judged-accepted}
@@ -115,3 +116,6 @@ pub stored-law : StoredLaw
 stored-law i s ps e =
     let b = opening-law i s ps e .bounds in
     sum-back ps (b .few) (all-mapped (λ p k. record { short = k .short; numbers = k .numbers }) (b .each))
+
+pub stored-opens : StoredOpens
+stored-opens i s ps e ρ = ap (opensSum ρ) (stored-law i s ps e) ∙ laws .opening i s ps e ρ

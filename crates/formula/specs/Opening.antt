@@ -10,6 +10,7 @@ use lib.ListN.{length}
 use Rattle.product.specs.Atom.{Atom}
 use Rattle.product.specs.Sum.{Sum, opensAny}
 use Rattle.product.specs.Cells.{sumOf, rowsOf}
+use Rattle.product.specs.Held.{opensSum}
 use Rattle.formula.specs.declared.text.Issued.{Issued}
 use Rattle.formula.specs.Tree.{ors, Tree, holds}
 use Rattle.formula.specs.Text.{Text}
@@ -53,3 +54,9 @@ HoldsSpelt = (i : Issued) (s : List ℕ) (t : Tree ors) → Text i s t → (ρ :
 -- what is stored of an accepted text, its products as rows of numbers, is read back as its products
 abbrev pub StoredLaw : Type 0
 StoredLaw = (i : Issued) (s : List ℕ) (ps : Sum) → outcomeOf i s ≡ accepted ps → sumOf (length ps) (rowsOf ps) ≡ some ps
+
+-- so a key set opens what is stored exactly where it makes the formula true
+abbrev pub StoredOpens : Type 0
+StoredOpens =
+    (i : Issued) (s : List ℕ) (ps : Sum) → outcomeOf i s ≡ accepted ps → (ρ : Atom → Bool)
+    → opensSum ρ (sumOf (length ps) (rowsOf ps)) ≡ textHolds ρ s

@@ -57,7 +57,7 @@ keys-compare c d =
     pairs 65536 c d (kindOf (keyAt c)) (numberOf (keyAt c)) (kindOf (keyAt d)) (numberOf (keyAt d)) (p .whole) (q .whole)
     (λ h. p .digit (omega (arith, q .most))) (λ h. q .digit (omega (arith, p .most)))
 
-key-code : (c : ℕ) → keyCode (keyAt c) ≡ c
+pub key-code : (c : ℕ) → keyCode (keyAt c) ≡ c
 unfolding keyCode
 key-code c = sym (digits c .whole)
 

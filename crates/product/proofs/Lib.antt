@@ -10,3 +10,4 @@ pub mod Placing
 pub mod Widening
 pub mod Filling
 pub mod Storing
+pub mod Asking

@@ -7,12 +7,13 @@ use mathlib.Core.List.{[], _∷_, _++_}
 use mathlib.Core.Logic.{⊎-elim}
 use Prim.Native.Nat.{ℕ}
 use native.Mathlib.Omega.{arith}
+use borrow.Author.Tests.{not-true}
 use Rattle.product.specs.declared.literal.Literal.{Literal}
 use Rattle.product.specs.declared.literal.Literal.the-variants.{Plain, Barred}
 use Rattle.product.specs.Atom.{Atom, atomOf, agrees, orderOf, isEqual, compareAtoms, compareLiterals}
 use Rattle.product.specs.Product.{Product, opens, same, before, insert, union, opposed, clashes, contradictory, sameProduct}
 use Rattle.product.specs.Sum.{Sum, opensAny, joinEach, joinAll, present, consistent, firsts, tidy, conjoin, disjoin}
-use Rattle.product.proofs.Truth.{and-left-comm, and-rotate, and-or-left, and-or-right, and-not-self, not-self-and, or-again, or-cases, or-neither, or-right, and-both, not-true, true-false, never-true}
+use Rattle.product.proofs.Truth.{and-left-comm, and-rotate, and-or-left, and-or-right, and-not-self, not-self-and, or-again, or-cases, or-neither, or-right, and-both, true-false, never-true}
 use Rattle.product.proofs.Ordering.{compare-equal, compare-same, literal-equal, literal-same, is-equal}
 
 pub same-equal : (x y : Literal) → same x y ≡ true → x ≡ y

@@ -64,10 +64,6 @@ and-last false b c e = cc
 pub both-and : {a b : Bool} → a ≡ true → b ≡ true → (a && b) ≡ true
 both-and e f = rw (e, f)
 
-pub not-true : (b : Bool) → not b ≡ true → b ≡ false
-not-true true e = cc
-not-true false e = refl
-
 pub false-not : {b : Bool} → b ≡ false → not b ≡ true
 false-not e = rw e
 

@@ -5,3 +5,4 @@ pub mod Code
 pub mod Cells
 pub mod Storing
 pub mod Steps
+pub mod Held

@@ -143,7 +143,7 @@ fn greater(x: u32, y: u32) -> u32
 }
 
 // How many literals a row holds.
-fn size(row: &Cells) -> usize
+pub(crate) fn size(row: &Cells) -> usize
     ensures { λ r. ⌜ Size (now (row .entry)) r ⌝ }
 {
     let n = last_cell(row);

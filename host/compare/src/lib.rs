@@ -1,5 +1,6 @@
-//! The proved guard as Rust sees it: one declaration, one safe wrapper, and
-//! the translation between its rows and the reference's products.
+//! The proved guard as Rust sees it: its declarations, a safe wrapper for each,
+//! and the translation between its rows and numbers and the reference's products
+//! and keys.
 
 use reference::formula::{Literal, MAX_LITERALS, Product};
 use reference::{Issued, Key, Kind};
@@ -27,6 +28,13 @@ unsafe extern "C" {
         defined: u32,
         rows: *mut [u32; CELLS],
     ) -> u32;
+
+    fn rotundaaloe_opens(
+        rows: *const [u32; CELLS],
+        count: usize,
+        keys: *const u32,
+        keys_len: usize,
+    ) -> u32;
 }
 
 /// The proved guard's sum of products of a text. The answer is the number of
@@ -47,6 +55,16 @@ pub fn compile(text: &[u8], issued: &Issued, rows: &mut Rows) -> u32 {
             rows.as_mut_ptr(),
         )
     }
+}
+
+/// Whether the proved guard says that a key set, given by its keys' numbers,
+/// opens one of the first `count` products.
+pub fn opens(rows: &Rows, count: usize, keys: &[u32]) -> bool {
+    // SAFETY: `rows` is valid for reading eight rows of eight cells and `keys`
+    // for reading its length, and no one writes to either meanwhile. The
+    // function keeps neither pointer.
+    let answer = unsafe { rotundaaloe_opens(rows.as_ptr(), count, keys.as_ptr(), keys.len()) };
+    answer == 1
 }
 
 /// A cell is its kind's place times this, plus twice the number, plus 1 if the
@@ -72,10 +90,15 @@ pub fn rows_of(products: &[Product]) -> Rows {
 }
 
 fn cell_of(literal: &Literal) -> u32 {
-    let key = literal.key;
+    key_number(&literal.key) * 2 + u32::from(literal.barred)
+}
+
+/// The number that the proved guard knows a key by: its kind's place times half
+/// a [`KIND_STEP`], plus its own number.
+pub fn key_number(key: &Key) -> u32 {
     let place = KINDS.iter().position(|kind| *kind == key.kind);
     let place = place.expect("all four kinds have a place") as u32;
-    place * KIND_STEP + u32::from(key.number) * 2 + u32::from(literal.barred)
+    place * (KIND_STEP / 2) + u32::from(key.number)
 }
 
 /// The literals of a row. Panics where the row is none that a product is

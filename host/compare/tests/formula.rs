@@ -6,7 +6,7 @@
 
 mod texts;
 
-use compare::{CELLS, ROWS, Rows, literals_of, rows_of};
+use compare::{CELLS, ROWS, Rows, key_number, literals_of, rows_of};
 use reference::formula::{Literal, parse};
 use reference::random::Random;
 use reference::{Issued, Key, Kind};
@@ -348,9 +348,9 @@ fn damaged_texts() {
     assert!(tally.of(UNSATISFIABLE) > 10_000);
 }
 
-/// The law that the layers above rest on, asked of the proved guard's cells
-/// and the reference's tree: a key set opens a product exactly where the
-/// formula holds for it.
+/// The law that the layers above rest on, asked of the proved guard's cells,
+/// of the proved guard itself and of the reference's tree: a key set opens a
+/// product exactly where the formula holds for it.
 #[test]
 fn the_rows_open_where_the_formula_holds() {
     let mut random = Random::new(16);
@@ -363,11 +363,12 @@ fn the_rows_open_where_the_formula_holds() {
         };
         let mut rows = untouched();
         let answer = compare::compile(&case.text, &case.issued, &mut rows);
-        let products: Vec<Vec<Literal>> = match answer {
+        let count = match answer {
             MALFORMED | TOO_WIDE => continue,
-            UNSATISFIABLE => Vec::new(),
-            count => rows[..count as usize].iter().map(literals_of).collect(),
+            UNSATISFIABLE => 0,
+            count => count as usize,
         };
+        let products: Vec<Vec<Literal>> = rows[..count].iter().map(literals_of).collect();
         let formula = parse(&case.text, &case.issued).expect("the proved guard has read it");
         let keys = formula.keys();
         for _ in 0..8 {
@@ -375,10 +376,13 @@ fn the_rows_open_where_the_formula_holds() {
             let opens = products
                 .iter()
                 .any(|product| product.iter().all(|l| set.contains(&l.key) != l.barred));
+            let holds = formula.holds(&set);
+            assert_eq!(opens, holds, "{} on {set:?}", case.text.escape_ascii());
+            let numbers: Vec<u32> = set.iter().map(key_number).collect();
             assert_eq!(
-                opens,
-                formula.holds(&set),
-                "{} on {set:?}",
+                compare::opens(&rows, count, &numbers),
+                holds,
+                "the proved guard on {} and {set:?}",
                 case.text.escape_ascii()
             );
             match (answer, opens) {
