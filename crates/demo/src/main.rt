@@ -8,6 +8,9 @@ use libc::STDOUT_FILENO;
 use product::literal::Key;
 use product::literal::Literal;
 use product::literal::decode;
+use product::sum::COUNT_CELL;
+use product::sum::MOST_LITERALS;
+use product::sum::MOST_PRODUCTS;
 
 fn main() {
     show(b"D0&!D0");
@@ -55,7 +58,7 @@ fn print_products(compiled: Compiled) {
     let count = compiled.count;
     let rows = compiled.rows;
     let mut i = 0;
-    while i < 8 {
+    while i < MOST_PRODUCTS {
         if i < count {
             let row = rows[i];
             let cells = row.cells;
@@ -72,10 +75,9 @@ fn print_products(compiled: Compiled) {
 
 // Literals joined by `&`.
 fn print_product(cells: [u32; 8]) {
-    let size = cells[7];
-    let mut left = size;
+    let mut left = cells[COUNT_CELL];
     let mut i = 0;
-    while i < 6 {
+    while i < MOST_LITERALS {
         if 0 < left {
             if 0 < i {
                 print(b"&");

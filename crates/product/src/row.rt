@@ -7,14 +7,13 @@ ghost use Rattle.product.specs.Product.{union, clashes, contradictory};
 ghost use Rattle.product.specs.Code.{literalAt};
 ghost use Rattle.product.specs.Cells.{productOf};
 ghost use Rattle.product.specs.Steps.{Size, Blank, Row, Inserted, Joined, wideOf, sameCells, lesserOf, greaterOf, opposedCodes};
+use crate::sum::COUNT_CELL;
+use crate::sum::MOST_LITERALS;
 
 // The cells of a product, and those in which two are joined.
 pub(crate) type Cells = [u32; 8];
 
 pub(crate) type Wide = [u32; 16];
-
-// The most literals of a product that fits.
-pub(crate) const MOST_LITERALS: usize = 6;
 
 // The row's product, in sixteen cells.
 pub(crate) fn widen(row: &Cells, cells: &mut Wide) -> usize
@@ -153,5 +152,9 @@ pub(crate) fn size(row: &Cells) -> usize
 fn last_cell(row: &[u32]) -> usize
     ensures { λ r. ⌜ r ≡ getD (now (row .entry)) 7 0 ⌝ }
 {
-    if 7 < row.len() { row[7] as usize } else { 0 }
+    if COUNT_CELL < row.len() {
+        row[COUNT_CELL] as usize
+    } else {
+        0
+    }
 }

@@ -13,10 +13,14 @@ use crate::row;
 use crate::row::Cells;
 use crate::row::Wide;
 
-// A sum's rows, each of them a product.
+// A sum's rows, each of them a product: its literals from cell 0 on, and how many they are.
 pub type Rows = [[u32; 8]; 8];
 
-// The most products of a sum that fits, and the count of one that is too wide.
+pub const COUNT_CELL: usize = 7;
+
+// The most literals of a product that fits, the most products of a sum that does, and the count of a sum that is too wide.
+pub const MOST_LITERALS: usize = 6;
+
 pub const MOST_PRODUCTS: usize = 8;
 
 pub const TOO_WIDE: usize = 9;
@@ -119,7 +123,7 @@ fn add(rows: &mut Rows, n: usize, cells: &Wide, size: usize) -> usize
     if row::contradictory(cells, size) {
         return n;
     }
-    if row::MOST_LITERALS < size {
+    if MOST_LITERALS < size {
         return TOO_WIDE;
     }
     let row = row::narrow(cells, size);

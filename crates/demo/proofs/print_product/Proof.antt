@@ -6,10 +6,10 @@ use Rattle.demo.proofs.print_product.Statement.{statement}
 use Rattle.demo.proofs.print_product.Tie as tie
 
 abbrev Inv-loop : tie.InvT-loop
-Inv-loop cells size left₀ i₀ t6 left i = i ≤ 6
+Inv-loop cells left₀ i₀ t6 left i = i ≤ 6
 
 abbrev μ-loop : tie.MeasureT-loop
-μ-loop cells size left₀ i₀ t6 left i = 6 - i
+μ-loop cells left₀ i₀ t6 left i = 6 - i
 
 loop-holds : tie.Need-loop-holds Inv-loop μ-loop
 loop-holds c = omega arith
