@@ -14,21 +14,25 @@ returns : tie.Need-returns
 returns c =
     let a = c .before .before .before .before .before .args in
     let s = now (a .text) in
-    rw (number-none s (a .at) (ap (λ (x : ℕ). digit x) (sym (c .before .before .before .byte-at .ensures)) ∙ (sym (c .before .is-digit .ensures) ∙ not-true (c .before .is-digit .result) (c .if1 .taken)))) no-digits
+    rw
+    (number-none s (a .at) (ap (λ (x : ℕ). digit x) (sym (c .before .before .before .byte-at .ensures)) ∙ (sym (c .before .is-digit .ensures) ∙ not-true (c .before .is-digit .result) (c .if1 .taken)))) no-digits
 
 returns-2 : tie.Need-returns-2
 returns-2 c =
     let a = c .before .before .before .before .before .before .before .args in
     let s = now (a .text) in
     let p = rw (c .before .before .before .before .before .byte-at .ensures, c .before .is-digit2 .ensures, c .before .before .before .before .byte-at2 .ensures) at (c .if2 .taken) in
-    rw (number-padded s (a .at) (ap (λ (x : ℕ). digit x) (sym (c .before .before .before .before .before .byte-at .ensures)) ∙ (sym (c .before .before .before .is-digit .ensures) ∙ not-false (c .before .before .before .is-digit .result) (c .before .before .if1 .left))) p) no-digits
+    rw
+    (number-padded s (a .at) (ap (λ (x : ℕ). digit x) (sym (c .before .before .before .before .before .byte-at .ensures)) ∙ (sym (c .before .before .before .is-digit .ensures) ∙ not-false (c .before .before .before .is-digit .result) (c .before .before .if1 .left))) p) no-digits
 
 returns-3 : tie.Need-returns-3
 returns-3 c =
     let a = c .before .before .before .before .before .before .before .before .args in
     let s = now (a .text) in
     let p = rw (c .before .before .before .before .before .before .byte-at .ensures, c .before .before .is-digit2 .ensures, c .before .before .before .before .before .byte-at2 .ensures) at (c .before .if2 .left) in
-    rw (number-some s (a .at) (ap (λ (x : ℕ). digit x) (sym (c .before .before .before .before .before .before .byte-at .ensures)) ∙ (sym (c .before .before .before .before .is-digit .ensures) ∙ not-false (c .before .before .before .before .is-digit .result) (c .before .before .before .if1 .left))) p) (c .read-digits .ensures)
+    rw
+    (number-some s (a .at) (ap (λ (x : ℕ). digit x) (sym (c .before .before .before .before .before .before .byte-at .ensures)) ∙ (sym (c .before .before .before .before .is-digit .ensures) ∙ not-false (c .before .before .before .before .is-digit .result) (c .before .before .before .if1 .left))) p)
+    (c .read-digits .ensures)
 
 pub read-number-spec : {M : Type 1} → statement M
 read-number-spec =

@@ -158,7 +158,9 @@ more-and-returns-3 t c =
     let s = now (a .text) in
     let k = andChain (a .issued) (a .level) (a .odd) in
     let e : getD s (a .at) 0 ≡ 38 = sym (c .before .before .before .before .before .before .before .before .before .before .before .byte-at .ensures) ∙ c .before .before .before .before .before .before .before .before .before .before .if1 .left in
-    chain-grown k s (a .at) e (c .before .before .before .before .before .before .part .given .1) (c .before .before .before .before .before .before .before .before .read-not .ensures) (c .before .before .join .ensures) (c .more-and .ensures)
+    chain-grown k s (a .at) e (c .before .before .before .before .before .before .part .given .1)
+    (c .before .before .before .before .before .before .before .before .read-not .ensures) (c .before .before .join .ensures)
+    (c .more-and .ensures)
 
 more-or-returns : (t : ℕ) → more-or-lts.Need-returns (more-or-calls t) (more-or-at t) more-or.Post
 more-or-returns t c =
@@ -203,7 +205,9 @@ more-or-returns-3 t c =
     let s = now (a .text) in
     let k = orChain (a .issued) (a .level) (a .odd) in
     let e : getD s (a .at) 0 ≡ 124 = sym (c .before .before .before .before .before .before .before .before .before .before .before .byte-at .ensures) ∙ c .before .before .before .before .before .before .before .before .before .before .if1 .left in
-    chain-grown k s (a .at) e (c .before .before .before .before .before .before .part .given .1) (c .before .before .before .before .before .before .before .before .read-and .ensures) (c .before .before .join .ensures) (c .more-or .ensures)
+    chain-grown k s (a .at) e (c .before .before .before .before .before .before .part .given .1)
+    (c .before .before .before .before .before .before .before .before .read-and .ensures) (c .before .before .join .ensures)
+    (c .more-or .ensures)
 
 read-and-read-not-requires : (t : ℕ) → read-and-lts.Need-read-not-requires (read-and-calls t) (read-and-at t) read-and.Post
 read-and-read-not-requires t c κs = (omega (arith, c .before .before .pre .0), tt)
@@ -248,7 +252,9 @@ read-bracket-returns-3 : (t : ℕ) → read-bracket-lts.Need-returns-3 (read-bra
 read-bracket-returns-3 t c =
     let a = c .before .before .before .before .before .before .before .before .before .args in
     let s = now (a .text) in
-    bracket-unclosed (a .issued) s (a .odd) (a .at) (a .level) (c .before .before .before .before .before .before .before .if1 .left) (c .before .before .before .inner .given .1) (c .before .before .before .before .before .read-or .ensures) (λ e. c .if2 .taken (c .before .byte-at .ensures ∙ e))
+    bracket-unclosed (a .issued) s (a .odd) (a .at) (a .level) (c .before .before .before .before .before .before .before .if1 .left)
+    (c .before .before .before .inner .given .1) (c .before .before .before .before .before .read-or .ensures)
+    (λ e. c .if2 .taken (c .before .byte-at .ensures ∙ e))
 
 read-bracket-add-t11 : (t : ℕ) → read-bracket-lts.Need-add-t11 (read-bracket-calls t) (read-bracket-at t) read-bracket.Post
 read-bracket-add-t11 t c =
@@ -260,7 +266,9 @@ read-bracket-returns-4 : (t : ℕ) → read-bracket-lts.Need-returns-4 (read-bra
 read-bracket-returns-4 t c =
     let a = c .before .before .before .before .before .before .before .before .before .args in
     let s = now (a .text) in
-    bracket-closed (a .issued) s (a .odd) (a .at) (a .level) (c .before .before .before .before .before .before .before .if1 .left) (c .before .before .before .inner .given .1) (c .before .before .before .before .before .read-or .ensures) (sym (c .before .byte-at .ensures) ∙ c .if2 .left)
+    bracket-closed (a .issued) s (a .odd) (a .at) (a .level) (c .before .before .before .before .before .before .before .if1 .left)
+    (c .before .before .before .inner .given .1) (c .before .before .before .before .before .read-or .ensures)
+    (sym (c .before .byte-at .ensures) ∙ c .if2 .left)
 
 read-not-add-read-not : (t : ℕ) → read-not-lts.Need-add-read-not (read-not-calls t) (read-not-at t) read-not.Post
 read-not-add-read-not t c =
@@ -308,7 +316,9 @@ read-not-returns-3 : (t : ℕ) → read-not-lts.Need-returns-3 (read-not-calls t
 read-not-returns-3 t c =
     let a = c .before .before .before .before .before .before .args in
     let s = now (a .text) in
-    not-atom (a .issued) s (a .level) (a .odd) (a .at) (λ e. c .before .before .before .if1 .left (c .before .before .before .before .byte-at .ensures ∙ e)) (λ e. c .before .before .if2 .left (c .before .before .before .before .byte-at .ensures ∙ e)) (c .read-atom .ensures)
+    not-atom (a .issued) s (a .level) (a .odd) (a .at)
+    (λ e. c .before .before .before .if1 .left (c .before .before .before .before .byte-at .ensures ∙ e))
+    (λ e. c .before .before .if2 .left (c .before .before .before .before .byte-at .ensures ∙ e)) (c .read-atom .ensures)
 
 read-or-read-and-requires : (t : ℕ) → read-or-lts.Need-read-and-requires (read-or-calls t) (read-or-at t) read-or.Post
 read-or-read-and-requires t c κs = (omega (arith, c .before .before .pre .0), tt)

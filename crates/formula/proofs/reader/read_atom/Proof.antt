@@ -20,21 +20,30 @@ returns-3 : tie.Need-returns-3
 returns-3 c =
     let a = c .before .before .before .before .before .before .before .before .before .before .args in
     let s = now (a .text) in
-    atom-unnamed (a .issued) s (a .odd) (a .at) (c .before .before .before .before .number .given .1) (c .before .before .before .before .before .before .read-number .ensures) (c .before .before .key-named .ensures) (c .enum-told2 .given .1)
+    atom-unnamed (a .issued) s (a .odd) (a .at) (c .before .before .before .before .number .given .1)
+    (c .before .before .before .before .before .before .read-number .ensures) (c .before .before .key-named .ensures) (c .enum-told2 .given .1)
 
 returns-4 : tie.Need-returns-4
 returns-4 c =
     let a = c .before .before .before .before .before .before .before .before .before .before .before .before .before .args in
     let s = now (a .text) in
     let k = c .before .before .before .found .given .0 .0 in
-    atom-unknown (a .issued) s (a .odd) (a .at) (c .before .before .before .before .before .before .before .number .given .1) (c .before .before .before .before .before .before .before .before .before .read-number .ensures) (c .before .before .before .before .before .key-named .ensures) k (c .before .before .before .found .given .1) (sym (c .before .is-issued .ensures) ∙ not-true (c .before .is-issued .result) (c .if2 .taken))
+    atom-unknown (a .issued) s (a .odd) (a .at) (c .before .before .before .before .before .before .before .number .given .1)
+    (c .before .before .before .before .before .before .before .before .before .read-number .ensures)
+    (c .before .before .before .before .before .key-named .ensures) k (c .before .before .before .found .given .1)
+    (sym (c .before .is-issued .ensures) ∙ not-true (c .before .is-issued .result) (c .if2 .taken))
 
 returns-5 : tie.Need-returns-5
 returns-5 c =
     let a = c .before .before .before .before .before .before .before .before .before .before .before .before .before .before .before .before .args in
     let s = now (a .text) in
     let k = c .before .before .before .before .before .before .found .given .0 .0 in
-    atom-known (a .issued) s (a .odd) (a .at) (c .before .before .before .before .before .before .before .before .before .before .number .given .1) (c .before .before .before .before .before .before .before .before .before .before .before .before .read-number .ensures) (c .before .before .before .before .before .before .before .before .key-named .ensures) k (c .before .before .before .before .before .before .found .given .1) (sym (c .before .before .before .before .is-issued .ensures) ∙ not-false (c .before .before .before .before .is-issued .result) (c .before .before .before .if2 .left)) (atom-list (a .odd) k (c .before .before .signed .ensures) (c .single .ensures))
+    atom-known (a .issued) s (a .odd) (a .at) (c .before .before .before .before .before .before .before .before .before .before .number .given .1)
+    (c .before .before .before .before .before .before .before .before .before .before .before .before .read-number .ensures)
+    (c .before .before .before .before .before .before .before .before .key-named .ensures) k
+    (c .before .before .before .before .before .before .found .given .1)
+    (sym (c .before .before .before .before .is-issued .ensures) ∙ not-false (c .before .before .before .before .is-issued .result) (c .before .before .before .if2 .left))
+    (atom-list (a .odd) k (c .before .before .signed .ensures) (c .single .ensures))
 
 pub read-atom-spec : {M : Type 1} → statement M
 read-atom-spec =

@@ -22,25 +22,31 @@ returns-3 : tie.Need-returns-3
 returns-3 c =
     let a = c .before .before .before .before .before .before .before .before .before .args in
     let s = now (a .text) in
-    c .refused3 .ensures ∙ text-longer (a .issued) s (c .before .before .before .before .before .before .before .if1 .left) (c .before .before .before .before .before .read-or .ensures) (c .before .before .before .node .given .1) (c .before .if2 .taken)
+    c .refused3 .ensures ∙ text-longer (a .issued) s (c .before .before .before .before .before .before .before .if1 .left)
+    (c .before .before .before .before .before .read-or .ensures) (c .before .before .before .node .given .1) (c .before .if2 .taken)
 
 returns-4 : tie.Need-returns-4
 returns-4 c =
     let a = c .before .before .before .before .before .before .before .before .before .before .args in
     let s = now (a .text) in
-    c .refused4 .ensures ∙ text-wide (a .issued) s (c .before .before .before .before .before .before .before .before .if1 .left) (c .before .before .before .before .before .before .read-or .ensures) (c .before .before .before .before .node .given .1) (c .before .before .if2 .left) (c .before .if3 .taken)
+    c .refused4 .ensures ∙ text-wide (a .issued) s (c .before .before .before .before .before .before .before .before .if1 .left)
+    (c .before .before .before .before .before .before .read-or .ensures) (c .before .before .before .before .node .given .1)
+    (c .before .before .if2 .left) (c .before .if3 .taken)
 
 returns-5 : tie.Need-returns-5
 returns-5 c =
     let a = c .before .before .before .before .before .before .before .before .before .before .before .args in
     let s = now (a .text) in
-    c .refused5 .ensures ∙ text-void (a .issued) s (c .before .before .before .before .before .before .before .before .before .if1 .left) (c .before .before .before .before .before .before .before .read-or .ensures) (c .before .before .before .before .before .node .given .1) (c .before .before .before .if2 .left) (c .before .if4 .taken)
+    c .refused5 .ensures ∙ text-void (a .issued) s (c .before .before .before .before .before .before .before .before .before .if1 .left)
+    (c .before .before .before .before .before .before .before .read-or .ensures) (c .before .before .before .before .before .node .given .1)
+    (c .before .before .before .if2 .left) (c .before .if4 .taken)
 
 returns-6 : tie.Need-returns-6
 returns-6 c =
     let a = c .before .before .before .before .before .before .before .before .before .before .before .before .args in
     let s = now (a .text) in
-    rw (c .packed .ensures) (text-accepted (a .issued) s (c .before .before .before .before .before .before .before .before .before .before .if1 .left) (c .before .before .before .before .before .before .before .before .read-or .ensures) (c .before .before .before .before .before .before .node .given .1) (c .before .before .before .before .if2 .left) (c .before .before .if4 .left) (c .before .before .before .if3 .left))
+    rw (c .packed .ensures)
+    (text-accepted (a .issued) s (c .before .before .before .before .before .before .before .before .before .before .if1 .left) (c .before .before .before .before .before .before .before .before .read-or .ensures) (c .before .before .before .before .before .before .node .given .1) (c .before .before .before .before .if2 .left) (c .before .before .if4 .left) (c .before .before .before .if3 .left))
 
 pub compile-spec : {M : Type 1} → statement M
 compile-spec =

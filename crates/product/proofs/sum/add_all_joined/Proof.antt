@@ -39,7 +39,10 @@ loop-again c =
     let b = c .before .before .before .before .before in
     let v = c .before .before .before .before .loop in
     let rights = productsOf (b .args .m) (now (b .args .right)) in
-    adding-more (v .inv) (joinEach (productOf (getD (now (b .args .left)) (v .i) [])) rights) (joinAll (drop (v .i + 1) (productsOf (b .args .n) (now (b .args .left)))) rights) (ap (λ (ps : Sum). joinAll ps rights) (part-cons productOf (now (b .args .left)) (b .args .n) (b .pre .1) (v .i) [] (search needs))) (c .add-joined .ensures)
+    adding-more (v .inv) (joinEach (productOf (getD (now (b .args .left)) (v .i) [])) rights)
+    (joinAll (drop (v .i + 1) (productsOf (b .args .n) (now (b .args .left)))) rights)
+    (ap (λ (ps : Sum). joinAll ps rights) (part-cons productOf (now (b .args .left)) (b .args .n) (b .pre .1) (v .i) [] (search needs)))
+    (c .add-joined .ensures)
 
 returns : tie.Need-returns Inv-loop μ-loop
 unfolding joinAll

@@ -34,7 +34,8 @@ loop-again : tie.Need-loop-again Inv-loop μ-loop
 loop-again c =
     let b = c .before .before .before .before .before .before .before .before in
     let v = c .before .before .before .before .before .before .before .loop in
-    adding-next (v .inv) _ _ (part-cons productOf (now (b .args .more)) (b .args .m) (b .pre .1) (v .i) [] (search needs)) (rw (c .before .before .before .widen .ensures .product) at (c .add .ensures))
+    adding-next (v .inv) _ _ (part-cons productOf (now (b .args .more)) (b .args .m) (b .pre .1) (v .i) [] (search needs))
+    (rw (c .before .before .before .widen .ensures .product) at (c .add .ensures))
 
 returns : tie.Need-returns Inv-loop μ-loop
 returns c =

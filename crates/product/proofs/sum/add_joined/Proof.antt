@@ -37,7 +37,9 @@ unfolding joinEach
 loop-again c =
     let b = c .before .before .before .before .before .before .before .before in
     let v = c .before .before .before .before .before .before .before .loop in
-    adding-next (v .inv) _ _ (ap (joinEach (productOf (now (b .args .p)))) (part-cons productOf (now (b .args .more)) (b .args .m) (b .pre .1) (v .i) [] (search needs))) (rw (c .before .before .before .join .ensures .product) at (c .add .ensures))
+    adding-next (v .inv) _ _
+    (ap (joinEach (productOf (now (b .args .p)))) (part-cons productOf (now (b .args .more)) (b .args .m) (b .pre .1) (v .i) [] (search needs)))
+    (rw (c .before .before .before .join .ensures .product) at (c .add .ensures))
 
 returns : tie.Need-returns Inv-loop μ-loop
 unfolding joinEach

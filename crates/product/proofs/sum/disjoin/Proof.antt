@@ -26,7 +26,8 @@ finish-requires c κs = search needs
 returns-3 : tie.Need-returns-3
 returns-3 c =
     let a = c .before .before .before .before .before .before .before .before .before .before .before .args in
-    disjoined (now (a .left)) (now (a .right)) (a .n) (a .m) (search needs) (search needs) (c .before .before .before .before .before .add-each .ensures) (c .before .before .add-each2 .ensures) (c .finish .ensures)
+    disjoined (now (a .left)) (now (a .right)) (a .n) (a .m) (search needs) (search needs)
+    (c .before .before .before .before .before .add-each .ensures) (c .before .before .add-each2 .ensures) (c .finish .ensures)
 
 pub disjoin-spec : {M : Type 1} → statement M
 disjoin-spec =
