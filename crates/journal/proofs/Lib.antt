@@ -1,0 +1,5 @@
+pub mod Storing
+pub mod Finding
+pub mod Judging
+pub mod Answering
+pub mod Files

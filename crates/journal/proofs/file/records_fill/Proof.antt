@@ -1,0 +1,53 @@
+-- The invariant is that the records left decide what all of them do; the measure is how many are left. Assumes nothing.
+use mathlib.Core.Path.{_≡_, refl, sym, _∙_}
+use borrow.Author.Needs.{needs}
+use Rattle.journal.specs.Reading.{word, wholeFrom}
+use Rattle.journal.proofs.Finding.{turn, no-turn, last-turn}
+use Rattle.journal.proofs.file.records_fill.Statement.{statement}
+use Rattle.journal.proofs.file.records_fill.Tie as tie
+
+abbrev Inv-loop : tie.InvT-loop
+Inv-loop file left₀ at₀ left at = wholeFrom left file at ≡ wholeFrom (word file 5) file 7
+
+abbrev μ-loop : tie.MeasureT-loop
+μ-loop file left₀ at₀ left at = left
+
+loop-holds : tie.Need-loop-holds Inv-loop μ-loop
+loop-holds c = rw (c .word-at .ensures)
+
+returns : tie.Need-returns Inv-loop μ-loop
+returns c =
+    let f = c .before .before in
+    no-turn _ _ _ _ (f .before .loop-test .taken) (sym (c .enum-told .given .1) ∙ f .record-at .ensures) refl ∙ f .before .before .loop .inv
+
+returns-2 : tie.Need-returns-2 Inv-loop μ-loop
+returns-2 c =
+    let f = c .before .before in
+    no-turn _ _ _ _ (f .before .loop-test .taken) (sym (c .enum-told2 .given .1) ∙ f .record-at .ensures) refl ∙ f .before .before .loop .inv
+
+loop-again : tie.Need-loop-again Inv-loop μ-loop
+loop-again c =
+    let f = c .before .before .before in
+    turn _ _ _ _ (f .before .loop-test .taken) (sym (c .before .entry .given .1) ∙ f .record-at .ensures) ∙ f .before .before .loop .inv
+
+returns-3 : tie.Need-returns-3 Inv-loop μ-loop
+returns-3 c = last-turn _ _ _ (c .loop-test .left) ∙ c .before .loop .inv
+
+pub records-fill-spec : {M : Type 1} → statement M
+records-fill-spec =
+    tie.close
+    (tie.spec
+    Inv-loop
+    μ-loop
+    (λ c κs. search needs)  -- word-at-requires
+    loop-holds
+    (λ c κs. search needs)  -- record-at-requires
+    (λ c. search needs)  -- enum-known-entry
+    (λ c. search needs)  -- enum-told
+    returns
+    (λ c. search needs)  -- enum-told-2
+    returns-2
+    (λ c. search needs)  -- sub-left
+    (λ c. search needs)  -- loop-less
+    loop-again
+    returns-3)

@@ -1,0 +1,60 @@
+-- The journal, as it is written (document 01: 'Desk file'): the bytes of a record, and of a file with a list of records. A record is a call.
+-- Assumes nothing.
+use mathlib.Core.Path.{_≡_}
+use mathlib.Core.Bool.{Bool, true}
+use mathlib.Core.List.{List, [], _∷_, _++_}
+use Prim.Native.Nat.{ℕ, _/_, _%_, _<_, _≤_}
+use lib.ListN.{length, getD}
+use Rattle.call.specs.Calls.{Call, recordFits}
+
+-- every element is a byte
+abbrev pub Bytes : List ℕ → Type 0
+Bytes s = (i : ℕ) → getD s i 0 < 256
+
+abbrev pub low : ℕ → ℕ
+low w = w % 256
+
+abbrev pub high : ℕ → ℕ
+high w = w / 256
+
+-- 16 bits, low byte first
+abbrev pub wordBytes : ℕ → List ℕ
+wordBytes w = low w ∷ high w ∷ []
+
+-- the letter's byte, a, b, c and the text length
+abbrev pub headBytes : ℕ → ℕ → ℕ → ℕ → ℕ → List ℕ
+headBytes l a b c n = l ∷ low a ∷ high a ∷ low b ∷ high b ∷ low c ∷ high c ∷ low n ∷ high n ∷ []
+
+-- the text follows
+abbrev pub recordBytes : Call → List ℕ
+recordBytes r = headBytes (r .letter) (r .a) (r .b) (r .c) (length (r .text)) ++ r .text
+
+abbrev pub allBytes : List Call → List ℕ
+allBytes [] = []
+allBytes (r ∷ rs) = recordBytes r ++ allBytes rs
+
+-- `KLD`, version 1 and the count
+abbrev pub fileHead : ℕ → List ℕ
+fileHead n = 75 ∷ 76 ∷ 68 ∷ 1 ∷ 0 ∷ low n ∷ high n ∷ []
+
+-- the file of a list of records
+unfoldable pub fileBytes : List Call → List ℕ
+fileBytes rs = fileHead (length rs) ++ allBytes rs
+
+abbrev pub mostBytes : ℕ
+mostBytes = 65535
+
+-- an unfit record has an unknown letter, an unnamed field that is not 0 or a wrong text length
+abbrev pub isFit : Call → Bool
+isFit r = recordFits (r .letter) (r .a) (r .b) (r .c) (length (r .text))
+
+-- a call that a file can hold
+pub record Recordable (r : Call) : Type 0 where
+  pub fit : isFit r ≡ true
+  pub a-word : r .a < 65536
+  pub b-word : r .b < 65536
+  pub c-word : r .c < 65536
+
+abbrev pub AllRecordable : List Call → Type 0
+AllRecordable [] = Unit {0}
+AllRecordable (r ∷ rs) = Recordable r × AllRecordable rs

@@ -1,0 +1,5 @@
+pub mod Format
+pub mod Verdicts
+pub mod Reading
+pub mod Appending
+pub mod Steps

@@ -1,0 +1,110 @@
+-- The journal, as it is read (document 01: 'Desk file'): a file is a list of bytes, and a cursor is a place in it. What stands at a cursor, the
+-- records of a file, and the first refusal of a file. Assumes nothing.
+use mathlib.Core.Bool.{Bool, cond, not, _&&_}
+use mathlib.Core.List.{List, [], _∷_}
+use mathlib.Core.Option.{Option, none, some}
+use Prim.Native.Nat.{ℕ, zero, suc, _+_, _*_}
+use lib.ListN.{length, getD, take, drop}
+use lib.Dec.{leb, ltb, eqb}
+use Rattle.call.specs.Calls.{Call, recordFits}
+use Rattle.journal.specs.declared.record.Entry.{Entry}
+use Rattle.journal.specs.declared.record.Found.{Found}
+use Rattle.journal.specs.declared.record.Found.the-variants.{Record, End, Damaged}
+use Rattle.journal.specs.declared.file.Refusal.{Refusal}
+use Rattle.journal.specs.declared.file.Refusal.the-variants.{NotJournal, OtherVersion, Corrupt}
+use Rattle.journal.specs.declared.file.Verdict.{Verdict}
+use Rattle.journal.specs.declared.file.Verdict.the-variants.{Readable, Refused}
+use Rattle.journal.specs.Format.{mostBytes}
+use Rattle.journal.specs.Verdicts.{Condition, when, firstRefusal}
+
+-- the 16 bits at i, low byte first
+abbrev pub word : List ℕ → ℕ → ℕ
+word s i = getD s i 0 + getD s (i + 1) 0 * 256
+
+-- ---- one record
+
+-- the record at a cursor
+abbrev pub recordOf : List ℕ → ℕ → Call
+recordOf s at =
+    record {
+      letter = getD s at 0;
+      a = word s (at + 1);
+      b = word s (at + 3);
+      c = word s (at + 5);
+      text = take (word s (at + 7)) (drop (at + 9) s);
+    }
+
+-- the cursor after it
+abbrev pub nextOf : List ℕ → ℕ → ℕ
+nextOf s at = at + 9 + word s (at + 7)
+
+-- the record is fit, and not cut short
+unfoldable pub wholeAt : List ℕ → ℕ → Bool
+wholeAt s at =
+    leb (at + 9) (length s)
+    && (recordFits (getD s at 0) (word s (at + 1)) (word s (at + 3)) (word s (at + 5)) (word s (at + 7))
+    && leb (nextOf s at) (length s))
+
+-- the letter and fields, where the text starts, and the cursor after the record
+abbrev pub entryOf : List ℕ → ℕ → Entry
+entryOf s at =
+    record {
+      letter = getD s at 0;
+      a = word s (at + 1);
+      b = word s (at + 3);
+      c = word s (at + 5);
+      start = at + 9;
+      next = nextOf s at;
+    }
+
+-- what stands at a cursor
+unfoldable pub foundAt : List ℕ → ℕ → Found
+foundAt s at = cond (leb (length s) at) End (cond (wholeAt s at) (Record (entryOf s at)) Damaged)
+
+-- the cursor after what stands there: past a record, else where it was
+abbrev pub cursorAfter : Found → ℕ → ℕ
+cursorAfter (Record e) at = e .next
+cursorAfter End at = at
+cursorAfter Damaged at = at
+
+-- ---- the records of a file: as many as its count says, from place 7 on
+
+unfoldable pub recordsFrom : ℕ → List ℕ → ℕ → List Call
+recordsFrom zero s at = []
+recordsFrom (suc n) s at = recordOf s at ∷ recordsFrom n s (nextOf s at)
+
+unfoldable pub recordsOf : List ℕ → List Call
+recordsOf s = recordsFrom (word s 5) s 7
+
+-- each is whole, and no byte is left over
+unfoldable pub wholeFrom : ℕ → List ℕ → ℕ → Bool
+wholeFrom zero s at = eqb at (length s)
+wholeFrom (suc n) s at = wholeAt s at && wholeFrom n s (nextOf s at)
+
+-- ---- a whole file
+
+-- three bytes or more, and the first three are the mark `KLD`
+abbrev pub marked : List ℕ → Bool
+marked s = leb 3 (length s) && (eqb (getD s 0 0) 75 && eqb (getD s 1 0) 76 && eqb (getD s 2 0) 68)
+
+-- there is a version, and it is 1
+abbrev pub current : List ℕ → Bool
+current s = leb 5 (length s) && eqb (word s 3) 1
+
+-- 'The order is 16; 18 if under 7 bytes; 17; then 18 for length over the limit, unknown letter, an unnamed field not 0, text length wrong, records
+-- cut short, bytes left over.'
+abbrev pub fileConditions : List ℕ → List Condition
+fileConditions s =
+    when (not (marked s)) NotJournal
+    ∷ when (ltb (length s) 7) Corrupt
+    ∷ when (not (current s)) OtherVersion
+    ∷ when (ltb mostBytes (length s)) Corrupt
+    ∷ when (not (wholeFrom (word s 5) s 7)) Corrupt
+    ∷ []
+
+abbrev pub verdict : Option Refusal → Verdict
+verdict none = Readable
+verdict (some f) = Refused f
+
+unfoldable pub verdictOf : List ℕ → Verdict
+verdictOf s = verdict (firstRefusal (fileConditions s))

@@ -1,0 +1,18 @@
+-- What the crate's private functions promise each other. Nothing here is part of what a reader must believe.
+use mathlib.Core.Bool.{Bool, not}
+use mathlib.Core.List.{List, [], _∷_}
+use Prim.Native.Nat.{ℕ}
+use lib.Dec.{ltb}
+use Rattle.journal.specs.declared.file.Refusal.the-variants.{NotJournal, OtherVersion, Corrupt}
+use Rattle.journal.specs.declared.file.Verdict.{Verdict}
+use Rattle.journal.specs.Format.{mostBytes}
+use Rattle.journal.specs.Verdicts.{Condition, when, firstRefusal}
+use Rattle.journal.specs.Reading.{verdict}
+
+-- the refusals of a file of n bytes, its records left aside
+abbrev pub headConditions : ℕ → Bool → Bool → List Condition
+headConditions n marked current =
+    when (not marked) NotJournal ∷ when (ltb n 7) Corrupt ∷ when (not current) OtherVersion ∷ when (ltb mostBytes n) Corrupt ∷ []
+
+abbrev pub headVerdict : ℕ → Bool → Bool → Verdict
+headVerdict n marked current = verdict (firstRefusal (headConditions n marked current))

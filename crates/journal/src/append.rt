@@ -1,0 +1,110 @@
+// Appending a record to a file in the caller's buffer.
+ghost use mathlib.Core.Path.{_≡_};
+ghost use Prim.Native.Nat.{_+_, _<_, _≤_};
+ghost use lib.ListN.{length};
+ghost use Rattle.call.specs.Calls.{callWith};
+ghost use Rattle.journal.specs.Reading.{word};
+ghost use Rattle.journal.specs.Appending.{appendAnswer, withRecord, bufferAfter, emptyAnswer, emptyAfter};
+use crate::bytes::store;
+use crate::bytes::word_at;
+use crate::file::HEAD;
+use crate::file::MOST_BYTES;
+use crate::file::Refusal;
+use crate::file::Verdict;
+use crate::file::check;
+use call::record::fits;
+
+// The file's new length, or why nothing was written.
+pub enum Appended {
+    Length(usize),
+    Declined(Refusal),
+}
+
+// Writes the file with no record to the buffer's start.
+pub fn empty(buffer: &mut [u8]) -> Appended
+    ensures answer { λ r. ⌜ r ≡ emptyAnswer (now (buffer .entry)) ⌝ }
+    ensures bytes { λ r. ⌜ now (buffer .exit) ≡ emptyAfter r (now (buffer .entry)) ⌝ }
+{
+    if buffer.len() < HEAD {
+        return Appended::Declined(Refusal::Full);
+    }
+    let head = [b'K', b'L', b'D', 1u8, 0, 0, 0];
+    store(buffer, 0, &head);
+    Appended::Length(HEAD)
+}
+
+// Appends a record to the file in the buffer's first `len` bytes.
+pub fn append(
+    buffer: &mut [u8],
+    len: usize,
+    letter: u8,
+    a: u16,
+    b: u16,
+    c: u16,
+    text: &[u8],
+) -> Appended
+    ensures answer { λ r. ⌜ r ≡ appendAnswer (now (buffer .entry)) len (callWith letter a b c (now (text .entry))) ⌝ }
+    ensures bytes { λ r. ⌜ now (buffer .exit) ≡ bufferAfter r (now (buffer .entry)) len (callWith letter a b c (now (text .entry))) ⌝ }
+{
+    match append_answer(&buffer[..], len, letter, a, b, c, text) {
+        Appended::Declined(refusal) => Appended::Declined(refusal),
+        Appended::Length(end) => {
+            store_record(&mut buffer[..], len, letter, a, b, c, text);
+            Appended::Length(end)
+        }
+    }
+}
+
+// The answer to an append, from the buffer as it is.
+fn append_answer(
+    buffer: &[u8],
+    len: usize,
+    letter: u8,
+    a: u16,
+    b: u16,
+    c: u16,
+    text: &[u8],
+) -> Appended
+    ensures { λ r. ⌜ r ≡ appendAnswer (now (buffer .entry)) len (callWith letter a b c (now (text .entry))) ⌝ }
+{
+    if buffer.len() < len {
+        return Appended::Declined(Refusal::Corrupt);
+    }
+    match check(&buffer[..len]) {
+        Verdict::Refused(refusal) => Appended::Declined(refusal),
+        Verdict::Readable => {
+            if !fits(letter, a, b, c, text.len()) {
+                return Appended::Declined(Refusal::Corrupt);
+            }
+            let end = len + 9 + text.len();
+            if (buffer.len() < end) | (MOST_BYTES < end) {
+                return Appended::Declined(Refusal::Full);
+            }
+            Appended::Length(end)
+        }
+    }
+}
+
+// Raises the count, and stores the record after the file.
+fn store_record(d: &mut [u8], len: usize, letter: u8, a: u16, b: u16, c: u16, text: &[u8])
+    requires { ⌜ (7 ≤ len) × (len + 9 + length (now text) ≤ length (now d)) × (length (now text) ≤ 96) × (word (now d) 5 < 65535) ⌝ }
+    ensures { λ _. ⌜ now (d .exit) ≡ withRecord (now (d .entry)) len (callWith letter a b c (now (text .entry))) ⌝ }
+{
+    let count = word_at(&d[..], 5) + 1;
+    let size = text.len() as u16;
+    let counted = [(count % 256) as u8, (count / 256) as u8];
+    store(&mut d[..], 5, &counted);
+    let head = [
+        letter,
+        (a % 256) as u8,
+        (a / 256) as u8,
+        (b % 256) as u8,
+        (b / 256) as u8,
+        (c % 256) as u8,
+        (c / 256) as u8,
+        (size % 256) as u8,
+        (size / 256) as u8,
+    ];
+    store(&mut d[..], len, &head);
+    store(&mut d[..], len + 9, text);
+}

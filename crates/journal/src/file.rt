@@ -1,0 +1,120 @@
+// A whole file: whether it is readable.
+ghost use mathlib.Core.Path.{_≡_};
+ghost use Prim.Native.Nat.{_≤_};
+ghost use lib.ListN.{length};
+ghost use Rattle.journal.specs.Verdicts.{refusalNumber};
+ghost use Rattle.journal.specs.Reading.{word, wholeFrom, marked, current, verdictOf};
+ghost use Rattle.journal.specs.Steps.{headVerdict};
+use crate::bytes::word_at;
+use crate::record::Found;
+use crate::record::record_at;
+
+// Document 01: full, not a desk file, other version, broken file.
+pub enum Refusal {
+    Full,
+    NotJournal,
+    OtherVersion,
+    Corrupt,
+}
+
+pub enum Verdict {
+    Readable,
+    Refused(Refusal),
+}
+
+// The bytes before the first record: the mark `KLD`, the version and the count.
+pub(crate) const HEAD: usize = 7;
+
+// The most bytes of a file.
+pub(crate) const MOST_BYTES: usize = 65535;
+
+const VERSION: u16 = 1;
+
+// That a file is readable, or its first refusal.
+pub fn check(file: &[u8]) -> Verdict
+    ensures { λ r. ⌜ r ≡ verdictOf (now (file .entry)) ⌝ }
+{
+    match head_verdict(file.len(), is_marked(file), is_current(file)) {
+        Verdict::Refused(refusal) => Verdict::Refused(refusal),
+        Verdict::Readable => {
+            if records_fill(file) {
+                Verdict::Readable
+            } else {
+                Verdict::Refused(Refusal::Corrupt)
+            }
+        }
+    }
+}
+
+// Document 01's number of a refusal.
+pub fn refusal_number(refusal: Refusal) -> u32
+    ensures { λ r. ⌜ r ≡ refusalNumber refusal ⌝ }
+{
+    match refusal {
+        Refusal::Full => 10,
+        Refusal::NotJournal => 16,
+        Refusal::OtherVersion => 17,
+        Refusal::Corrupt => 18,
+    }
+}
+
+// The refusals that come before the records, in document 01's order.
+fn head_verdict(n: usize, marked: bool, current: bool) -> Verdict
+    ensures { λ r. ⌜ r ≡ headVerdict n marked current ⌝ }
+{
+    if !marked {
+        return Verdict::Refused(Refusal::NotJournal);
+    }
+    if n < HEAD {
+        return Verdict::Refused(Refusal::Corrupt);
+    }
+    if !current {
+        return Verdict::Refused(Refusal::OtherVersion);
+    }
+    if MOST_BYTES < n {
+        return Verdict::Refused(Refusal::Corrupt);
+    }
+    Verdict::Readable
+}
+
+fn is_marked(file: &[u8]) -> bool
+    ensures { λ r. ⌜ r ≡ marked (now (file .entry)) ⌝ }
+{
+    if file.len() < 3 {
+        return false;
+    }
+    (file[0] == b'K') & (file[1] == b'L') & (file[2] == b'D')
+}
+
+fn is_current(file: &[u8]) -> bool
+    ensures { λ r. ⌜ r ≡ current (now (file .entry)) ⌝ }
+{
+    if file.len() < 5 {
+        return false;
+    }
+    word_at(file, 3) == VERSION
+}
+
+// Whether the count's records, from the first on, fill the file exactly.
+fn records_fill(file: &[u8]) -> bool
+    requires { ⌜ 7 ≤ length (now file) ⌝ }
+    ensures { λ r. ⌜ r ≡ wholeFrom (word (now (file .entry)) 5) (now (file .entry)) 7 ⌝ }
+{
+    let mut left = word_at(file, 5);
+    let mut at = HEAD;
+    while 0 < left {
+        match record_at(file, at) {
+            Found::Record(entry) => {
+                at = entry.next;
+            }
+            Found::End => {
+                return false;
+            }
+            Found::Damaged => {
+                return false;
+            }
+        }
+        left -= 1;
+    }
+    at == file.len()
+}
