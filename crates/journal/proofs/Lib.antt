@@ -3,3 +3,5 @@ pub mod Finding
 pub mod Judging
 pub mod Answering
 pub mod Files
+pub mod ReadsBack
+pub mod WritesBack

@@ -3,3 +3,5 @@ pub mod Verdicts
 pub mod Reading
 pub mod Appending
 pub mod Steps
+pub mod ReadsBack
+pub mod WritesBack

@@ -2,4 +2,5 @@
 pub mod append;
 mod bytes;
 pub mod file;
+pub mod reader;
 pub mod record;

@@ -1,0 +1,125 @@
+-- A record that stands in a file is read back where it stands; by induction so is a list of them. A cursor steps from whole record to whole record.
+-- Assumes nothing.
+use Prim.Native.Nat.{ℕ, zero, suc, _+_, _-_, _*_, _<_, _≤_}
+use mathlib.Core.Path.{_≡_, refl, sym, ap, ap₂, subst₂, _∙_}
+use mathlib.Core.Bool.{Bool, true, false, _&&_}
+use mathlib.Core.List.{List, [], _∷_, _++_, append-nil, append-assoc}
+use native.Mathlib.Omega.{arith}
+use lib.ListN.{length, getD, take, drop, length-append}
+use lib.Seq.{take-append-seam, drop-append-add, getD-append-add, getD-append-seam}
+use borrow.Author.Tests.{eq-eqb, eqb-true, le-leb}
+use Rattle.call.specs.Calls.{Call}
+use Rattle.journal.specs.declared.record.Found.the-variants.{End}
+use Rattle.journal.specs.Format.{low, high, recordBytes, allBytes, fileHead, fileBytes, Recordable, AllRecordable}
+use Rattle.journal.specs.Reading.{word, recordOf, nextOf, wholeAt, wholeFrom, recordsFrom, recordsOf, foundAt}
+use Rattle.journal.specs.ReadsBack.{WrittenReadable, RecordsBack, Run, runFrom, ReadsInOrder}
+use Rattle.journal.proofs.Judging.{and-left, and-right}
+use Rattle.journal.proofs.Finding.{found-record}
+use Rattle.journal.proofs.Files.{Whole, whole, File, open-file, shut-file}
+
+pub word-value : (w : ℕ) → low w + high w * 256 ≡ w
+word-value w = omega arith
+
+word-append : (p q : List ℕ) (i : ℕ) → word (p ++ q) (length p + i) ≡ word q i
+word-append p q i =
+    let e : length p + i + 1 ≡ length p + (i + 1) = omega arith in
+    rw (e, getD-append-add p q i 0, getD-append-add p q (i + 1) 0)
+
+-- ---- the record r stands in a file after p and before q
+
+module _ (p q : List ℕ) (r : Call) where
+  at-letter : getD (p ++ (recordBytes r ++ q)) (length p) 0 ≡ r .letter
+  at-letter = getD-append-seam p (r .letter) _ 0
+
+  at-a : word (p ++ (recordBytes r ++ q)) (length p + 1) ≡ r .a
+  at-a = word-append p (recordBytes r ++ q) 1 ∙ word-value (r .a)
+
+  at-b : word (p ++ (recordBytes r ++ q)) (length p + 3) ≡ r .b
+  at-b = word-append p (recordBytes r ++ q) 3 ∙ word-value (r .b)
+
+  at-c : word (p ++ (recordBytes r ++ q)) (length p + 5) ≡ r .c
+  at-c = word-append p (recordBytes r ++ q) 5 ∙ word-value (r .c)
+
+  at-size : word (p ++ (recordBytes r ++ q)) (length p + 7) ≡ length (r .text)
+  at-size = word-append p (recordBytes r ++ q) 7 ∙ word-value (length (r .text))
+
+  at-text : take (word (p ++ (recordBytes r ++ q)) (length p + 7)) (drop (length p + 9) (p ++ (recordBytes r ++ q))) ≡ r .text
+  at-text = rw (at-size, drop-append-add p (recordBytes r ++ q) 9) (take-append-seam (r .text) q)
+
+  record-back : recordOf (p ++ (recordBytes r ++ q)) (length p) ≡ r
+  record-back i = record { letter = at-letter i; a = at-a i; b = at-b i; c = at-c i; text = at-text i }
+
+  next-back : nextOf (p ++ (recordBytes r ++ q)) (length p) ≡ length (p ++ recordBytes r)
+  next-back = rw (at-size, length-append p (recordBytes r)) (omega arith)
+
+  whole-back : Recordable r → wholeAt (p ++ (recordBytes r ++ q)) (length p) ≡ true
+  unfolding wholeAt
+  whole-back v =
+      let n : length (p ++ (recordBytes r ++ q)) ≡ length p + (9 + (length (r .text) + length q)) = rw (length-append p (recordBytes r ++ q), length-append (r .text) q) (omega arith) in
+      simp (at-letter, at-a, at-b, at-c, at-size, v .fit, le-leb (length p + 9) (length (p ++ (recordBytes r ++ q))) (omega arith), le-leb (length p + 9 + length (r .text)) (length (p ++ (recordBytes r ++ q))) (omega arith))
+
+-- ---- a list of records after p
+
+after-first : (r : Call) (rs : List Call) (p : List ℕ) → p ++ allBytes (r ∷ rs) ≡ (p ++ recordBytes r) ++ allBytes rs
+after-first r rs p = sym (append-assoc p (recordBytes r) (allBytes rs))
+
+whole-all : (rs : List Call) (p : List ℕ) → AllRecordable rs → wholeFrom (length rs) (p ++ allBytes rs) (length p) ≡ true
+unfolding wholeFrom
+whole-all [] p v = eq-eqb (length p) (length (p ++ [])) (sym (ap length (append-nil p)))
+whole-all (r ∷ rs) p v =
+    rw (whole-back p (allBytes rs) r (v .0))
+    (subst₂ (λ (t : List ℕ) (k : ℕ). wholeFrom (length rs) t k ≡ true) (sym (after-first r rs p)) (sym (next-back p (allBytes rs) r))
+    (whole-all rs (p ++ recordBytes r) (v .1)))
+
+records-all : (rs : List Call) (p : List ℕ) → recordsFrom (length rs) (p ++ allBytes rs) (length p) ≡ rs
+unfolding recordsFrom
+records-all [] p = refl
+records-all (r ∷ rs) p =
+    ap₂ (λ (x : Call) (xs : List Call). x ∷ xs) (record-back p (allBytes rs) r)
+    (subst₂ (λ (t : List ℕ) (k : ℕ). recordsFrom (length rs) t k ≡ rs) (sym (after-first r rs p)) (sym (next-back p (allBytes rs) r))
+    (records-all rs (p ++ recordBytes r)))
+
+-- ---- a file
+
+pub written-readable : WrittenReadable
+unfolding fileBytes
+written-readable rs v h =
+    let s = fileHead (length rs) ++ allBytes rs in
+    shut-file s
+    (record {
+      mark = rw (le-leb 3 (length s) (omega arith));
+      least = omega arith;
+      version = refl;
+      most = h;
+      records = rw (word-value (length rs)) (whole-all rs (fileHead (length rs)) v);
+    })
+
+pub records-back : RecordsBack
+unfolding fileBytes recordsOf
+records-back rs = rw (word-value (length rs)) (records-all rs (fileHead (length rs)))
+
+-- ---- by the cursor
+
+found-end : (s : List ℕ) (at : ℕ) → at ≡ length s → foundAt s at ≡ End
+unfolding foundAt
+found-end s at e = rw (le-leb (length s) at (omega arith))
+
+runs : (n : ℕ) (s : List ℕ) (at : ℕ) → wholeFrom n s at ≡ true → runFrom n s at ≡ record { read = recordsFrom n s at; last = End }
+unfolding wholeFrom recordsFrom runFrom
+runs zero s at h = rw (found-end s at (eqb-true at (length s) h))
+runs (suc n) s at h =
+    let t : at + 9 + word s (at + 7) - (at + 9) ≡ word s (at + 7) = omega arith in
+    rw (
+      found-record s at (and-left (wholeAt s at) (wholeFrom n s (nextOf s at)) h),
+      runs n s (nextOf s at) (and-right (wholeAt s at) (wholeFrom n s (nextOf s at)) h),
+      t,
+    )
+
+pub records-length : (n : ℕ) (s : List ℕ) (at : ℕ) → length (recordsFrom n s at) ≡ n
+unfolding recordsFrom
+records-length zero s at = refl
+records-length (suc n) s at = ap suc (records-length n s (nextOf s at))
+
+pub reads-in-order : ReadsInOrder
+unfolding recordsOf
+reads-in-order s h = rw (records-length (word s 5) s 7) (runs (word s 5) s 7 (open-file s h .records))

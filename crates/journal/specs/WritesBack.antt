@@ -1,0 +1,23 @@
+-- Every readable file is what its records write (demand 2: 'every readable file included'). So a file is readable exactly where it is written from
+-- records that a file can hold, and not too long. Proved in `proofs/WritesBack.antt`. Assumes nothing.
+use mathlib.Core.Path.{_≡_}
+use mathlib.Core.List.{List}
+use mathlib.Core.Logic.{_↔_}
+use Prim.Native.Nat.{ℕ, _≤_}
+use lib.ListN.{length}
+use Rattle.call.specs.Calls.{Call}
+use Rattle.journal.specs.declared.file.Verdict.the-variants.{Readable}
+use Rattle.journal.specs.Format.{Bytes, AllRecordable, fileBytes, mostBytes}
+use Rattle.journal.specs.Reading.{recordsOf, verdictOf}
+
+abbrev pub WritesBack : Type 0
+WritesBack = (s : List ℕ) → Bytes s → verdictOf s ≡ Readable → fileBytes (recordsOf s) ≡ s
+
+pub record Written (s : List ℕ) : Type 0 where
+  pub records : List Call
+  pub recordable : AllRecordable records
+  pub bytes : s ≡ fileBytes records
+  pub most : length s ≤ mostBytes
+
+abbrev pub ReadableExactly : Type 0
+ReadableExactly = (s : List ℕ) → Bytes s → (verdictOf s ≡ Readable) ↔ Written s
