@@ -90,6 +90,14 @@ length-none : (n e : ℕ) (o : Option Refusal) → answer n o ≡ Length e → o
 length-none n e none h = refl
 length-none n e (some f) h = cc
 
+length-is : (n e : ℕ) (o : Option Refusal) → answer n o ≡ Length e → e ≡ n
+length-is n e none h = cc
+length-is n e (some f) h = cc
+
+pub new-length : (d : List ℕ) (len : ℕ) (r : Call) (e : ℕ) → appendAnswer d len r ≡ Length e → e ≡ lengthWith len r
+unfolding appendAnswer
+new-length d len r e h = length-is (lengthWith len r) e (firstRefusal (appendConditions d len r)) h
+
 pub record Accepted (d : List ℕ) (len : ℕ) (r : Call) : Type 0 where
   pub inside : len ≤ length d
   pub file : File (take len d)

@@ -5,3 +5,4 @@ pub mod Answering
 pub mod Files
 pub mod ReadsBack
 pub mod WritesBack
+pub mod Rebuilds

@@ -5,3 +5,4 @@ pub mod Appending
 pub mod Steps
 pub mod ReadsBack
 pub mod WritesBack
+pub mod Rebuilds
