@@ -16,7 +16,7 @@ use Rattle.journal.specs.Format.{mostBytes, isFit}
 use Rattle.journal.specs.Verdicts.{firstRefusal}
 use Rattle.journal.specs.Reading.{fileConditions, verdict, verdictOf}
 use Rattle.journal.specs.Appending.{lengthWith, ownConditions, answer, appendAnswer}
-use Rattle.journal.proofs.Judging.{not-true, not-false, first-here, first-later, refused-some, readable-none}
+use Rattle.journal.proofs.Judging.{first-here, first-later, refused-some, readable-none}
 
 module _ (d : List ℕ) (len : ℕ) (r : Call) where
   pub beyond : length d < len → Declined Corrupt ≡ appendAnswer d len r

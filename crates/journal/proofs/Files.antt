@@ -8,7 +8,7 @@ use native.Mathlib.Omega.{arith}
 use lib.ListN.{length, getD, take}
 use lib.Dec.{leb, ltb, eqb}
 use lib.Seq.{getD-take, length-take-le}
-use borrow.Author.Tests.{eqb-true, leb-true, ltb-false, eq-eqb, le-leb, le-ltb}
+use borrow.Author.Tests.{eqb-true, leb-true, ltb-false, eq-eqb, le-leb, le-ltb, not-false}
 use Rattle.call.specs.Calls.{Call, recordFits}
 use Rattle.journal.specs.declared.file.Refusal.{Refusal}
 use Rattle.journal.specs.declared.file.Verdict.the-variants.{Readable}
@@ -17,7 +17,7 @@ use Rattle.journal.specs.Format.{mostBytes, isFit}
 use Rattle.journal.specs.Verdicts.{firstRefusal}
 use Rattle.journal.specs.Reading.{word, nextOf, wholeAt, wholeFrom, marked, current, fileConditions, verdict, verdictOf}
 use Rattle.journal.specs.Appending.{lengthWith, ownConditions, appendConditions, answer, appendAnswer}
-use Rattle.journal.proofs.Judging.{not-false, and-left, and-right, AllFail, all-fail, fail-parts, none-first, readable-none}
+use Rattle.journal.proofs.Judging.{and-left, and-right, AllFail, all-fail, fail-parts, none-first, readable-none}
 
 -- ---- a whole record, and several
 
@@ -45,6 +45,23 @@ count-bound zero s at h = omega (arith, eqb-true at (length s) h)
 count-bound (suc n) s at h = omega (arith, count-bound n s (nextOf s at) (and-right (wholeAt s at) (wholeFrom n s (nextOf s at)) h))
 
 -- ---- a readable file
+
+pub record Mark (s : List ℕ) : Type 0 where
+  pub least : 3 ≤ length s
+  pub k : getD s 0 0 ≡ 75
+  pub l : getD s 1 0 ≡ 76
+  pub d : getD s 2 0 ≡ 68
+
+pub mark-of : (s : List ℕ) → marked s ≡ true → Mark s
+mark-of s h =
+    let k = eqb (getD s 0 0) 75 in let l = eqb (getD s 1 0) 76 in let d = eqb (getD s 2 0) 68 in
+    let all : k && l && d ≡ true = and-right (leb 3 (length s)) (k && l && d) h in
+    record {
+      least = leb-true 3 (length s) (and-left (leb 3 (length s)) (k && l && d) h);
+      k = eqb-true (getD s 0 0) 75 (and-left k l (and-left (k && l) d all));
+      l = eqb-true (getD s 1 0) 76 (and-right k l (and-left (k && l) d all));
+      d = eqb-true (getD s 2 0) 68 (and-right (k && l) d all);
+    }
 
 pub record File (s : List ℕ) : Type 0 where
   pub mark : marked s ≡ true

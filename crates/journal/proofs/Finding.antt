@@ -5,14 +5,13 @@ use mathlib.Core.Bool.{Bool, true, false, cond, not}
 use mathlib.Core.List.{List}
 use lib.ListN.{length, getD}
 use lib.Dec.{leb, eqb}
-use borrow.Author.Tests.{lt-leb, le-leb, leb-true}
+use borrow.Author.Tests.{lt-leb, le-leb, leb-true, not-true, not-false}
 use native.Mathlib.Omega.{arith}
 use Rattle.call.specs.Calls.{recordFits}
 use Rattle.journal.specs.declared.record.Found.{Found}
 use Rattle.journal.specs.declared.record.Found.the-variants.{Record, End, Damaged}
 use Rattle.journal.specs.declared.record.Entry.{Entry}
 use Rattle.journal.specs.Reading.{word, nextOf, wholeAt, entryOf, foundAt, cursorAfter, wholeFrom}
-use Rattle.journal.proofs.Judging.{not-true, not-false}
 
 module _ (s : List ℕ) (at : ℕ) (inside : at < length s) where
   pub cut-short : length s < at + 9 → Damaged ≡ foundAt s at

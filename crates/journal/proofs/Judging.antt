@@ -7,21 +7,13 @@ use Prim.Native.Nat.{ℕ, _≤_}
 use lib.ListN.{length}
 use lib.Dec.{ltb, eqb, leb}
 use native.Mathlib.Omega.{arith}
-use borrow.Author.Tests.{eqb-true, ltb-false}
+use borrow.Author.Tests.{ltb-false}
 use Rattle.journal.specs.declared.file.Refusal.{Refusal}
 use Rattle.journal.specs.declared.file.Refusal.the-variants.{Corrupt}
 use Rattle.journal.specs.declared.file.Verdict.the-variants.{Readable, Refused}
 use Rattle.journal.specs.Verdicts.{Condition, when, firstRefusal}
 use Rattle.journal.specs.Reading.{word, wholeFrom, marked, current, fileConditions, verdict, verdictOf}
 use Rattle.journal.specs.Steps.{headConditions, headVerdict}
-
-pub not-true : (b : Bool) → not b ≡ true → b ≡ false
-not-true true h = cc
-not-true false h = refl
-
-pub not-false : (b : Bool) → not b ≡ false → b ≡ true
-not-false true h = refl
-not-false false h = cc
 
 pub and-left : (x y : Bool) → x && y ≡ true → x ≡ true
 and-left true y h = refl

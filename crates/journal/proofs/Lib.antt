@@ -6,3 +6,5 @@ pub mod Files
 pub mod ReadsBack
 pub mod WritesBack
 pub mod Rebuilds
+pub mod Declines
+pub mod Refuses

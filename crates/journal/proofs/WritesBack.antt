@@ -1,11 +1,10 @@
 -- The bytes of a word, of a record and of all records that were read are those that stood there; the head's seven bytes too. Assumes nothing.
 use Prim.Native.Nat.{ℕ, zero, suc, _+_, _*_, _<_, _≤_}
 use mathlib.Core.Path.{_≡_, refl, sym, ap, ap₂, subst, _∙_}
-use mathlib.Core.Bool.{Bool, true, _&&_}
+use mathlib.Core.Bool.{true}
 use mathlib.Core.List.{List, [], _∷_, _++_}
 use native.Mathlib.Omega.{arith}
 use lib.ListN.{length, getD, take, drop, length-drop, take-append-drop}
-use lib.Dec.{eqb, leb}
 use lib.Seq.{drop-cons, drop-length, drop-drop, length-take-le}
 use borrow.Author.Tests.{eqb-true}
 use Rattle.call.specs.Calls.{Call}
@@ -14,7 +13,7 @@ use Rattle.journal.specs.Format.{Bytes, low, high, recordBytes, allBytes
 use Rattle.journal.specs.Reading.{word, recordOf, nextOf, wholeAt, wholeFrom, recordsFrom, recordsOf, verdictOf}
 use Rattle.journal.specs.WritesBack.{WritesBack, Written, ReadableExactly}
 use Rattle.journal.proofs.Judging.{and-left, and-right}
-use Rattle.journal.proofs.Files.{Whole, whole, File, open-file}
+use Rattle.journal.proofs.Files.{Whole, whole, Mark, mark-of, File, open-file}
 use Rattle.journal.proofs.ReadsBack.{records-length, written-readable}
 
 module _ (s : List ℕ) (bytes : Bytes s) where
@@ -65,24 +64,26 @@ module _ (s : List ℕ) (bytes : Bytes s) where
         all-recordable n (nextOf s at) (and-right (wholeAt s at) (wholeFrom n s (nextOf s at)) h),
       )
 
-first-five : (s : List ℕ) → 5 ≤ length s → getD s 0 0 ∷ getD s 1 0 ∷ getD s 2 0 ∷ getD s 3 0 ∷ getD s 4 0 ∷ drop 5 s ≡ s
-first-five s h =
-    rw (← drop-cons s 4 0 (omega arith), ← drop-cons s 3 0 (omega arith), ← drop-cons s 2 0 (omega arith), ← drop-cons s 1 0 (omega arith)) (sym (drop-cons s 0 0 (omega arith)))
+pub head-three : (s : List ℕ) → Mark s → 75 ∷ 76 ∷ 68 ∷ drop 3 s ≡ s
+head-three s m =
+    let least = m .least in
+    let all : getD s 0 0 ∷ getD s 1 0 ∷ getD s 2 0 ∷ drop 3 s ≡ s = rw (← drop-cons s 2 0 least, ← drop-cons s 1 0 (omega arith)) (sym (drop-cons s 0 0 (omega arith))) in
+    rw (m .k, m .l, m .d) at all
+
+head-five : (s : List ℕ) → Bytes s → File s → 75 ∷ 76 ∷ 68 ∷ 1 ∷ 0 ∷ drop 5 s ≡ s
+head-five s bytes f =
+    let least = f .least in
+    let v₀ : getD s 3 0 ≡ 1 = omega (arith, f .version, bytes 3) in
+    let v₁ : getD s 4 0 ≡ 0 = omega (arith, f .version, bytes 3) in
+    let two : getD s 3 0 ∷ getD s 4 0 ∷ drop 5 s ≡ drop 3 s = rw (← drop-cons s 4 0 (omega arith)) (sym (drop-cons s 3 0 (omega arith))) in
+    let version : 1 ∷ 0 ∷ drop 5 s ≡ drop 3 s = rw (v₀, v₁) at two in
+    rw version (head-three s (mark-of s (f .mark)))
 
 pub writes-back : WritesBack
 unfolding fileBytes recordsOf
 writes-back s bytes h =
     let f = open-file s h in
-    let k = eqb (getD s 0 0) 75 in let l = eqb (getD s 1 0) 76 in let d = eqb (getD s 2 0) 68 in
-    let mark : k && l && d ≡ true = and-right (leb 3 (length s)) (k && l && d) (f .mark) in
-    let m₀ : getD s 0 0 ≡ 75 = eqb-true (getD s 0 0) 75 (and-left k l (and-left (k && l) d mark)) in
-    let m₁ : getD s 1 0 ≡ 76 = eqb-true (getD s 1 0) 76 (and-right k l (and-left (k && l) d mark)) in
-    let m₂ : getD s 2 0 ≡ 68 = eqb-true (getD s 2 0) 68 (and-right (k && l) d mark) in
-    let v₀ : getD s 3 0 ≡ 1 = omega (arith, f .version, bytes 3) in
-    let v₁ : getD s 4 0 ≡ 0 = omega (arith, f .version, bytes 3) in
-    let all = first-five s (omega (arith, f .least)) in
-    let five : 75 ∷ 76 ∷ 68 ∷ 1 ∷ 0 ∷ drop 5 s ≡ s = rw (m₀, m₁, m₂, v₀, v₁) at all in
-    rw (records-length (word s 5) s 7, all-again s bytes (word s 5) 7 (f .records), word-again s bytes 5 7 (omega arith) (omega (arith, f .least))) five
+    rw (records-length (word s 5) s 7, all-again s bytes (word s 5) 7 (f .records), word-again s bytes 5 7 (omega arith) (omega (arith, f .least))) (head-five s bytes f)
 
 pub records-recordable : (s : List ℕ) → Bytes s → verdictOf s ≡ Readable → AllRecordable (recordsOf s)
 unfolding recordsOf

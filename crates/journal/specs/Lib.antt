@@ -6,3 +6,5 @@ pub mod Steps
 pub mod ReadsBack
 pub mod WritesBack
 pub mod Rebuilds
+pub mod Declines
+pub mod Refuses

@@ -3,8 +3,8 @@ use mathlib.Core.Path.{sym, _∙_}
 use native.Mathlib.Omega.{arith}
 use lib.Seq.{length-take-le}
 use borrow.Author.Needs.{needs}
+use borrow.Author.Tests.{not-false}
 use Rattle.call.proofs.Texts.{text-short}
-use Rattle.journal.proofs.Judging.{not-false}
 use Rattle.journal.proofs.Answering.{beyond, file-refused, unfit, no-room, accepts}
 use Rattle.journal.proofs.append.append_answer.Statement.{statement}
 use Rattle.journal.proofs.append.append_answer.Tie as tie
