@@ -8,3 +8,4 @@ pub mod WritesBack
 pub mod Rebuilds
 pub mod Declines
 pub mod Refuses
+pub mod Examples
