@@ -1,40 +1,40 @@
--- A test on one to four unnamed fields, as the code joins it, is `allZero`. Assumes nothing.
-use mathlib.Core.Path.{_≡_, refl, ap}
+-- A call is decoded by the line of its letter. Assumes nothing.
+use mathlib.Core.Path.{_≡_, refl, ap, _∙_}
 use mathlib.Core.Bool.{Bool, true, false, cond, _&&_}
-use mathlib.Core.List.{[], _∷_}
+use mathlib.Core.List.{List, [], _∷_}
 use Prim.Native.Nat.{ℕ}
 use lib.Dec.{eqb}
 use Rattle.call.specs.declared.request.Request.{Request}
+use Rattle.call.specs.declared.request.Line.{Line}
+use Rattle.call.specs.declared.request.Line.the-variants.{Of, Unknown}
 use Rattle.call.specs.declared.request.Decoded.{Decoded}
 use Rattle.call.specs.declared.request.Decoded.the-variants.{WellFormed, Corrupt}
-use Rattle.call.specs.Calls.{allZero}
-use Rattle.call.specs.Steps.{onlyWhere}
+use Rattle.call.specs.Calls.{Row, table, unnamedZero, textNamed, decodedIn, decodedOf}
+use Rattle.call.specs.Steps.{lineIn, lineOf, judged}
 
-two : (x y : Bool) → x && y ≡ x && (y && true)
-two true true = refl
-two true false = refl
-two false y = refl
+module _ (letter a b c n : ℕ) where
+  abbrev judge : Line → Decoded
+  judge l = judged l letter a b c n
 
-three : (x y z : Bool) → x && y && z ≡ x && (y && (z && true))
-three true y z = two y z
-three false y z = refl
+  by-line : (rs : List Row) → judge (lineIn rs letter) ≡ decodedIn rs letter a b c n
+  by-line [] = refl
+  by-line (r ∷ rs) = go (eqb letter (r .letter)) (Of (r .request) (r .named)) (lineIn rs letter) (decodedIn rs letter a b c n) (by-line rs)
+    where
+      go : (p : Bool) (x y : Line) (z : Decoded) → judge y ≡ z → judge (cond p x y) ≡ cond p (judge x) z
+      go true x y z e = refl
+      go false x y z e = e
 
-four : (w x y z : Bool) → w && x && y && z ≡ w && (x && (y && (z && true)))
-four true x y z = three x y z
-four false x y z = refl
+  pub unknown : Unknown ≡ lineOf letter a b c → Corrupt ≡ decodedOf letter a b c n
+  unfolding lineOf decodedOf
+  unknown e = ap judge e ∙ by-line (table a b c)
 
-module _ (q : Request) where
-  where-zero : {x y : Bool} → x ≡ y → onlyWhere x q ≡ onlyWhere y q
-  where-zero e = ap (λ (t : Bool). onlyWhere t q) e
+  module _ (q : Request) (k : ℕ) (e : Of q k ≡ lineOf letter a b c) (z : Bool) (u : z ≡ unnamedZero k a b c) where
+    line-decodes : cond (z && textNamed letter n) (WellFormed q) Corrupt ≡ decodedOf letter a b c n
+    unfolding lineOf decodedOf
+    line-decodes = rw u (ap judge e ∙ by-line (table a b c))
 
-  pub one-zero : (x : ℕ) → onlyWhere (eqb x 0) q ≡ onlyWhere (allZero (x ∷ [])) q
-  one-zero x = where-zero (two true (eqb x 0))
+    pub known : z && textNamed letter n ≡ true → WellFormed q ≡ decodedOf letter a b c n
+    known h = rw h at line-decodes
 
-  pub two-zero : (x y : ℕ) → onlyWhere (eqb x 0 && eqb y 0) q ≡ onlyWhere (allZero (x ∷ y ∷ [])) q
-  two-zero x y = where-zero (two (eqb x 0) (eqb y 0))
-
-  pub three-zero : (x y z : ℕ) → onlyWhere (eqb x 0 && eqb y 0 && eqb z 0) q ≡ onlyWhere (allZero (x ∷ y ∷ z ∷ [])) q
-  three-zero x y z = where-zero (three (eqb x 0) (eqb y 0) (eqb z 0))
-
-  pub four-zero : (w x y z : ℕ) → onlyWhere (eqb w 0 && eqb x 0 && eqb y 0 && eqb z 0) q ≡ onlyWhere (allZero (w ∷ x ∷ y ∷ z ∷ [])) q
-  four-zero w x y z = where-zero (four (eqb w 0) (eqb x 0) (eqb y 0) (eqb z 0))
+    pub unfit : z && textNamed letter n ≡ false → Corrupt ≡ decodedOf letter a b c n
+    unfit h = rw h at line-decodes

@@ -1,83 +1,125 @@
--- Each line of the table fixes the letter, and its unnamed fields to 0: one induction over the table, for any property of the request that is found.
--- The other way round the call of a request is decoded by computing. Assumes nothing.
+-- Each row of the table fixes the letter, and the fields that it does not name to 0: one induction over the table, for any property of the request that
+-- is found. The other way round the call of a request is decoded by computing. Assumes nothing.
 use mathlib.Core.Path.{_≡_, refl, sym, subst, _∙_}
-use mathlib.Core.Bool.{Bool, true, false, cond, _&&_}
+use mathlib.Core.Bool.{Bool, true, false, cond, _&&_, _||_}
 use mathlib.Core.List.{List, [], _∷_}
 use Prim.Native.Nat.{ℕ}
 use native.Mathlib.Omega.{arith}
-use lib.Dec.{eqb}
+use lib.Dec.{eqb, leb}
 use lib.ListN.{length}
 use borrow.Author.Tests.{eqb-true}
 use Rattle.call.specs.declared.request.Request.{Request}
 use Rattle.call.specs.declared.request.Request.the-variants.{NewUser, StartThread, EndThread, NewSegment, NewKey, GiveKey, TakeKey, AddLock, DropLock, CallSegment, ReturnCall, Access}
 use Rattle.call.specs.declared.request.Decoded.{Decoded}
 use Rattle.call.specs.declared.request.Decoded.the-variants.{WellFormed, Corrupt}
-use Rattle.call.specs.Calls.{Call, callWith, Line, table, allZero, find, decodedOf}
-use Rattle.call.specs.Requests.{callOf, RequestsExactly}
+use Rattle.call.specs.Calls.{Call, callWith, Row, table, unnamedZero, textNamed, decodedIn, decodedOf, isWellFormed, textFits, recordFits}
+use Rattle.call.specs.Requests.{callOf, RequestsExactly, TextAlone}
 
--- ---- from the table
+-- ---- what a row's tests say
 
-abbrev Zeros : List ℕ → Type 0
-Zeros [] = Unit {0}
-Zeros (x ∷ xs) = (x ≡ 0) × Zeros xs
+or-zero : (p : Bool) (x : ℕ) → p ≡ false → p || eqb x 0 ≡ true → x ≡ 0
+or-zero true x e h = let z : _≡_ {A = ℕ} 0 1 = cc in absurd (omega arith)
+or-zero false x e h = eqb-true x 0 h
 
-zeros : (xs : List ℕ) → allZero xs ≡ true → Zeros xs
-zeros [] h = tt
-zeros (x ∷ xs) h = go (eqb x 0) (allZero xs) (eqb-true x 0) (zeros xs) h
-  where
-    go : (p q : Bool) → (p ≡ true → x ≡ 0) → (q ≡ true → Zeros xs) → p && q ≡ true → (x ≡ 0) × Zeros xs
-    go true q f g h = (f refl, g h)
-    go false q f g h = (f h, g cc)
-
--- what every line says, the line that was found says
-module _ (letter : ℕ) (P : Request → Type 0) where
-  abbrev Each : List Line → Type 0
-  Each [] = Unit {0}
-  Each (l ∷ ls) = (letter ≡ l .letter → Zeros (l .unnamed) → P (l .request)) × Each ls
-
-  of-line : (q r : Request) (here zero : Bool) (rest : Decoded) → (here ≡ true → zero ≡ true → P r) → (rest ≡ WellFormed q → P q)
-      → cond here (cond zero (WellFormed r) Corrupt) rest ≡ WellFormed q → P q
-  of-line q r true true rest f g h = subst P (same r q h) (f refl refl)
-    where
-      same : (r q : Request) → _≡_ (WellFormed r) (WellFormed q) → r ≡ q
-      same r q e = cc
-  of-line q r true false rest f g h = let z : _≡_ {A = ℕ} 0 1 = cc in absurd (omega arith)
-  of-line q r false zero rest f g h = g h
-
-  found : (ls : List Line) (q : Request) → Each ls → find letter ls ≡ WellFormed q → P q
-  found [] q a h = let z : _≡_ {A = ℕ} 0 1 = cc in absurd (omega arith)
-  found (l ∷ ls) q a h =
-      of-line q (l .request) (eqb letter (l .letter)) (allZero (l .unnamed)) (find letter ls)
-      (λ e z. a .0 (eqb-true letter (l .letter) e) (zeros (l .unnamed) z)) (found ls q (a .1)) h
-
-no-text : (t : List ℕ) → length t ≡ 0 → t ≡ []
-no-text [] h = refl
-no-text (x ∷ t) h = absurd (omega arith)
+both : (x y : Bool) → x && y ≡ true → (x ≡ true) × (y ≡ true)
+both true y h = (refl, h)
+both false y h = (h, cc)
 
 module _ (x : Call) where
-  -- the call, by what each field is
-  is : {l a b c : ℕ} {t : List ℕ} → x .letter ≡ l → x .a ≡ a → x .b ≡ b → x .c ≡ c → x .text ≡ t → x ≡ callWith l a b c t
-  is el ea eb ec et i = record { letter = el i; a = ea i; b = eb i; c = ec i; text = et i }
+  abbrev passes : ℕ → Bool
+  passes k = unnamedZero k (x .a) (x .b) (x .c) && textNamed (x .letter) (length (x .text))
+
+  -- a field that is not among the first k is 0, and so is the text's length where the letter is not L
+  pub record Zero (k : ℕ) : Type 0 where
+    pub a : leb 1 k ≡ false → x .a ≡ 0
+    pub b : leb 2 k ≡ false → x .b ≡ 0
+    pub c : leb 3 k ≡ false → x .c ≡ 0
+    pub text : eqb (x .letter) 76 ≡ false → x .text ≡ []
+
+  no-text : (t : List ℕ) → length t ≡ 0 → t ≡ []
+  no-text [] h = refl
+  no-text (y ∷ t) h = absurd (omega arith)
+
+  zeros : (k : ℕ) → passes k ≡ true → Zero k
+  zeros k h =
+      let outer = both (unnamedZero k (x .a) (x .b) (x .c)) (textNamed (x .letter) (length (x .text))) h in
+      let last = both ((leb 1 k || eqb (x .a) 0) && (leb 2 k || eqb (x .b) 0)) (leb 3 k || eqb (x .c) 0) (outer .0) in
+      let first = both (leb 1 k || eqb (x .a) 0) (leb 2 k || eqb (x .b) 0) (last .0) in
+      record {
+        a = λ e. or-zero (leb 1 k) (x .a) e (first .0);
+        b = λ e. or-zero (leb 2 k) (x .b) e (first .1);
+        c = λ e. or-zero (leb 3 k) (x .c) e (last .1);
+        text = λ e. no-text (x .text) (or-zero (eqb (x .letter) 76) (length (x .text)) e (outer .1));
+      }
+
+  -- ---- what every row says, the row that was found says
 
   abbrev Says : Request → Type 0
   Says q = x ≡ callOf q (x .text)
 
-  lines : Each (x .letter) Says (table (x .a) (x .b) (x .c) (length (x .text)))
-  lines = (
-    λ e z. is e (z .0) (z .1 .0) (z .1 .1 .0) (no-text (x .text) (z .1 .1 .1 .0)),
-    (one, (one, (two, (one, (three, (three, (λ e z. is e refl refl refl refl, (two, (two, (one, (three, tt))))))))))),
+  abbrev Each : List Row → Type 0
+  Each [] = Unit {0}
+  Each (r ∷ rs) = (x .letter ≡ r .letter → Zero (r .named) → Says (r .request)) × Each rs
+
+  of-row : (q p : Request) (here zero : Bool) (rest : Decoded) → (here ≡ true → zero ≡ true → Says p) → (rest ≡ WellFormed q → Says q)
+      → cond here (cond zero (WellFormed p) Corrupt) rest ≡ WellFormed q → Says q
+  of-row q p true true rest f g h = subst Says (same p q h) (f refl refl)
+    where
+      same : (p q : Request) → _≡_ (WellFormed p) (WellFormed q) → p ≡ q
+      same p q e = cc
+  of-row q p true false rest f g h = let z : _≡_ {A = ℕ} 0 1 = cc in absurd (omega arith)
+  of-row q p false zero rest f g h = g h
+
+  found : (rs : List Row) (q : Request) → Each rs → decodedIn rs (x .letter) (x .a) (x .b) (x .c) (length (x .text)) ≡ WellFormed q → Says q
+  found [] q each h = let z : _≡_ {A = ℕ} 0 1 = cc in absurd (omega arith)
+  found (r ∷ rs) q each h =
+      of-row q (r .request) (eqb (x .letter) (r .letter)) (passes (r .named)) (decodedIn rs (x .letter) (x .a) (x .b) (x .c) (length (x .text)))
+      (λ e z. each .0 (eqb-true (x .letter) (r .letter) e) (zeros (r .named) z)) (found rs q (each .1)) h
+
+  -- the call, by what each field is
+  is : {l a b c : ℕ} {t : List ℕ} → x .letter ≡ l → x .a ≡ a → x .b ≡ b → x .c ≡ c → x .text ≡ t → x ≡ callWith l a b c t
+  is el ea eb ec et i = record { letter = el i; a = ea i; b = eb i; c = ec i; text = et i }
+
+  not-lock : (l : ℕ) → eqb l 76 ≡ false → x .letter ≡ l → eqb (x .letter) 76 ≡ false
+  not-lock l h e = rw e h
+
+  rows : Each (table (x .a) (x .b) (x .c))
+  rows = (
+    λ e z. is e (z .a refl) (z .b refl) (z .c refl) (z .text (not-lock 85 refl e)),
+    (
+      one 83 refl,
+      (
+        one 69 refl,
+        (
+          two 78 refl,
+          (
+            one 75 refl,
+            (
+              three 71 refl,
+              (
+                three 84 refl,
+                (
+                  λ e z. is e refl refl refl refl,
+                  (two 68 refl, (two 67 refl, (one 82 refl, (three 65 refl, tt)))),
+                ),
+              ),
+            ),
+          ),
+        ),
+      ),
+    ),
   )
     where
-      one : {l : ℕ} → x .letter ≡ l → Zeros (x .b ∷ x .c ∷ length (x .text) ∷ []) → x ≡ callWith l (x .a) 0 0 []
-      one e z = is e refl (z .0) (z .1 .0) (no-text (x .text) (z .1 .1 .0))
+      one : (l : ℕ) → eqb l 76 ≡ false → x .letter ≡ l → Zero 1 → x ≡ callWith l (x .a) 0 0 []
+      one l h e z = is e refl (z .b refl) (z .c refl) (z .text (not-lock l h e))
 
-      two : {l : ℕ} → x .letter ≡ l → Zeros (x .c ∷ length (x .text) ∷ []) → x ≡ callWith l (x .a) (x .b) 0 []
-      two e z = is e refl refl (z .0) (no-text (x .text) (z .1 .0))
+      two : (l : ℕ) → eqb l 76 ≡ false → x .letter ≡ l → Zero 2 → x ≡ callWith l (x .a) (x .b) 0 []
+      two l h e z = is e refl refl (z .c refl) (z .text (not-lock l h e))
 
-      three : {l : ℕ} → x .letter ≡ l → Zeros (length (x .text) ∷ []) → x ≡ callWith l (x .a) (x .b) (x .c) []
-      three e z = is e refl refl refl (no-text (x .text) (z .0))
+      three : (l : ℕ) → eqb l 76 ≡ false → x .letter ≡ l → Zero 3 → x ≡ callWith l (x .a) (x .b) (x .c) []
+      three l h e z = is e refl refl refl (z .text (not-lock l h e))
 
--- ---- to the table
+-- ---- the call of a request
 
 abbrev decoded : Call → Decoded
 decoded x = decodedOf (x .letter) (x .a) (x .b) (x .c) (length (x .text))
@@ -99,7 +141,33 @@ back (Access a b c) t = refl
 
 pub requests-exactly : RequestsExactly
 unfolding decodedOf
-requests-exactly x q = (
-  λ h. found (x .letter) (Says x) (table (x .a) (x .b) (x .c) (length (x .text))) q (lines x) h,
-  λ e. subst (λ (y : Call). decoded y ≡ WellFormed q) (sym e) (back q (x .text)),
-)
+requests-exactly x q =
+    (λ h. found x (table (x .a) (x .b) (x .c)) q (rows x) h, λ e. subst (λ (y : Call). decoded y ≡ WellFormed q) (sym e) (back q (x .text)))
+
+-- ---- the text alone
+
+or-true : (p : Bool) → p || true ≡ true
+or-true true = refl
+or-true false = refl
+
+-- a text that fits is one that the letter names
+named : (lock : Bool) (n : ℕ) → cond lock (leb 1 n && leb n 96) (eqb n 0) ≡ true → lock || eqb n 0 ≡ true
+named true n h = refl
+named false n h = h
+
+module _ (l a b c n : ℕ) (h : textNamed l n ≡ true) where
+  as-without : (rs : List Row) → decodedIn rs l a b c n ≡ decodedIn rs l a b c 0
+  as-without [] = refl
+  as-without (r ∷ rs) = rw (h, or-true (eqb l 76), as-without rs)
+
+pub text-alone : TextAlone
+unfolding recordFits decodedOf
+text-alone l a b c n = go (textFits l n) refl
+  where
+    go : (f : Bool) → textFits l n ≡ f → isWellFormed (decodedIn (table a b c) l a b c 0) && f ≡ isWellFormed (decodedIn (table a b c) l a b c n) && f
+    go true e = rw (as-without l a b c n (named (eqb l 76) n e) (table a b c))
+    go false e = and-false (isWellFormed (decodedIn (table a b c) l a b c 0)) ∙ sym (and-false (isWellFormed (decodedIn (table a b c) l a b c n)))
+      where
+        and-false : (p : Bool) → p && false ≡ false
+        and-false true = refl
+        and-false false = refl

@@ -17,4 +17,4 @@ short false n h = omega (arith, eqb-true n 0 h)
 
 pub text-short : (l a b c n : ℕ) → recordFits l a b c n ≡ true → n ≤ 96
 unfolding recordFits
-text-short l a b c n h = short (eqb l 76) n (second (isWellFormed (decodedOf l a b c n)) (textFits l n) h)
+text-short l a b c n h = short (eqb l 76) n (second (isWellFormed (decodedOf l a b c 0)) (textFits l n) h)

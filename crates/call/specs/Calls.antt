@@ -1,6 +1,6 @@
 -- Document 01, 'Twelve calls': a call is a letter, three fields and a text; the table of the letters with the fields that each names; and, from
 -- 'Desk file', the calls that a record can hold. Assumes nothing.
-use mathlib.Core.Bool.{Bool, true, false, cond, _&&_}
+use mathlib.Core.Bool.{Bool, true, false, cond, _&&_, _||_}
 use mathlib.Core.List.{List, [], _∷_}
 use Prim.Native.Nat.{ℕ}
 use lib.Dec.{eqb, leb}
@@ -19,52 +19,58 @@ pub record Call : Type 0 where
 abbrev pub callWith : ℕ → ℕ → ℕ → ℕ → List ℕ → Call
 callWith l a b c t = record { letter = l; a = a; b = b; c = c; text = t }
 
--- a line of the table: the letter's byte, the request with the fields that it names, and what it does not name, which is then 0
-pub record Line : Type 0 where
+-- a row of the table: the letter's byte, the request, and how many of a, b and c, in their order, it names
+pub record Row : Type 0 where
   pub letter : ℕ
   pub request : Request
-  pub unnamed : List ℕ
+  pub named : ℕ
 
-abbrev pub line : ℕ → Request → List ℕ → Line
-line l q xs = record { letter = l; request = q; unnamed = xs }
+abbrev pub row : ℕ → Request → ℕ → Row
+row l q k = record { letter = l; request = q; named = k }
 
--- the table, for the fields a, b and c and a text of n bytes: U, S, E, N, K, G, T, L, D, C, R, A. Only L names a text.
-abbrev pub table : ℕ → ℕ → ℕ → ℕ → List Line
-table a b c n =
-    line 85 NewUser (a ∷ b ∷ c ∷ n ∷ [])
-    ∷ line 83 (StartThread a) (b ∷ c ∷ n ∷ [])
-    ∷ line 69 (EndThread a) (b ∷ c ∷ n ∷ [])
-    ∷ line 78 (NewSegment a b) (c ∷ n ∷ [])
-    ∷ line 75 (NewKey a) (b ∷ c ∷ n ∷ [])
-    ∷ line 71 (GiveKey a b c) (n ∷ [])
-    ∷ line 84 (TakeKey a b c) (n ∷ [])
-    ∷ line 76 (AddLock a b c) []
-    ∷ line 68 (DropLock a b) (c ∷ n ∷ [])
-    ∷ line 67 (CallSegment a b) (c ∷ n ∷ [])
-    ∷ line 82 (ReturnCall a) (b ∷ c ∷ n ∷ [])
-    ∷ line 65 (Access a b c) (n ∷ [])
+-- the table, for the fields a, b and c: U, S, E, N, K, G, T, L, D, C, R, A
+abbrev pub table : ℕ → ℕ → ℕ → List Row
+table a b c =
+    row 85 NewUser 0
+    ∷ row 83 (StartThread a) 1
+    ∷ row 69 (EndThread a) 1
+    ∷ row 78 (NewSegment a b) 2
+    ∷ row 75 (NewKey a) 1
+    ∷ row 71 (GiveKey a b c) 3
+    ∷ row 84 (TakeKey a b c) 3
+    ∷ row 76 (AddLock a b c) 3
+    ∷ row 68 (DropLock a b) 2
+    ∷ row 67 (CallSegment a b) 2
+    ∷ row 82 (ReturnCall a) 1
+    ∷ row 65 (Access a b c) 3
     ∷ []
 
-abbrev pub allZero : List ℕ → Bool
-allZero [] = true
-allZero (x ∷ xs) = eqb x 0 && allZero xs
+-- 'those not named are 0': all but the first k
+abbrev pub unnamedZero : ℕ → ℕ → ℕ → ℕ → Bool
+unnamedZero k a b c = (leb 1 k || eqb a 0) && (leb 2 k || eqb b 0) && (leb 3 k || eqb c 0)
 
--- the line of a letter, if its unnamed fields are 0; otherwise, and for an unknown letter, 18
-abbrev pub find : ℕ → List Line → Decoded
-find letter [] = Corrupt
-find letter (l ∷ ls) = cond (eqb letter (l .letter)) (cond (allZero (l .unnamed)) (WellFormed (l .request)) Corrupt) (find letter ls)
+-- only L names a text, here of n bytes
+abbrev pub textNamed : ℕ → ℕ → Bool
+textNamed letter n = eqb letter 76 || eqb n 0
 
--- a call handed straight to the guard, with a text of n bytes
+-- 18 for 'an unknown letter, an unnamed field not 0 or a text outside L', else the letter's request
+abbrev pub decodedIn : List Row → ℕ → ℕ → ℕ → ℕ → ℕ → Decoded
+decodedIn [] letter a b c n = Corrupt
+decodedIn (r ∷ rs) letter a b c n =
+    cond (eqb letter (r .letter)) (cond (unnamedZero (r .named) a b c && textNamed letter n) (WellFormed (r .request)) Corrupt) (decodedIn rs letter a b c n)
+
+-- a call handed straight to the guard
 unfoldable pub decodedOf : ℕ → ℕ → ℕ → ℕ → ℕ → Decoded
-decodedOf letter a b c n = find letter (table a b c n)
+decodedOf letter a b c n = decodedIn (table a b c) letter a b c n
 
 abbrev pub isWellFormed : Decoded → Bool
 isWellFormed (WellFormed q) = true
 isWellFormed Corrupt = false
 
--- a call that a record can hold: 'Only L has text, 1 to 96 bytes.'
+-- 'Only L has text, 1 to 96 bytes.'
 abbrev pub textFits : ℕ → ℕ → Bool
 textFits letter n = cond (eqb letter 76) (leb 1 n && leb n 96) (eqb n 0)
 
+-- a call that a record can hold: its letter and fields are those of a well formed call, and its text has the right length
 unfoldable pub recordFits : ℕ → ℕ → ℕ → ℕ → ℕ → Bool
-recordFits letter a b c n = isWellFormed (decodedOf letter a b c n) && textFits letter n
+recordFits letter a b c n = isWellFormed (decodedOf letter a b c 0) && textFits letter n

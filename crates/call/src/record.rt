@@ -11,7 +11,7 @@ const MOST_TEXT: usize = 96;
 pub fn fits(letter: u8, a: u16, b: u16, c: u16, size: usize) -> bool
     ensures { λ r. ⌜ r ≡ recordFits letter a b c size ⌝ }
 {
-    match decode(letter, a, b, c, size) {
+    match decode(letter, a, b, c, 0) {
         Decoded::Corrupt => false,
         Decoded::WellFormed(_) => text_fits(letter, size),
     }

@@ -1,7 +1,7 @@
 // A call's letter and fields as a request.
 ghost use mathlib.Core.Path.{_≡_};
-ghost use Rattle.call.specs.Calls.{decodedOf};
-ghost use Rattle.call.specs.Steps.{onlyWhere};
+ghost use Rattle.call.specs.Calls.{unnamedZero, decodedOf};
+ghost use Rattle.call.specs.Steps.{lineOf};
 
 // A well formed call, with the fields that its letter names. The text of a lock stands beside it.
 pub enum Request {
@@ -39,32 +39,47 @@ pub enum Decoded {
 pub fn decode(letter: u8, a: u16, b: u16, c: u16, size: usize) -> Decoded
     ensures { λ r. ⌜ r ≡ decodedOf letter a b c size ⌝ }
 {
-    match letter {
-        b'U' => only_where(
-            (a == 0) & (b == 0) & (c == 0) & (size == 0),
-            Request::NewUser,
-        ),
-        b'S' => only_where((b == 0) & (c == 0) & (size == 0), Request::StartThread(a)),
-        b'E' => only_where((b == 0) & (c == 0) & (size == 0), Request::EndThread(a)),
-        b'N' => only_where((c == 0) & (size == 0), Request::NewSegment(a, b)),
-        b'K' => only_where((b == 0) & (c == 0) & (size == 0), Request::NewKey(a)),
-        b'G' => only_where(size == 0, Request::GiveKey(a, b, c)),
-        b'T' => only_where(size == 0, Request::TakeKey(a, b, c)),
-        b'L' => Decoded::WellFormed(Request::AddLock(a, b, c)),
-        b'D' => only_where((c == 0) & (size == 0), Request::DropLock(a, b)),
-        b'C' => only_where((c == 0) & (size == 0), Request::CallSegment(a, b)),
-        b'R' => only_where((b == 0) & (c == 0) & (size == 0), Request::ReturnCall(a)),
-        b'A' => only_where(size == 0, Request::Access(a, b, c)),
-        _ => Decoded::Corrupt,
+    match find_line(letter, a, b, c) {
+        Line::Unknown => Decoded::Corrupt,
+        Line::Of(request, named) => {
+            if unnamed_zero(named, a, b, c) & ((letter == b'L') | (size == 0)) {
+                Decoded::WellFormed(request)
+            } else {
+                Decoded::Corrupt
+            }
+        }
     }
 }
 
-fn only_where(fits: bool, request: Request) -> Decoded
-    ensures { λ r. ⌜ r ≡ onlyWhere fits request ⌝ }
+// A line of document 01's table: the request, and how many of a, b and c it names.
+enum Line {
+    Of(Request, u8),
+    Unknown,
+}
+
+fn find_line(letter: u8, a: u16, b: u16, c: u16) -> Line
+    ensures { λ r. ⌜ r ≡ lineOf letter a b c ⌝ }
 {
-    if fits {
-        Decoded::WellFormed(request)
-    } else {
-        Decoded::Corrupt
+    match letter {
+        b'U' => Line::Of(Request::NewUser, 0),
+        b'S' => Line::Of(Request::StartThread(a), 1),
+        b'E' => Line::Of(Request::EndThread(a), 1),
+        b'N' => Line::Of(Request::NewSegment(a, b), 2),
+        b'K' => Line::Of(Request::NewKey(a), 1),
+        b'G' => Line::Of(Request::GiveKey(a, b, c), 3),
+        b'T' => Line::Of(Request::TakeKey(a, b, c), 3),
+        b'L' => Line::Of(Request::AddLock(a, b, c), 3),
+        b'D' => Line::Of(Request::DropLock(a, b), 2),
+        b'C' => Line::Of(Request::CallSegment(a, b), 2),
+        b'R' => Line::Of(Request::ReturnCall(a), 1),
+        b'A' => Line::Of(Request::Access(a, b, c), 3),
+        _ => Line::Unknown,
     }
+}
+
+// Whether all but the first `named` of the fields are 0.
+fn unnamed_zero(named: u8, a: u16, b: u16, c: u16) -> bool
+    ensures { λ r. ⌜ r ≡ unnamedZero named a b c ⌝ }
+{
+    ((1 <= named) | (a == 0)) & ((2 <= named) | (b == 0)) & ((3 <= named) | (c == 0))
 }

@@ -1,83 +1,99 @@
--- The cases of `foundAt`, from what the tests and calls of `record_at` tell; and a turn of the loop over a file's records. Assumes nothing.
+-- The size of the record at a cursor, from what the tests and calls of `record_size` tell, and what it says of the record; the cases of `foundAt`; and a
+-- turn of the loop over a file's records. Assumes nothing.
 use Prim.Native.Nat.{ℕ, zero, suc, _+_, _-_, _<_, _≤_}
 use mathlib.Core.Path.{_≡_, refl, sym, ap, _∙_}
 use mathlib.Core.Bool.{Bool, true, false, cond, not}
 use mathlib.Core.List.{List}
+use mathlib.Core.Logic.{_≢_}
+use native.Mathlib.Omega.{arith}
 use lib.ListN.{length, getD}
 use lib.Dec.{leb, eqb}
-use borrow.Author.Tests.{lt-leb, le-leb, leb-true, not-true, not-false}
-use native.Mathlib.Omega.{arith}
+use borrow.Author.Tests.{lt-leb, le-leb, not-true, not-false}
 use Rattle.call.specs.Calls.{recordFits}
-use Rattle.journal.specs.declared.record.Found.{Found}
 use Rattle.journal.specs.declared.record.Found.the-variants.{Record, End, Damaged}
-use Rattle.journal.specs.declared.record.Entry.{Entry}
-use Rattle.journal.specs.Reading.{word, nextOf, wholeAt, entryOf, foundAt, cursorAfter, wholeFrom}
+use Rattle.journal.specs.Reading.{word, nextOf, wholeAt, entryOf, foundAt, wholeFrom}
+use Rattle.journal.specs.Steps.{sizeAt}
+use Rattle.journal.proofs.Files.{Whole, whole}
 
-module _ (s : List ℕ) (at : ℕ) (inside : at < length s) where
-  pub cut-short : length s < at + 9 → Damaged ≡ foundAt s at
-  unfolding foundAt wholeAt
-  cut-short h = simp (lt-leb (length s) at inside, lt-leb (at + 9) (length s) h)
+module _ (s : List ℕ) (at : ℕ) where
+  -- ---- the cases of the size
+
+  pub cut-short : length s < at + 9 → 0 ≡ sizeAt s at
+  unfolding sizeAt wholeAt
+  cut-short h = rw (lt-leb (at + 9) (length s) h)
 
   module _ (a b c n : ℕ) (head : at + 9 ≤ length s)
-      (ea : a ≡ word s (at + 1)) (eb : b ≡ word s (at + 3)) (ec : c ≡ word s (at + 5)) (en : n ≡ word s (at + 7)) where
-    pub unfit : (p : Bool) → p ≡ recordFits (getD s at 0) a b c n → not p ≡ true → Damaged ≡ foundAt s at
-    unfolding foundAt wholeAt
-    unfit p e h = simp (lt-leb (length s) at inside, le-leb (at + 9) (length s) head, ← ea, ← eb, ← ec, ← en, ← e, not-true p h)
+      (ea : a ≡ word s (at + 1)) (eb : b ≡ word s (at + 3)) (ec : c ≡ word s (at + 5)) (en : n ≡ word s (at + 7))
+      (p : Bool) (e : p ≡ recordFits (getD s at 0) a b c n) where
+    pub unfit : not p ≡ true → 0 ≡ sizeAt s at
+    unfolding sizeAt wholeAt
+    unfit h = simp (le-leb (at + 9) (length s) head, ← ea, ← eb, ← ec, ← en, ← e, not-true p h)
 
-    module _ (p : Bool) (e : p ≡ recordFits (getD s at 0) a b c n) (fit : not p ≡ false) where
-      pub text-cut : length s < at + 9 + n → Damaged ≡ foundAt s at
-      unfolding foundAt wholeAt
-      text-cut h = simp (lt-leb (length s) at inside, le-leb (at + 9) (length s) head, ← ea, ← eb, ← ec, ← en, ← e, not-false p fit, lt-leb (at + 9 + n) (length s) h)
+    pub text-cut : not p ≡ false → length s < at + 9 + n → 0 ≡ sizeAt s at
+    unfolding sizeAt wholeAt
+    text-cut fit h = simp (le-leb (at + 9) (length s) head, ← ea, ← eb, ← ec, ← en, ← e, not-false p fit, lt-leb (at + 9 + n) (length s) h)
 
-      pub is-whole : at + 9 + n ≤ length s
-          → Record (record { letter = getD s at 0; a = a; b = b; c = c; start = at + 9; next = at + 9 + n }) ≡ foundAt s at
-      unfolding foundAt wholeAt
-      is-whole h = simp (lt-leb (length s) at inside, le-leb (at + 9) (length s) head, ← ea, ← eb, ← ec, ← en, ← e, not-false p fit, le-leb (at + 9 + n) (length s) h)
+    pub is-whole : not p ≡ false → at + 9 + n ≤ length s → 9 + n ≡ sizeAt s at
+    unfolding sizeAt wholeAt
+    is-whole fit h = simp (le-leb (at + 9) (length s) head, ← ea, ← eb, ← ec, ← en, ← e, not-false p fit, le-leb (at + 9 + n) (length s) h)
 
--- ---- what is found there says whether the record is whole
+  -- ---- what the size says
 
-past-end : (s : List ℕ) (at : ℕ) → leb (length s) at ≡ true → wholeAt s at ≡ false
-unfolding wholeAt
-past-end s at o = let l : length s ≤ at = leb-true (length s) at o in rw (lt-leb (at + 9) (length s) (omega arith))
+  pub no-size : (k : ℕ) → k ≡ sizeAt s at → k ≡ 0 → wholeAt s at ≡ false
+  unfolding sizeAt
+  no-size k e z = go (wholeAt s at) (sym e ∙ z)
+    where
+      go : (w : Bool) → cond w (9 + word s (at + 7)) 0 ≡ 0 → w ≡ false
+      go true h = absurd (omega arith)
+      go false h = refl
 
-abbrev pub isRecord : Found → Bool
-isRecord (Record e) = true
-isRecord End = false
-isRecord Damaged = false
+  module _ (k : ℕ) (e : k ≡ sizeAt s at) (some : k ≢ 0) where
+    size-of : (wholeAt s at ≡ true) × (k ≡ 9 + word s (at + 7))
+    unfolding sizeAt
+    size-of = go (wholeAt s at) e
+      where
+        go : (w : Bool) → k ≡ cond w (9 + word s (at + 7)) 0 → (w ≡ true) × (k ≡ 9 + word s (at + 7))
+        go true h = (refl, h)
+        go false h = absurd (some h)
 
-judged : (out whole : Bool) (e : Entry) → (out ≡ true → whole ≡ false) → isRecord (cond out End (cond whole (Record e) Damaged)) ≡ whole
-judged true w e h = sym (h refl)
-judged false true e h = refl
-judged false false e h = refl
+    pub size-head : at + 9 ≤ length s
+    size-head = whole s at (size-of .0) .head
 
-pub found-whole : (s : List ℕ) (at : ℕ) → isRecord (foundAt s at) ≡ wholeAt s at
-unfolding foundAt
-found-whole s at = judged (leb (length s) at) (wholeAt s at) (entryOf s at) (past-end s at)
+    size-next : at + k ≡ nextOf s at
+    size-next = omega (arith, size-of .1)
 
-recorded : (out whole : Bool) (e : Entry) → (out ≡ true → whole ≡ false) → whole ≡ true → cond out End (cond whole (Record e) Damaged) ≡ Record e
-recorded true w e h t = let z : true ≡ false = sym t ∙ h refl in cc
-recorded false true e h t = refl
-recorded false false e h t = cc
+    pub size-end : at + k ≤ length s
+    size-end = omega (arith, size-next, whole s at (size-of .0) .end)
 
-pub found-record : (s : List ℕ) (at : ℕ) → wholeAt s at ≡ true → foundAt s at ≡ Record (entryOf s at)
-unfolding foundAt
-found-record s at w = recorded (leb (length s) at) (wholeAt s at) (entryOf s at) (past-end s at) w
+  -- ---- what is found
+
+  pub found-record : wholeAt s at ≡ true → foundAt s at ≡ Record (entryOf s at)
+  unfolding foundAt
+  found-record w = rw (lt-leb (length s) at (omega (arith, whole s at w .head)), w)
+
+  pub found-end : length s ≤ at → End ≡ foundAt s at
+  unfolding foundAt
+  found-end h = rw (le-leb (length s) at h)
+
+  pub found-damaged : at < length s → wholeAt s at ≡ false → Damaged ≡ foundAt s at
+  unfolding foundAt
+  found-damaged h w = rw (lt-leb (length s) at h, w)
+
+  pub found-entry : (k : ℕ) → k ≡ sizeAt s at → k ≢ 0 → (a b c : ℕ) → a ≡ word s (at + 1) → b ≡ word s (at + 3) → c ≡ word s (at + 5)
+      → Record (record { letter = getD s at 0; a = a; b = b; c = c; start = at + 9; next = at + k }) ≡ foundAt s at
+  found-entry k e some a b c ea eb ec = rw (ea, eb, ec, size-next k e some) (sym (found-record (size-of k e some .0)))
 
 -- ---- a turn over a file's records
 
-pub turn : (s : List ℕ) (at n : ℕ) (e : Entry) → 0 < n → Record e ≡ foundAt s at → wholeFrom (n - 1) s (e .next) ≡ wholeFrom n s at
+pub turn : (s : List ℕ) (at n k : ℕ) → 0 < n → k ≡ sizeAt s at → k ≢ 0 → wholeFrom (n - 1) s (at + k) ≡ wholeFrom n s at
 unfolding wholeFrom
-turn s at zero e h p = absurd (omega arith)
-turn s at (suc n) e h p =
-    let w : wholeAt s at ≡ true = sym (found-whole s at) ∙ ap isRecord (sym p) in
-    let k : e .next ≡ nextOf s at = ap (λ (f : Found). cursorAfter f 0) (p ∙ found-record s at w) in
-    let m : suc n - 1 ≡ n = omega arith in
-    rw (m, w, k)
+turn s at zero k h e some = absurd (omega arith)
+turn s at (suc n) k h e some = let m : suc n - 1 ≡ n = omega arith in rw (m, size-of s at k e some .0, size-next s at k e some)
 
-pub no-turn : (s : List ℕ) (at n : ℕ) (f : Found) → 0 < n → f ≡ foundAt s at → isRecord f ≡ false → false ≡ wholeFrom n s at
+pub no-turn : (s : List ℕ) (at n k : ℕ) → 0 < n → k ≡ sizeAt s at → k ≡ 0 → false ≡ wholeFrom n s at
 unfolding wholeFrom
-no-turn s at zero f h p e = absurd (omega arith)
-no-turn s at (suc n) f h p e = let w : wholeAt s at ≡ false = sym (found-whole s at) ∙ ap isRecord (sym p) ∙ e in rw w
+no-turn s at zero k h e z = absurd (omega arith)
+no-turn s at (suc n) k h e z = rw (no-size s at k e z)
 
 pub last-turn : (s : List ℕ) (at n : ℕ) → n ≤ 0 → eqb at (length s) ≡ wholeFrom n s at
 unfolding wholeFrom

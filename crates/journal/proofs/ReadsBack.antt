@@ -14,7 +14,7 @@ use Rattle.journal.specs.Format.{low, high, recordBytes, allBytes, fileH
 use Rattle.journal.specs.Reading.{word, recordOf, nextOf, wholeAt, wholeFrom, recordsFrom, recordsOf, foundAt}
 use Rattle.journal.specs.ReadsBack.{WrittenReadable, RecordsBack, Run, runFrom, ReadsInOrder}
 use Rattle.journal.proofs.Judging.{and-left, and-right}
-use Rattle.journal.proofs.Finding.{found-record}
+use Rattle.journal.proofs.Finding.{found-record, found-end}
 use Rattle.journal.proofs.Files.{Whole, whole, File, open-file, shut-file}
 
 pub word-value : (w : ℕ) → low w + high w * 256 ≡ w
@@ -100,13 +100,9 @@ records-back rs = rw (word-value (length rs)) (records-all rs (fileHead (length 
 
 -- ---- by the cursor
 
-found-end : (s : List ℕ) (at : ℕ) → at ≡ length s → foundAt s at ≡ End
-unfolding foundAt
-found-end s at e = rw (le-leb (length s) at (omega arith))
-
 runs : (n : ℕ) (s : List ℕ) (at : ℕ) → wholeFrom n s at ≡ true → runFrom n s at ≡ record { read = recordsFrom n s at; last = End }
 unfolding wholeFrom recordsFrom runFrom
-runs zero s at h = rw (found-end s at (eqb-true at (length s) h))
+runs zero s at h = rw (← found-end s at (omega (arith, eqb-true at (length s) h)))
 runs (suc n) s at h =
     let t : at + 9 + word s (at + 7) - (at + 9) ≡ word s (at + 7) = omega arith in
     rw (

@@ -1,13 +1,13 @@
 -- What the crate's private functions promise each other. Nothing here is part of what a reader must believe.
-use mathlib.Core.Bool.{Bool, not}
+use mathlib.Core.Bool.{Bool, not, cond}
 use mathlib.Core.List.{List, [], _∷_}
-use Prim.Native.Nat.{ℕ}
+use Prim.Native.Nat.{ℕ, _+_}
 use lib.Dec.{ltb}
 use Rattle.journal.specs.declared.file.Refusal.the-variants.{NotJournal, OtherVersion, Corrupt}
 use Rattle.journal.specs.declared.file.Verdict.{Verdict}
 use Rattle.journal.specs.Format.{mostBytes}
 use Rattle.journal.specs.Verdicts.{Condition, when, firstRefusal}
-use Rattle.journal.specs.Reading.{verdict}
+use Rattle.journal.specs.Reading.{word, wholeAt, verdict}
 
 -- the refusals of a file of n bytes, its records left aside
 abbrev pub headConditions : ℕ → Bool → Bool → List Condition
@@ -16,3 +16,7 @@ headConditions n marked current =
 
 abbrev pub headVerdict : ℕ → Bool → Bool → Verdict
 headVerdict n marked current = verdict (firstRefusal (headConditions n marked current))
+
+-- the bytes of the whole record at a cursor, or 0
+unfoldable pub sizeAt : List ℕ → ℕ → ℕ
+sizeAt s at = cond (wholeAt s at) (9 + word s (at + 7)) 0

@@ -6,8 +6,7 @@ ghost use Rattle.journal.specs.Verdicts.{refusalNumber};
 ghost use Rattle.journal.specs.Reading.{word, wholeFrom, marked, current, verdictOf};
 ghost use Rattle.journal.specs.Steps.{headVerdict};
 use crate::bytes::word_at;
-use crate::record::Found;
-use crate::record::record_at;
+use crate::record::record_size;
 
 // Document 01: full, not a desk file, other version, broken file.
 pub enum Refusal {
@@ -103,17 +102,11 @@ fn records_fill(file: &[u8]) -> bool
     let mut left = word_at(file, 5);
     let mut at = HEAD;
     while 0 < left {
-        match record_at(file, at) {
-            Found::Record(entry) => {
-                at = entry.next;
-            }
-            Found::End => {
-                return false;
-            }
-            Found::Damaged => {
-                return false;
-            }
+        let size = record_size(file, at);
+        if size == 0 {
+            return false;
         }
+        at += size;
         left -= 1;
     }
     at == file.len()

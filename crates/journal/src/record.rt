@@ -1,6 +1,7 @@
 // The record at a cursor.
 ghost use mathlib.Core.Path.{_≡_};
 ghost use Rattle.journal.specs.Reading.{foundAt};
+ghost use Rattle.journal.specs.Steps.{sizeAt};
 use crate::bytes::word_at;
 use call::record::fits;
 
@@ -28,32 +29,49 @@ const HEAD: usize = 9;
 pub fn record_at(file: &[u8], at: usize) -> Found
     ensures { λ r. ⌜ r ≡ foundAt (now (file .entry)) at ⌝ }
 {
-    let n = file.len();
-    if n <= at {
+    if file.len() <= at {
         return Found::End;
     }
-    if n - at < HEAD {
+    let size = record_size(file, at);
+    if size == 0 {
         return Found::Damaged;
     }
-    let letter = file[at];
     let a = word_at(file, at + 1);
     let b = word_at(file, at + 3);
     let c = word_at(file, at + 5);
-    let size = word_at(file, at + 7) as usize;
-    if !fits(letter, a, b, c, size) {
-        return Found::Damaged;
-    }
     let start = at + HEAD;
-    let next = start + size;
-    if n < next {
-        return Found::Damaged;
-    }
+    let next = at + size;
     Found::Record(Entry {
-        letter,
+        letter: file[at],
         a,
         b,
         c,
         start,
         next,
     })
+}
+
+// The bytes of the whole record at a cursor; 0 where there is none.
+pub(crate) fn record_size(file: &[u8], at: usize) -> usize
+    ensures { λ r. ⌜ r ≡ sizeAt (now (file .entry)) at ⌝ }
+{
+    let n = file.len();
+    if n <= at {
+        return 0;
+    }
+    if n - at < HEAD {
+        return 0;
+    }
+    let a = word_at(file, at + 1);
+    let b = word_at(file, at + 3);
+    let c = word_at(file, at + 5);
+    let text = word_at(file, at + 7) as usize;
+    if !fits(file[at], a, b, c, text) {
+        return 0;
+    }
+    let size = HEAD + text;
+    if n - at < size {
+        return 0;
+    }
+    size
 }

@@ -1,8 +1,8 @@
 -- The invariant is that the records left decide what all of them do; the measure is how many are left. Assumes nothing.
-use mathlib.Core.Path.{_≡_, refl, sym, _∙_}
+use mathlib.Core.Path.{_≡_, _∙_}
 use borrow.Author.Needs.{needs}
 use Rattle.journal.specs.Reading.{word, wholeFrom}
-use Rattle.journal.proofs.Finding.{turn, no-turn, last-turn}
+use Rattle.journal.proofs.Finding.{size-end, turn, no-turn, last-turn}
 use Rattle.journal.proofs.file.records_fill.Statement.{statement}
 use Rattle.journal.proofs.file.records_fill.Tie as tie
 
@@ -17,21 +17,19 @@ loop-holds c = rw (c .word-at .ensures)
 
 returns : tie.Need-returns Inv-loop μ-loop
 returns c =
-    let f = c .before .before in
-    no-turn _ _ _ _ (f .before .loop-test .taken) (sym (c .enum-told .given .1) ∙ f .record-at .ensures) refl ∙ f .before .before .loop .inv
+    let k = c .before in
+    no-turn _ _ _ _ (k .before .loop-test .taken) (k .record-size .ensures) (c .if1 .taken) ∙ k .before .before .loop .inv
 
-returns-2 : tie.Need-returns-2 Inv-loop μ-loop
-returns-2 c =
-    let f = c .before .before in
-    no-turn _ _ _ _ (f .before .loop-test .taken) (sym (c .enum-told2 .given .1) ∙ f .record-at .ensures) refl ∙ f .before .before .loop .inv
+add-at : tie.Need-add-at Inv-loop μ-loop
+add-at c = let h = size-end _ _ _ (c .before .record-size .ensures) (c .if1 .left) in search needs
 
 loop-again : tie.Need-loop-again Inv-loop μ-loop
 loop-again c =
-    let f = c .before .before .before in
-    turn _ _ _ _ (f .before .loop-test .taken) (sym (c .before .entry .given .1) ∙ f .record-at .ensures) ∙ f .before .before .loop .inv
+    let k = c .before in
+    turn _ _ _ _ (k .before .loop-test .taken) (k .record-size .ensures) (c .if1 .left) ∙ k .before .before .loop .inv
 
-returns-3 : tie.Need-returns-3 Inv-loop μ-loop
-returns-3 c = last-turn _ _ _ (c .loop-test .left) ∙ c .before .loop .inv
+returns-2 : tie.Need-returns-2 Inv-loop μ-loop
+returns-2 c = last-turn _ _ _ (c .loop-test .left) ∙ c .before .loop .inv
 
 pub records-fill-spec : {M : Type 1} → statement M
 records-fill-spec =
@@ -41,13 +39,10 @@ records-fill-spec =
     μ-loop
     (λ c κs. search needs)  -- word-at-requires
     loop-holds
-    (λ c κs. search needs)  -- record-at-requires
-    (λ c. search needs)  -- enum-known-entry
-    (λ c. search needs)  -- enum-told
+    (λ c κs. search needs)  -- record-size-requires
     returns
-    (λ c. search needs)  -- enum-told-2
-    returns-2
+    add-at
     (λ c. search needs)  -- sub-left
     (λ c. search needs)  -- loop-less
     loop-again
-    returns-3)
+    returns-2)
