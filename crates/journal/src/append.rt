@@ -46,13 +46,12 @@ pub fn append(
     ensures answer { λ r. ⌜ r ≡ appendAnswer (now (buffer .entry)) len (callWith letter a b c (now (text .entry))) ⌝ }
     ensures bytes { λ r. ⌜ now (buffer .exit) ≡ bufferAfter r (now (buffer .entry)) len (callWith letter a b c (now (text .entry))) ⌝ }
 {
-    match append_answer(&buffer[..], len, letter, a, b, c, text) {
-        Appended::Declined(refusal) => Appended::Declined(refusal),
-        Appended::Length(end) => {
-            store_record(&mut buffer[..], len, letter, a, b, c, text);
-            Appended::Length(end)
-        }
-    }
+    let answer = append_answer(&buffer[..], len, letter, a, b, c, text);
+    let Appended::Length(_) = answer else {
+        return answer;
+    };
+    store_record(&mut buffer[..], len, letter, a, b, c, text);
+    answer
 }
 
 // The answer to an append, from the buffer as it is.

@@ -1,6 +1,8 @@
 //! The proved guard as Rust sees it: its declarations, a safe wrapper for each,
 //! and the translation between its rows and numbers and the reference's products
-//! and keys.
+//! and keys. The journal's are in [`journal`].
+
+pub mod journal;
 
 use reference::formula::{Literal, MAX_LITERALS, Product};
 use reference::{Issued, Key, Kind};

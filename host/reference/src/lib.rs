@@ -4,10 +4,12 @@
 //! the proved guard, and where one can choose it takes another road: sets and
 //! vectors, a tree on the heap, no fixed arrays. Obvious comes before fast.
 //!
-//! So far it holds the lowest layer, [`formula`]: from a formula text to a sum
-//! of products.
+//! So far it holds two layers that know nothing of each other: [`formula`],
+//! from a formula text to a sum of products, and [`journal`], the file of call
+//! records.
 
 pub mod formula;
+pub mod journal;
 pub mod random;
 
 /// What a key stands for. The order is the order of a product's keys.

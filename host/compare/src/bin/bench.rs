@@ -1,16 +1,20 @@
-//! Times both guards on the same formula texts, in one run, and prints a table.
+//! Times both guards on the same formula texts and journals, in one run, and
+//! prints a table of each.
 //!
 //! Run it in `host/` with `cargo run --offline --release --bin bench`. It fails where the proved
-//! guard takes more than [`LIMIT`] times as long as the reference on a text
+//! guard takes more than [`LIMIT`] times as long as the reference on a row
 //! that is marked.
 
 use compare::Rows;
+use compare::journal::{ACCEPTED, CELLS, END, RECORD};
 use reference::Issued;
+use reference::journal::{HEAD_BYTES, Record, Step, append, check, record_at, write};
+use reference::random::Random;
 use std::hint::black_box;
 use std::process::ExitCode;
 use std::time::{Duration, Instant};
 
-/// The most that proved time / reference time may be on a marked text.
+/// The most that proved time / reference time may be on a marked row.
 const LIMIT: f64 = 1.5;
 const ROUNDS: usize = 25;
 /// How long one side's round lasts, or a little more.
@@ -112,18 +116,43 @@ fn calls_for_a_round(mut call: impl FnMut()) -> u32 {
     calls
 }
 
-/// The least mean of both sides. Their rounds alternate, so that a slow spell
-/// of the machine falls on both.
-fn measure(text: &[u8]) -> (f64, f64) {
-    let mut rows = Rows::default();
-    let proved_calls = calls_for_a_round(|| proved(text, &mut rows));
-    let reference_calls = calls_for_a_round(|| reference(text));
-    let (mut proved_least, mut reference_least) = (f64::MAX, f64::MAX);
-    for _ in 0..ROUNDS {
-        proved_least = proved_least.min(mean(proved_calls, || proved(text, &mut rows)));
-        reference_least = reference_least.min(mean(reference_calls, || reference(text)));
+/// The least means, in nanoseconds a call.
+struct Times {
+    proved: f64,
+    reference: f64,
+}
+
+impl Times {
+    fn ratio(&self) -> f64 {
+        self.proved / self.reference
     }
-    (proved_least, reference_least)
+}
+
+/// Measures both sides. Their rounds alternate, so that a slow spell of the
+/// machine falls on both.
+fn measure(mut proved: impl FnMut(), mut reference: impl FnMut()) -> Times {
+    let proved_calls = calls_for_a_round(&mut proved);
+    let reference_calls = calls_for_a_round(&mut reference);
+    let mut least = Times {
+        proved: f64::MAX,
+        reference: f64::MAX,
+    };
+    for _ in 0..ROUNDS {
+        least.proved = least.proved.min(mean(proved_calls, &mut proved));
+        least.reference = least.reference.min(mean(reference_calls, &mut reference));
+    }
+    least
+}
+
+/// Prints a table's row, with the number that the table has in its third
+/// column. Answers whether the row is marked and above [`LIMIT`].
+fn print_row(name: &str, bytes: usize, third: u32, times: &Times, marked: bool) -> bool {
+    let (ratio, mark) = (times.ratio(), if marked { "*" } else { "" });
+    println!(
+        "| {name} | {bytes} | {third} | {:.0} | {:.0} | {ratio:.2} | {mark} |",
+        times.proved, times.reference,
+    );
+    marked && ratio > LIMIT
 }
 
 fn shortened(text: &str) -> String {
@@ -147,7 +176,8 @@ fn agreed_answer(text: &[u8]) -> u32 {
     answer
 }
 
-fn main() -> ExitCode {
+/// Prints the formula texts' table. Answers how many rows are too slow.
+fn print_texts() -> usize {
     println!(
         "Both sides take a slice of bytes and four counts. The proved guard fills 64 cells in \
          place and allocates nothing; the reference makes a tree and a vector of products on \
@@ -162,20 +192,185 @@ fn main() -> ExitCode {
         let bytes = text.as_bytes();
         let answer = agreed_answer(bytes);
         assert!(!marked || answer <= 8, "{text} is refused");
-        let (proved, reference) = measure(bytes);
-        let ratio = proved / reference;
-        println!(
-            "| `{}` | {} | {answer} | {proved:.0} | {reference:.0} | {ratio:.2} | {} |",
-            shortened(&text),
-            bytes.len(),
-            if marked { "*" } else { "" },
-        );
-        if marked && ratio > LIMIT {
-            slow += 1;
-        }
+        let mut rows = Rows::default();
+        let times = measure(|| proved(bytes, &mut rows), || reference(bytes));
+        let name = format!("`{}`", shortened(&text));
+        slow += usize::from(print_row(&name, bytes.len(), answer, &times, marked));
     }
+    slow
+}
+
+/// A record that fits, with a text of this length.
+fn record(letter: u8, text_length: usize) -> Record {
+    Record {
+        letter,
+        a: 0,
+        b: 0,
+        c: 0,
+        text: vec![b'!'; text_length],
+    }
+}
+
+/// The most records of 9 bytes that a file holds, their letters drawn from
+/// these.
+fn file_without_texts(letters: &[u8]) -> Vec<u8> {
+    let mut random = Random::new(1);
+    let records: Vec<Record> = (0..7_280)
+        .map(|_| record(random.pick(letters), 0))
+        .collect();
+    let file = write(&records);
+    assert_eq!(file.len(), 65_527);
+    file
+}
+
+/// The most records with the longest text that a file holds.
+fn file_of_longest_texts() -> Vec<u8> {
+    let file = write(&vec![record(b'L', 96); 624]);
+    assert_eq!(file.len(), 65_527);
+    file
+}
+
+/// Checking a whole file. Neither side makes anything of its records.
+fn measure_check(file: &[u8]) -> Times {
+    assert_eq!(compare::journal::check(file), ACCEPTED);
+    assert_eq!(check(file), Ok(()));
+    measure(
+        || {
+            black_box(compare::journal::check(black_box(file)));
+        },
+        || {
+            let _ = black_box(check(black_box(file)));
+        },
+    )
+}
+
+/// The proved guard from a file's first record to its end: how many there are.
+fn proved_walk(file: &[u8]) -> u32 {
+    let mut cells = [0; CELLS];
+    let (mut records, mut cursor) = (0, HEAD_BYTES);
+    loop {
+        match compare::journal::record(file, cursor, &mut cells) {
+            RECORD => cursor = black_box(&cells)[5] as usize,
+            answer => {
+                assert_eq!(answer, END);
+                return records;
+            }
+        }
+        records += 1;
+    }
+}
+
+/// The reference from a file's first record to its end: how many there are.
+fn reference_walk(file: &[u8]) -> u32 {
+    let (mut records, mut cursor) = (0, HEAD_BYTES);
+    loop {
+        match black_box(&record_at(file, cursor)) {
+            Step::Record { text, .. } => cursor = text.end,
+            step => {
+                assert_eq!(*step, Step::End);
+                return records;
+            }
+        }
+        records += 1;
+    }
+}
+
+fn measure_walk(file: &[u8]) -> Times {
+    assert_eq!(proved_walk(file), reference_walk(file));
+    measure(
+        || {
+            black_box(proved_walk(black_box(file)));
+        },
+        || {
+            black_box(reference_walk(black_box(file)));
+        },
+    )
+}
+
+/// A file's record count, for putting it back after an append.
+const COUNT: std::ops::Range<usize> = 5..7;
+
+/// Appending one record. Both sides put the count back for the next call; the
+/// record's bytes may stay, since they are behind the file.
+fn measure_append(file: &[u8], record: &Record) -> Times {
+    let mut buffer = file.to_vec();
+    buffer.resize(1_024, 0);
+    let (mut proved, mut reference) = (buffer.clone(), buffer);
+    let count = [file[5], file[6]];
+    let times = measure(
+        || {
+            proved[COUNT].copy_from_slice(&count);
+            let mut length = file.len();
+            let buffer = black_box(&mut proved);
+            let answer = compare::journal::append(buffer, &mut length, black_box(record));
+            assert_eq!(black_box((answer, length)).0, ACCEPTED);
+        },
+        || {
+            reference[COUNT].copy_from_slice(&count);
+            let buffer = black_box(&mut reference);
+            let answer = append(buffer, file.len(), black_box(record));
+            assert!(black_box(answer).is_ok());
+        },
+    );
+    assert_eq!(proved, reference);
+    times
+}
+
+/// Prints the journals' table. Answers how many rows are too slow.
+fn print_journals() -> usize {
+    println!(
+        "\nBoth sides take a slice of bytes, and neither allocates. Checking is one call for the \
+         whole file; reading is a call for each record and one for the end; appending checks \
+         the file first. Least mean of {ROUNDS} rounds, in nanoseconds for what the row says. \
+         On rows marked * the ratio may be at most {LIMIT}.\n"
+    );
+    println!("| Journal | Bytes | Records | Proved ns | Reference ns | Ratio | |");
+    println!("|---|---:|---:|---:|---:|---:|---|");
+    let ten = write(&[
+        record(b'U', 0),
+        record(b'N', 0),
+        record(b'N', 0),
+        record(b'K', 0),
+        record(b'G', 0),
+        record(b'L', 5),
+        record(b'L', 2),
+        record(b'S', 0),
+        record(b'C', 0),
+        record(b'A', 0),
+    ]);
+    let calls = file_without_texts(b"C");
+    let mixed = file_without_texts(b"USENKGTDCRA");
+    let locks = file_of_longest_texts();
+    let rows = [
+        ("check, one letter", &calls, measure_check(&calls)),
+        ("check, eleven letters", &mixed, measure_check(&mixed)),
+        ("check, longest texts", &locks, measure_check(&locks)),
+        ("read, one letter", &calls, measure_walk(&calls)),
+        ("read, eleven letters", &mixed, measure_walk(&mixed)),
+        ("read, longest texts", &locks, measure_walk(&locks)),
+        (
+            "append without text",
+            &ten,
+            measure_append(&ten, &record(b'R', 0)),
+        ),
+        (
+            "append, longest text",
+            &ten,
+            measure_append(&ten, &record(b'L', 96)),
+        ),
+    ];
+    let mut slow = 0;
+    for (name, file, times) in rows {
+        let records = reference_walk(file);
+        slow += usize::from(print_row(name, file.len(), records, &times, true));
+    }
+    slow
+}
+
+fn main() -> ExitCode {
+    let slow = print_texts() + print_journals();
     if slow > 0 {
-        println!("\n{slow} marked texts are above {LIMIT}.");
+        println!("\n{slow} marked rows are above {LIMIT}.");
         return ExitCode::FAILURE;
     }
     ExitCode::SUCCESS

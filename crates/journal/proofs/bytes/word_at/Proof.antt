@@ -5,17 +5,8 @@ use borrow.Author.Needs.{needs}
 use Rattle.journal.proofs.bytes.word_at.Statement.{statement}
 use Rattle.journal.proofs.bytes.word_at.Tie as tie
 
-shared-slice-read-result : tie.Need-shared-slice-read-result
-shared-slice-read-result c = search needs
-
 cast-result : tie.Need-cast-result
 cast-result c = omega (arith, c .shared-slice-known .given (c .before .args .i))
-
-add-result : tie.Need-add-result
-add-result c = search needs
-
-shared-slice-read-result-2 : tie.Need-shared-slice-read-result-2
-shared-slice-read-result-2 c = search needs
 
 cast-result-2 : tie.Need-cast-result-2
 cast-result-2 c = omega (arith, c .shared-slice-known2 .given (c .before .before .args .i + 1))
@@ -26,18 +17,16 @@ mul-result c = omega (arith, c .shared-slice-known2 .given (c .before .before .a
 add-result-2 : tie.Need-add-result-2
 add-result-2 c = omega (arith, c .shared-slice-known2 .given (c .before .before .args .i + 1), c .shared-slice-known2 .given (c .before .before .args .i))
 
-returns : tie.Need-returns
-returns c = search needs
-
 pub word-at-spec : {M : Type 1} → statement M
 word-at-spec =
     tie.close
     (tie.spec
-    shared-slice-read-result
+    (λ c. search needs)  -- shared-slice-read-result
     cast-result
-    add-result
-    shared-slice-read-result-2
+    (λ c. search needs)  -- add-result
+    (λ c. search needs)  -- shared-slice-read-result-2
     cast-result-2
     mul-result
     add-result-2
-    returns)
+    (λ c. search needs)  -- returns
+    )
