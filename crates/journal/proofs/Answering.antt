@@ -1,9 +1,8 @@
 -- The cases of `appendAnswer`, in the order in which the code tells them apart, and what an accepted append knows. Assumes nothing.
 use Prim.Native.Nat.{ℕ, _+_, _<_, _≤_}
-use mathlib.Core.Path.{_≡_, refl, sym, ap, _∙_}
+use mathlib.Core.Path.{_≡_, sym, ap, _∙_}
 use mathlib.Core.Bool.{Bool, true, false, not, _||_}
 use mathlib.Core.List.{List, _++_}
-use mathlib.Core.Option.{Option, none, some}
 use lib.ListN.{length, take}
 use lib.Dec.{ltb}
 use borrow.Author.Tests.{lt-ltb, le-ltb}
@@ -14,7 +13,7 @@ use Rattle.journal.specs.declared.file.Verdict.the-variants.{Readable, R
 use Rattle.journal.specs.declared.append.Appended.the-variants.{Length, Declined}
 use Rattle.journal.specs.Format.{mostBytes, isFit}
 use Rattle.journal.specs.Verdicts.{firstRefusal}
-use Rattle.journal.specs.Reading.{fileConditions, verdict, verdictOf}
+use Rattle.journal.specs.Reading.{fileConditions, verdictOf}
 use Rattle.journal.specs.Appending.{lengthWith, ownConditions, answer, appendAnswer}
 use Rattle.journal.proofs.Judging.{first-here, first-later, refused-some, readable-none}
 

@@ -17,7 +17,7 @@ use Rattle.journal.specs.declared.append.Appended.the-variants.{Length, 
 use Rattle.journal.specs.Format.{mostBytes, isFit}
 use Rattle.journal.specs.Reading.{verdictOf}
 use Rattle.journal.specs.Appending.{lengthWith, appendAnswer}
-use Rattle.journal.specs.Declines.{DeclinedBy, beyond, file, unfit, full, DeclinedExactly, Takes, AcceptedExactly}
+use Rattle.journal.specs.Declines.{DeclinedBy, beyond, file, unfit, full, DeclinedExactly, AcceptedExactly}
 use Rattle.journal.proofs.Answering as cases
 use Rattle.journal.proofs.Files.{new-length, accepted, shut-file}
 

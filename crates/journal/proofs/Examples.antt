@@ -1,18 +1,17 @@
 -- Short files are computed. The long ones are not written out: their length is counted by induction, and the theorems on files do the rest. Assumes nothing.
-use Prim.Native.Nat.{ℕ, zero, suc, _+_, _*_, _<_, _≤_}
-use mathlib.Core.Path.{_≡_, refl, sym, ap, _∙_}
-use mathlib.Core.List.{List, [], _∷_, _++_}
+use Prim.Native.Nat.{ℕ, zero, suc, _+_, _*_, _<_}
+use mathlib.Core.Path.{_≡_, refl, ap, _∙_}
+use mathlib.Core.List.{List, _∷_, _++_}
 use native.Mathlib.Omega.{arith}
-use lib.ListN.{length, length-append}
-use lib.Dec.{lit<}
+use lib.ListN.{length}
 use borrow.Author.Tests.{le-leb, lt-ltb, le-ltb}
-use Rattle.call.specs.Calls.{Call, callWith, decodedOf, recordFits}
+use Rattle.call.specs.Calls.{Call, decodedOf, recordFits}
 use Rattle.journal.specs.declared.file.Refusal.the-variants.{Corrupt}
 use Rattle.journal.specs.declared.file.Verdict.the-variants.{Refused}
-use Rattle.journal.specs.Format.{recordBytes, allBytes, fileHead, fileBytes, mostBytes, Recordable, AllRecordable}
+use Rattle.journal.specs.Format.{allBytes, fileHead, fileBytes, mostBytes, AllRecordable}
 use Rattle.journal.specs.Reading.{wholeAt, wholeFrom, recordsFrom, recordsOf, verdictOf}
 use Rattle.journal.specs.Examples.{usersThen, longest, oneMore, Examples}
-use Rattle.journal.proofs.ReadsBack.{word-value, written-readable}
+use Rattle.journal.proofs.ReadsBack.{written-readable}
 use Rattle.journal.proofs.Rebuilds.{file-length}
 
 users-length : (n : ℕ) (rs : List Call) → length (allBytes (usersThen n rs)) ≡ 9 * n + length (allBytes rs)

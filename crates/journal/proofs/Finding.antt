@@ -1,19 +1,19 @@
 -- The size of the record at a cursor, from what the tests and calls of `record_size` tell, and what it says of the record; the cases of `foundAt`; and a
 -- turn of the loop over a file's records. Assumes nothing.
 use Prim.Native.Nat.{ℕ, zero, suc, _+_, _-_, _<_, _≤_}
-use mathlib.Core.Path.{_≡_, refl, sym, ap, _∙_}
+use mathlib.Core.Path.{_≡_, refl, sym, _∙_}
 use mathlib.Core.Bool.{Bool, true, false, cond, not}
 use mathlib.Core.List.{List}
 use mathlib.Core.Logic.{_≢_}
 use native.Mathlib.Omega.{arith}
 use lib.ListN.{length, getD}
-use lib.Dec.{leb, eqb}
+use lib.Dec.{eqb}
 use borrow.Author.Tests.{lt-leb, le-leb, not-true, not-false}
 use Rattle.call.specs.Calls.{recordFits}
 use Rattle.journal.specs.declared.record.Found.the-variants.{Record, End, Damaged}
 use Rattle.journal.specs.Reading.{word, nextOf, wholeAt, entryOf, foundAt, wholeFrom}
 use Rattle.journal.specs.Steps.{sizeAt}
-use Rattle.journal.proofs.Files.{Whole, whole}
+use Rattle.journal.proofs.Files.{whole}
 
 module _ (s : List ℕ) (at : ℕ) where
   -- ---- the cases of the size

@@ -5,14 +5,12 @@ use mathlib.Core.List.{List, [], _∷_, _++_}
 use mathlib.Core.Option.{Option, none, some}
 use Prim.Native.Nat.{ℕ, _≤_}
 use lib.ListN.{length}
-use lib.Dec.{ltb, eqb, leb}
-use native.Mathlib.Omega.{arith}
 use borrow.Author.Tests.{ltb-false}
 use Rattle.journal.specs.declared.file.Refusal.{Refusal}
 use Rattle.journal.specs.declared.file.Refusal.the-variants.{Corrupt}
 use Rattle.journal.specs.declared.file.Verdict.the-variants.{Readable, Refused}
 use Rattle.journal.specs.Verdicts.{Condition, when, firstRefusal}
-use Rattle.journal.specs.Reading.{word, wholeFrom, marked, current, fileConditions, verdict, verdictOf}
+use Rattle.journal.specs.Reading.{word, wholeFrom, marked, current, verdict, verdictOf}
 use Rattle.journal.specs.Steps.{headConditions, headVerdict}
 
 pub and-left : (x y : Bool) → x && y ≡ true → x ≡ true

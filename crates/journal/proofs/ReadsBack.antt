@@ -1,8 +1,8 @@
 -- A record that stands in a file is read back where it stands; by induction so is a list of them. A cursor steps from whole record to whole record.
 -- Assumes nothing.
-use Prim.Native.Nat.{ℕ, zero, suc, _+_, _-_, _*_, _<_, _≤_}
+use Prim.Native.Nat.{ℕ, zero, suc, _+_, _-_, _*_}
 use mathlib.Core.Path.{_≡_, refl, sym, ap, ap₂, subst₂, _∙_}
-use mathlib.Core.Bool.{Bool, true, false, _&&_}
+use mathlib.Core.Bool.{true}
 use mathlib.Core.List.{List, [], _∷_, _++_, append-nil, append-assoc}
 use native.Mathlib.Omega.{arith}
 use lib.ListN.{length, getD, take, drop, length-append}
@@ -11,11 +11,11 @@ use borrow.Author.Tests.{eq-eqb, eqb-true, le-leb}
 use Rattle.call.specs.Calls.{Call}
 use Rattle.journal.specs.declared.record.Found.the-variants.{End}
 use Rattle.journal.specs.Format.{low, high, recordBytes, allBytes, fileHead, fileBytes, Recordable, AllRecordable}
-use Rattle.journal.specs.Reading.{word, recordOf, nextOf, wholeAt, wholeFrom, recordsFrom, recordsOf, foundAt}
-use Rattle.journal.specs.ReadsBack.{WrittenReadable, RecordsBack, Run, runFrom, ReadsInOrder}
+use Rattle.journal.specs.Reading.{word, recordOf, nextOf, wholeAt, wholeFrom, recordsFrom, recordsOf}
+use Rattle.journal.specs.ReadsBack.{WrittenReadable, RecordsBack, runFrom, ReadsInOrder}
 use Rattle.journal.proofs.Judging.{and-left, and-right}
 use Rattle.journal.proofs.Finding.{found-record, found-end}
-use Rattle.journal.proofs.Files.{Whole, whole, File, open-file, shut-file}
+use Rattle.journal.proofs.Files.{open-file, shut-file}
 
 pub word-value : (w : ℕ) → low w + high w * 256 ≡ w
 word-value w = omega arith

@@ -12,10 +12,10 @@ use borrow.Author.Tests.{le-ltb}
 use Rattle.call.specs.Calls.{Call}
 use Rattle.journal.specs.declared.file.Verdict.the-variants.{Readable}
 use Rattle.journal.specs.declared.append.Appended.the-variants.{Length}
-use Rattle.journal.specs.Format.{Bytes, wordBytes, recordBytes, allBytes, fileHead, fileBytes, Recordable, AllRecordable, mostBytes, isFit}
-use Rattle.journal.specs.Reading.{word, recordsOf, verdictOf}
+use Rattle.journal.specs.Format.{Bytes, recordBytes, allBytes, fileHead, fileBytes, Recordable, AllRecordable, mostBytes, isFit}
+use Rattle.journal.specs.Reading.{recordsOf, verdictOf}
 use Rattle.journal.specs.Appending.{lengthWith, appendAnswer, withRecord, emptyAnswer}
-use Rattle.journal.specs.Rebuilds.{Added, AddsOne, Buffer, emptied, appendOne, appendAll, holding, Rebuilds}
+use Rattle.journal.specs.Rebuilds.{AddsOne, Buffer, emptied, appendOne, appendAll, holding, Rebuilds}
 use Rattle.journal.proofs.Files.{new-length, accepted, open-file, shut-file}
 use Rattle.journal.proofs.Answering.{accepts}
 use Rattle.journal.proofs.ReadsBack.{word-value, written-readable, records-back}

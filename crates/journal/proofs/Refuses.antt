@@ -1,14 +1,13 @@
 -- Every file is readable or one of the five cases, and each case has its verdict; so the verdict tells the case. Assumes nothing.
-use Prim.Native.Nat.{ℕ, suc, _<_, _≤_}
-use mathlib.Core.Path.{_≡_, refl, sym, ap, subst, _∙_}
-use mathlib.Core.Bool.{Bool, true, false, _&&_}
-use mathlib.Core.List.{List, [], _∷_}
+use Prim.Native.Nat.{ℕ, _≤_}
+use mathlib.Core.Path.{_≡_, refl, sym, subst, _∙_}
+use mathlib.Core.Bool.{Bool, true, false}
+use mathlib.Core.List.{List, _∷_}
 use mathlib.Core.Logic.{_⊎_, inl, inr}
 use native.Mathlib.Omega.{arith}
-use lib.ListN.{length, getD, drop}
-use lib.Dec.{ltb, leb, eqb}
-use lib.Seq.{drop-cons}
-use borrow.Author.Tests.{lt-ltb, le-ltb, ltb-true, ltb-false, le-leb, leb-true, eq-eqb, ne-eqb, eqb-true, eqb-false}
+use lib.ListN.{length, drop}
+use lib.Dec.{ltb, eqb}
+use borrow.Author.Tests.{lt-ltb, le-ltb, ltb-true, ltb-false, le-leb, eq-eqb, ne-eqb, eqb-true, eqb-false}
 use Rattle.journal.specs.declared.file.Refusal.{Refusal}
 use Rattle.journal.specs.declared.file.Refusal.the-variants.{NotJournal, OtherVersion, Corrupt}
 use Rattle.journal.specs.declared.file.Verdict.{Verdict}
@@ -17,7 +16,6 @@ use Rattle.journal.specs.Format.{Bytes, mostBytes}
 use Rattle.journal.specs.Reading.{word, wholeFrom, marked, current, verdictOf}
 use Rattle.journal.specs.WritesBack.{Written}
 use Rattle.journal.specs.Refuses.{Marked, RefusedBy, unmarked, short, version, long, broken, RefusedExactly}
-use Rattle.journal.proofs.Judging.{and-left, and-right}
 use Rattle.journal.proofs.Files.{mark-of, shut-file}
 use Rattle.journal.proofs.WritesBack.{head-three, readable-exactly}
 

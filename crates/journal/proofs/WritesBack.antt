@@ -1,17 +1,16 @@
 -- The bytes of a word, of a record and of all records that were read are those that stood there; the head's seven bytes too. Assumes nothing.
-use Prim.Native.Nat.{ℕ, zero, suc, _+_, _*_, _<_, _≤_}
-use mathlib.Core.Path.{_≡_, refl, sym, ap, ap₂, subst, _∙_}
+use Prim.Native.Nat.{ℕ, zero, suc, _+_, _<_, _≤_}
+use mathlib.Core.Path.{_≡_, sym, ap, subst, _∙_}
 use mathlib.Core.Bool.{true}
-use mathlib.Core.List.{List, [], _∷_, _++_}
+use mathlib.Core.List.{List, _∷_, _++_}
 use native.Mathlib.Omega.{arith}
 use lib.ListN.{length, getD, take, drop, length-drop, take-append-drop}
 use lib.Seq.{drop-cons, drop-length, drop-drop, length-take-le}
 use borrow.Author.Tests.{eqb-true}
-use Rattle.call.specs.Calls.{Call}
 use Rattle.journal.specs.declared.file.Verdict.the-variants.{Readable}
 use Rattle.journal.specs.Format.{Bytes, low, high, recordBytes, allBytes, fileBytes, mostBytes, AllRecordable}
 use Rattle.journal.specs.Reading.{word, recordOf, nextOf, wholeAt, wholeFrom, recordsFrom, recordsOf, verdictOf}
-use Rattle.journal.specs.WritesBack.{WritesBack, Written, ReadableExactly}
+use Rattle.journal.specs.WritesBack.{WritesBack, ReadableExactly}
 use Rattle.journal.proofs.Judging.{and-left, and-right}
 use Rattle.journal.proofs.Files.{Whole, whole, Mark, mark-of, File, open-file}
 use Rattle.journal.proofs.ReadsBack.{records-length, written-readable}

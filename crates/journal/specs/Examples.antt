@@ -1,6 +1,6 @@
 -- Worked examples of files (document 01: 'Desk file', 'Trial desks'). Proved in `proofs/Examples.antt`. Assumes nothing.
 use mathlib.Core.Path.{_≡_}
-use mathlib.Core.List.{List, [], _∷_, _++_}
+use mathlib.Core.List.{List, [], _∷_}
 use Prim.Native.Nat.{ℕ, zero, suc}
 use lib.ListN.{length}
 use Rattle.call.specs.Calls.{Call, callWith}

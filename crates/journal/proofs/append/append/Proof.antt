@@ -1,5 +1,5 @@
 -- An answer that is a length gives what `store_record` asks; after a refusal the buffer is as it was. Assumes nothing.
-use mathlib.Core.Path.{refl, sym, _∙_}
+use mathlib.Core.Path.{sym, _∙_}
 use native.Mathlib.Omega.{arith}
 use borrow.Author.Needs.{needs}
 use Rattle.call.proofs.Texts.{text-short}

@@ -3,10 +3,6 @@ use borrow.Author.Needs.{needs}
 use Rattle.journal.proofs.Storing.{stored}
 use Rattle.journal.proofs.append.store_record.Statement.{statement}
 use Rattle.journal.proofs.append.store_record.Tie as tie
-use Rattle.journal.proofs.append.store_record.Reads as reads
-use Rattle.journal.proofs.append.store_record.Lts as lts
-use Rattle.journal.proofs.bytes.store.Reads as store-reads
-use Rattle.journal.proofs.bytes.word_at.Reads as word-at-reads
 
 returns : tie.Need-returns
 returns c =

@@ -1,5 +1,4 @@
 -- The size says whether a record is found, and that its head is inside the file. Assumes nothing.
-use native.Mathlib.Omega.{arith}
 use borrow.Author.Needs.{needs}
 use Rattle.journal.proofs.Finding.{no-size, size-head, size-end, found-end, found-damaged, found-entry}
 use Rattle.journal.proofs.record.record_at.Statement.{statement}
