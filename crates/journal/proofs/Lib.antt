@@ -9,3 +9,4 @@ pub mod Rebuilds
 pub mod Declines
 pub mod Refuses
 pub mod Examples
+pub mod ByteLists

@@ -1,18 +1,21 @@
 -- A record that stands in a file is read back where it stands; by induction so is a list of them. A cursor steps from whole record to whole record.
 -- Assumes nothing.
-use Prim.Native.Nat.{ℕ, zero, suc, _+_, _-_, _*_}
+use Prim.Native.Nat.{ℕ, zero, suc, _+_, _-_, _*_, _<_, _≤_}
 use mathlib.Core.Path.{_≡_, refl, sym, ap, ap₂, subst₂, _∙_}
 use mathlib.Core.Bool.{true}
 use mathlib.Core.List.{List, [], _∷_, _++_, append-nil, append-assoc}
 use native.Mathlib.Omega.{arith}
 use lib.ListN.{length, getD, take, drop, length-append}
 use lib.Seq.{take-append-seam, drop-append-add, getD-append-add, getD-append-seam}
+use lib.Dec.{lit<}
 use borrow.Author.Tests.{eq-eqb, eqb-true, le-leb}
 use Rattle.call.specs.Calls.{Call}
 use Rattle.journal.specs.declared.record.Found.the-variants.{End}
 use Rattle.journal.specs.Format.{low, high, recordBytes, allBytes, fileHead, fileBytes, Recordable, AllRecordable}
 use Rattle.journal.specs.Reading.{word, recordOf, nextOf, wholeAt, wholeFrom, recordsFrom, recordsOf}
-use Rattle.journal.specs.ReadsBack.{WrittenReadable, RecordsBack, runFrom, ReadsInOrder}
+use Rattle.journal.specs.ReadsBack.{WrittenReadable, WrittenBytes, RecordsBack, runFrom, ReadsInOrder}
+use Rattle.call.proofs.Texts.{text-short}
+use Rattle.journal.proofs.ByteLists.{Each, each, all-are, each-append}
 use Rattle.journal.proofs.Judging.{and-left, and-right}
 use Rattle.journal.proofs.Finding.{found-record, found-end}
 use Rattle.journal.proofs.Files.{open-file, shut-file}
@@ -93,6 +96,51 @@ written-readable rs v h =
       most = h;
       records = rw (word-value (length rs)) (whole-all rs (fileHead (length rs)) v);
     })
+
+pub file-length : (rs : List Call) → length (fileBytes rs) ≡ 7 + length (allBytes rs)
+unfolding fileBytes
+file-length rs = omega arith
+
+-- nine bytes or more for each record
+all-length : (rs : List Call) → 9 * length rs ≤ length (allBytes rs)
+all-length [] = omega arith
+all-length (r ∷ rs) = omega (arith, all-length rs, length-append (recordBytes r) (allBytes rs))
+
+low-byte : (w : ℕ) → low w < 256
+low-byte w = omega arith
+
+high-byte : (w : ℕ) → w < 65536 → high w < 256
+high-byte w h = omega arith
+
+record-each : (r : Call) → Recordable r → Each (recordBytes r)
+record-each r v =
+    let t : length (r .text) < 65536 = omega (arith, text-short (r .letter) (r .a) (r .b) (r .c) (length (r .text)) (v .fit)) in (
+      v .letter-byte,
+      (
+        low-byte (r .a),
+        (
+          high-byte (r .a) (v .a-word),
+          (
+            low-byte (r .b),
+            (
+              high-byte (r .b) (v .b-word),
+              (low-byte (r .c), (high-byte (r .c) (v .c-word), (low-byte (length (r .text)), (high-byte (length (r .text)) t, each (r .text) (v .text-bytes))))),
+            ),
+          ),
+        ),
+      ),
+    )
+
+all-each : (rs : List Call) → AllRecordable rs → Each (allBytes rs)
+all-each [] v = tt
+all-each (r ∷ rs) v = each-append (recordBytes r) (allBytes rs) (record-each r (v .0)) (all-each rs (v .1))
+
+pub written-bytes : WrittenBytes
+unfolding fileBytes
+written-bytes rs v h =
+    let n : length rs < 65536 = omega (arith, all-length rs) in
+    all-are (fileHead (length rs) ++ allBytes rs)
+    (lit< tt, (lit< tt, (lit< tt, (lit< tt, (lit< tt, (low-byte (length rs), (high-byte (length rs) n, all-each rs v)))))))
 
 pub records-back : RecordsBack
 unfolding fileBytes recordsOf

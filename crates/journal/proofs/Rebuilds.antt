@@ -1,6 +1,6 @@
 -- The buffer is always a file and what follows it: `fileBytes ps ++ q`. One append stores the count inside the head and the record over the front of q;
 -- by induction so does a list of them. Assumes nothing.
-use Prim.Native.Nat.{ℕ, zero, suc, _+_, _-_, _≤_}
+use Prim.Native.Nat.{ℕ, _+_, _-_, _≤_}
 use mathlib.Core.Path.{_≡_, refl, sym, ap, subst, subst₂, _∙_}
 use mathlib.Core.Bool.{true, false, not, _||_}
 use mathlib.Core.List.{List, [], _∷_, _++_, append-nil, append-assoc}
@@ -16,9 +16,10 @@ use Rattle.journal.specs.Format.{Bytes, recordBytes, allBytes, fileHead,
 use Rattle.journal.specs.Reading.{recordsOf, verdictOf}
 use Rattle.journal.specs.Appending.{lengthWith, appendAnswer, withRecord, emptyAnswer}
 use Rattle.journal.specs.Rebuilds.{AddsOne, Buffer, emptied, appendOne, appendAll, holding, Rebuilds}
+use Rattle.journal.proofs.ByteLists.{bytes-take}
 use Rattle.journal.proofs.Files.{new-length, accepted, open-file, shut-file}
 use Rattle.journal.proofs.Answering.{accepts}
-use Rattle.journal.proofs.ReadsBack.{word-value, written-readable, records-back}
+use Rattle.journal.proofs.ReadsBack.{word-value, file-length, written-readable, records-back}
 use Rattle.journal.proofs.WritesBack.{writes-back, records-recordable}
 
 -- a run of stores from a seam on
@@ -36,10 +37,6 @@ all-append (x ∷ rs) ts = rw (all-append rs ts) (sym (append-assoc (recordBytes
 
 all-snoc : (rs : List Call) (r : Call) → allBytes (rs ++ r ∷ []) ≡ allBytes rs ++ recordBytes r
 all-snoc rs r = all-append rs (r ∷ []) ∙ ap (λ (t : List ℕ). allBytes rs ++ t) (append-nil (recordBytes r))
-
-pub file-length : (rs : List Call) → length (fileBytes rs) ≡ 7 + length (allBytes rs)
-unfolding fileBytes
-file-length rs = omega arith
 
 snoc-length : (rs : List Call) (r : Call) → length (fileBytes (rs ++ r ∷ [])) ≡ lengthWith (length (fileBytes rs)) r
 snoc-length rs r =
@@ -132,18 +129,12 @@ rebuilds s bytes h d room =
 
 -- ---- one record more
 
-few-bytes : (d : List ℕ) (n : ℕ) → Bytes d → Bytes (take n d)
-few-bytes d zero bytes i = omega arith
-few-bytes [] (suc n) bytes i = omega arith
-few-bytes (x ∷ d) (suc n) bytes zero = bytes 0
-few-bytes (x ∷ d) (suc n) bytes (suc i) = few-bytes d n (λ j. bytes (suc j)) i
-
 pub adds-one : AddsOne
 adds-one d len r n bytes h =
     let ok = accepted d len r n h in
     let s : List ℕ = take len d in
     let readable : verdictOf s ≡ Readable = shut-file s (ok .file) in
-    let few : Bytes s = few-bytes d len bytes in
+    let few : Bytes s = bytes-take len d bytes in
     let ps : List Call = recordsOf s in
     let written : fileBytes ps ≡ s = writes-back s few readable in
     let file-size : length (fileBytes ps) ≡ len = ap length written ∙ length-take-le len d (ok .inside) in

@@ -11,6 +11,7 @@ use Rattle.journal.specs.declared.file.Verdict.the-variants.{Readable}
 use Rattle.journal.specs.Format.{Bytes, low, high, recordBytes, allBytes, fileBytes, mostBytes, AllRecordable}
 use Rattle.journal.specs.Reading.{word, recordOf, nextOf, wholeAt, wholeFrom, recordsFrom, recordsOf, verdictOf}
 use Rattle.journal.specs.WritesBack.{WritesBack, ReadableExactly}
+use Rattle.journal.proofs.ByteLists.{bytes-take, bytes-drop}
 use Rattle.journal.proofs.Judging.{and-left, and-right}
 use Rattle.journal.proofs.Files.{Whole, whole, Mark, mark-of, File, open-file}
 use Rattle.journal.proofs.ReadsBack.{records-length, written-readable}
@@ -56,9 +57,11 @@ module _ (s : List ℕ) (bytes : Bytes s) where
       let t : length (take (word s (at + 7)) (drop (at + 9) s)) ≡ word s (at + 7) = length-take-le (word s (at + 7)) (drop (at + 9) s) (omega (arith, w .end, length-drop (at + 9) s)) in (
         record {
           fit = rw t (w .fit);
+          letter-byte = bytes at;
           a-word = omega (arith, bytes (at + 1), bytes (at + 1 + 1));
           b-word = omega (arith, bytes (at + 3), bytes (at + 3 + 1));
           c-word = omega (arith, bytes (at + 5), bytes (at + 5 + 1));
+          text-bytes = bytes-take (word s (at + 7)) (drop (at + 9) s) (bytes-drop (at + 9) s bytes);
         },
         all-recordable n (nextOf s at) (and-right (wholeAt s at) (wholeFrom n s (nextOf s at)) h),
       )

@@ -1,6 +1,6 @@
 -- Worked examples of files (document 01: 'Desk file', 'Trial desks'). Proved in `proofs/Examples.antt`. Assumes nothing.
 use mathlib.Core.Path.{_≡_}
-use mathlib.Core.List.{List, [], _∷_}
+use mathlib.Core.List.{List, [], _∷_, _++_}
 use Prim.Native.Nat.{ℕ, zero, suc}
 use lib.ListN.{length}
 use Rattle.call.specs.Calls.{Call, callWith}
@@ -17,12 +17,16 @@ unfoldable pub usersThen : ℕ → List Call → List Call
 usersThen zero rs = rs
 usersThen (suc n) rs = callWith 85 0 0 0 [] ∷ usersThen n rs
 
--- 7,279 records U and an L with a text: `D0|D1|D2` makes it 65,535 bytes long, `D0|D1|D20` one byte longer
+-- `D0|D1|D2`
+abbrev pub eightBytes : List ℕ
+eightBytes = 68 ∷ 48 ∷ 124 ∷ 68 ∷ 49 ∷ 124 ∷ 68 ∷ 50 ∷ []
+
+-- 7,279 records U and an L with this text; and the same with `D0|D1|D20`
 abbrev pub longest : List Call
-longest = usersThen 7279 (callWith 76 0 0 1 (68 ∷ 48 ∷ 124 ∷ 68 ∷ 49 ∷ 124 ∷ 68 ∷ 50 ∷ []) ∷ [])
+longest = usersThen 7279 (callWith 76 0 0 1 eightBytes ∷ [])
 
 abbrev pub oneMore : List Call
-oneMore = usersThen 7279 (callWith 76 0 0 1 (68 ∷ 48 ∷ 124 ∷ 68 ∷ 49 ∷ 124 ∷ 68 ∷ 50 ∷ 48 ∷ []) ∷ [])
+oneMore = usersThen 7279 (callWith 76 0 0 1 (eightBytes ++ 48 ∷ []) ∷ [])
 
 pub record Examples : Type 0 where
   pub empty-readable : verdictOf emptyFile ≡ Readable

@@ -33,9 +33,12 @@ abbrev pub allBytes : List Call → List ℕ
 allBytes [] = []
 allBytes (r ∷ rs) = recordBytes r ++ allBytes rs
 
--- `KLD`, version 1 and the count
+abbrev pub fileVersion : ℕ
+fileVersion = 1
+
+-- `KLD`, the version and the count
 abbrev pub fileHead : ℕ → List ℕ
-fileHead n = 75 ∷ 76 ∷ 68 ∷ 1 ∷ 0 ∷ low n ∷ high n ∷ []
+fileHead n = 75 ∷ 76 ∷ 68 ∷ low fileVersion ∷ high fileVersion ∷ low n ∷ high n ∷ []
 
 -- the file of a list of records
 unfoldable pub fileBytes : List Call → List ℕ
@@ -48,12 +51,14 @@ mostBytes = 65535
 abbrev pub isFit : Call → Bool
 isFit r = recordFits (r .letter) (r .a) (r .b) (r .c) (length (r .text))
 
--- a call that a file can hold
+-- a call that a file can hold: it is fit, and the letter is a byte, the fields have 16 bits and the text is of bytes
 pub record Recordable (r : Call) : Type 0 where
   pub fit : isFit r ≡ true
+  pub letter-byte : r .letter < 256
   pub a-word : r .a < 65536
   pub b-word : r .b < 65536
   pub c-word : r .c < 65536
+  pub text-bytes : Bytes (r .text)
 
 abbrev pub AllRecordable : List Call → Type 0
 AllRecordable [] = Unit {0}

@@ -14,7 +14,7 @@ use Rattle.journal.specs.declared.file.Refusal.{Refusal}
 use Rattle.journal.specs.declared.file.Refusal.the-variants.{NotJournal, OtherVersion, Corrupt}
 use Rattle.journal.specs.declared.file.Verdict.{Verdict}
 use Rattle.journal.specs.declared.file.Verdict.the-variants.{Readable, Refused}
-use Rattle.journal.specs.Format.{mostBytes}
+use Rattle.journal.specs.Format.{fileVersion, mostBytes}
 use Rattle.journal.specs.Verdicts.{Condition, when, firstRefusal}
 
 -- the 16 bits at i, low byte first
@@ -87,9 +87,9 @@ wholeFrom (suc n) s at = wholeAt s at && wholeFrom n s (nextOf s at)
 abbrev pub marked : List ℕ → Bool
 marked s = leb 3 (length s) && (eqb (getD s 0 0) 75 && eqb (getD s 1 0) 76 && eqb (getD s 2 0) 68)
 
--- there is a version, and it is 1
+-- there is a version, and it is the file's
 abbrev pub current : List ℕ → Bool
-current s = leb 5 (length s) && eqb (word s 3) 1
+current s = leb 5 (length s) && eqb (word s 3) fileVersion
 
 -- 'The order is 16; 18 if under 7 bytes; 17; then 18 for length over the limit, unknown letter, an unnamed field not 0, text length wrong, records
 -- cut short, bytes left over.'

@@ -10,11 +10,15 @@ use Rattle.journal.specs.declared.record.Entry.{Entry}
 use Rattle.journal.specs.declared.record.Found.{Found}
 use Rattle.journal.specs.declared.record.Found.the-variants.{Record, End, Damaged}
 use Rattle.journal.specs.declared.file.Verdict.the-variants.{Readable}
-use Rattle.journal.specs.Format.{AllRecordable, fileBytes, mostBytes}
+use Rattle.journal.specs.Format.{Bytes, AllRecordable, fileBytes, mostBytes}
 use Rattle.journal.specs.Reading.{foundAt, recordsOf, verdictOf}
 
 abbrev pub WrittenReadable : Type 0
 WrittenReadable = (rs : List Call) → AllRecordable rs → length (fileBytes rs) ≤ mostBytes → verdictOf (fileBytes rs) ≡ Readable
+
+-- what is written is bytes
+abbrev pub WrittenBytes : Type 0
+WrittenBytes = (rs : List Call) → AllRecordable rs → length (fileBytes rs) ≤ mostBytes → Bytes (fileBytes rs)
 
 abbrev pub RecordsBack : Type 0
 RecordsBack = (rs : List Call) → recordsOf (fileBytes rs) ≡ rs

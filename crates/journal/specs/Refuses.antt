@@ -8,7 +8,7 @@ use lib.ListN.{length}
 use Rattle.journal.specs.declared.file.Refusal.{Refusal}
 use Rattle.journal.specs.declared.file.Refusal.the-variants.{NotJournal, OtherVersion, Corrupt}
 use Rattle.journal.specs.declared.file.Verdict.the-variants.{Refused}
-use Rattle.journal.specs.Format.{Bytes, mostBytes}
+use Rattle.journal.specs.Format.{Bytes, fileVersion, mostBytes}
 use Rattle.journal.specs.Reading.{word, verdictOf}
 use Rattle.journal.specs.WritesBack.{Written}
 
@@ -22,9 +22,9 @@ pub record Marked (s : List ℕ) : Type 0 where
 pub data RefusedBy (s : List ℕ) : Refusal → Type 0 where
   unmarked : (Marked s → ⊥) → RefusedBy s NotJournal
   short : Marked s → length s < 7 → RefusedBy s Corrupt
-  version : Marked s → 7 ≤ length s → word s 3 ≢ 1 → RefusedBy s OtherVersion
-  long : Marked s → 7 ≤ length s → word s 3 ≡ 1 → mostBytes < length s → RefusedBy s Corrupt
-  broken : Marked s → 7 ≤ length s → word s 3 ≡ 1 → length s ≤ mostBytes → (Written s → ⊥) → RefusedBy s Corrupt
+  version : Marked s → 7 ≤ length s → word s 3 ≢ fileVersion → RefusedBy s OtherVersion
+  long : Marked s → 7 ≤ length s → word s 3 ≡ fileVersion → mostBytes < length s → RefusedBy s Corrupt
+  broken : Marked s → 7 ≤ length s → word s 3 ≡ fileVersion → length s ≤ mostBytes → (Written s → ⊥) → RefusedBy s Corrupt
 
 abbrev pub RefusedExactly : Type 0
 RefusedExactly = (s : List ℕ) → Bytes s → (f : Refusal) → (verdictOf s ≡ Refused f) ↔ RefusedBy s f

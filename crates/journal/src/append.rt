@@ -7,11 +7,14 @@ ghost use Rattle.journal.specs.Reading.{word};
 ghost use Rattle.journal.specs.Appending.{appendAnswer, withRecord, bufferAfter, emptyAnswer, emptyAfter};
 use crate::bytes::store;
 use crate::bytes::word_at;
-use crate::file::HEAD;
+use crate::file::COUNT_AT;
+use crate::file::FILE_HEAD;
 use crate::file::MOST_BYTES;
 use crate::file::Refusal;
+use crate::file::VERSION;
 use crate::file::Verdict;
 use crate::file::check;
+use crate::record::RECORD_HEAD;
 use call::record::fits;
 
 // The file's new length, or why nothing was written.
@@ -25,12 +28,20 @@ pub fn empty(buffer: &mut [u8]) -> Appended
     ensures answer { λ r. ⌜ r ≡ emptyAnswer (now (buffer .entry)) ⌝ }
     ensures bytes { λ r. ⌜ now (buffer .exit) ≡ emptyAfter r (now (buffer .entry)) ⌝ }
 {
-    if buffer.len() < HEAD {
+    if buffer.len() < FILE_HEAD {
         return Appended::Declined(Refusal::Full);
     }
-    let head = [b'K', b'L', b'D', 1u8, 0, 0, 0];
+    let head = [
+        b'K',
+        b'L',
+        b'D',
+        (VERSION % 256) as u8,
+        (VERSION / 256) as u8,
+        0,
+        0,
+    ];
     store(buffer, 0, &head);
-    Appended::Length(HEAD)
+    Appended::Length(FILE_HEAD)
 }
 
 // Appends a record to the file in the buffer's first `len` bytes.
@@ -75,7 +86,7 @@ fn append_answer(
             if !fits(letter, a, b, c, text.len()) {
                 return Appended::Declined(Refusal::Corrupt);
             }
-            let end = len + 9 + text.len();
+            let end = len + RECORD_HEAD + text.len();
             if (buffer.len() < end) | (MOST_BYTES < end) {
                 return Appended::Declined(Refusal::Full);
             }
@@ -89,10 +100,10 @@ fn store_record(d: &mut [u8], len: usize, letter: u8, a: u16, b: u16, c: u16, te
     requires { ⌜ (7 ≤ len) × (len + 9 + length (now text) ≤ length (now d)) × (length (now text) ≤ 96) × (word (now d) 5 < 65535) ⌝ }
     ensures { λ _. ⌜ now (d .exit) ≡ withRecord (now (d .entry)) len (callWith letter a b c (now (text .entry))) ⌝ }
 {
-    let count = word_at(&d[..], 5) + 1;
+    let count = word_at(&d[..], COUNT_AT) + 1;
     let size = text.len() as u16;
     let counted = [(count % 256) as u8, (count / 256) as u8];
-    store(&mut d[..], 5, &counted);
+    store(&mut d[..], COUNT_AT, &counted);
     let head = [
         letter,
         (a % 256) as u8,
@@ -105,5 +116,5 @@ fn store_record(d: &mut [u8], len: usize, letter: u8, a: u16, b: u16, c: u16, te
         (size / 256) as u8,
     ];
     store(&mut d[..], len, &head);
-    store(&mut d[..], len + 9, text);
+    store(&mut d[..], len + RECORD_HEAD, text);
 }

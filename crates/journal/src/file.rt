@@ -22,12 +22,17 @@ pub enum Verdict {
 }
 
 // The bytes before the first record: the mark `KLD`, the version and the count.
-pub(crate) const HEAD: usize = 7;
+pub(crate) const FILE_HEAD: usize = 7;
+
+// Where the version and the count stand in it.
+const VERSION_AT: usize = 3;
+
+pub(crate) const COUNT_AT: usize = 5;
 
 // The most bytes of a file.
 pub(crate) const MOST_BYTES: usize = 65535;
 
-const VERSION: u16 = 1;
+pub(crate) const VERSION: u16 = 1;
 
 // That a file is readable, or its first refusal.
 pub fn check(file: &[u8]) -> Verdict
@@ -64,7 +69,7 @@ fn head_verdict(n: usize, marked: bool, current: bool) -> Verdict
     if !marked {
         return Verdict::Refused(Refusal::NotJournal);
     }
-    if n < HEAD {
+    if n < FILE_HEAD {
         return Verdict::Refused(Refusal::Corrupt);
     }
     if !current {
@@ -91,7 +96,7 @@ fn is_current(file: &[u8]) -> bool
     if file.len() < 5 {
         return false;
     }
-    word_at(file, 3) == VERSION
+    word_at(file, VERSION_AT) == VERSION
 }
 
 // Whether the count's records, from the first on, fill the file exactly.
@@ -99,8 +104,8 @@ fn records_fill(file: &[u8]) -> bool
     requires { ⌜ 7 ≤ length (now file) ⌝ }
     ensures { λ r. ⌜ r ≡ wholeFrom (word (now (file .entry)) 5) (now (file .entry)) 7 ⌝ }
 {
-    let mut left = word_at(file, 5);
-    let mut at = HEAD;
+    let mut left = word_at(file, COUNT_AT);
+    let mut at = FILE_HEAD;
     while 0 < left {
         let size = record_size(file, at);
         if size == 0 {

@@ -1,6 +1,7 @@
 // A record reader: a file and a cursor in it. Its functions are thin: `record_at` does the work.
 ghost use mathlib.Core.Path.{_≡_};
 ghost use Rattle.journal.specs.Reading.{foundAt, cursorAfter};
+use crate::file::FILE_HEAD;
 use crate::record::Found;
 use crate::record::record_at;
 
@@ -13,7 +14,7 @@ pub struct Reader<'a> {
 pub fn new<'a>(src: &'a [u8]) -> Reader<'a>
     ensures { λ r. ⌜ (r .src ≡ src .entry) × (r .at ≡ 7) ⌝ }
 {
-    Reader { src, at: 7 }
+    Reader { src, at: FILE_HEAD }
 }
 
 // What stands at the reader's cursor.

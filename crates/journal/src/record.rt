@@ -23,7 +23,7 @@ pub enum Found {
 }
 
 // The bytes of a record before its text.
-const HEAD: usize = 9;
+pub(crate) const RECORD_HEAD: usize = 9;
 
 // What stands at a cursor of a file, for any bytes and any cursor. The first record of a file is at 7.
 pub fn record_at(file: &[u8], at: usize) -> Found
@@ -39,7 +39,7 @@ pub fn record_at(file: &[u8], at: usize) -> Found
     let a = word_at(file, at + 1);
     let b = word_at(file, at + 3);
     let c = word_at(file, at + 5);
-    let start = at + HEAD;
+    let start = at + RECORD_HEAD;
     let next = at + size;
     Found::Record(Entry {
         letter: file[at],
@@ -59,7 +59,7 @@ pub(crate) fn record_size(file: &[u8], at: usize) -> usize
     if n <= at {
         return 0;
     }
-    if n - at < HEAD {
+    if n - at < RECORD_HEAD {
         return 0;
     }
     let a = word_at(file, at + 1);
@@ -69,7 +69,7 @@ pub(crate) fn record_size(file: &[u8], at: usize) -> usize
     if !fits(file[at], a, b, c, text) {
         return 0;
     }
-    let size = HEAD + text;
+    let size = RECORD_HEAD + text;
     if n - at < size {
         return 0;
     }

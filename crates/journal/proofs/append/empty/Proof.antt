@@ -20,6 +20,8 @@ empty-spec =
     tie.close
     (tie.spec
     returns
+    (λ c. search needs)  -- cast-t7
+    (λ c. search needs)  -- cast-t9
     (λ c. search needs)  -- slice-aggregate-store
     (λ c κs. search needs)  -- store-requires
     (λ c. search needs)  -- same-length

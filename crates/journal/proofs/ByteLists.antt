@@ -1,0 +1,34 @@
+-- Lists of bytes, element by element; joined and cut. Assumes nothing.
+use Prim.Native.Nat.{ℕ, zero, suc, _<_}
+use mathlib.Core.List.{List, [], _∷_, _++_}
+use native.Mathlib.Omega.{arith}
+use lib.ListN.{take, drop}
+use Rattle.journal.specs.Format.{Bytes}
+
+abbrev pub Each : List ℕ → Type 0
+Each [] = Unit {0}
+Each (x ∷ s) = (x < 256) × Each s
+
+pub each : (s : List ℕ) → Bytes s → Each s
+each [] b = tt
+each (x ∷ s) b = (b 0, each s (λ i. b (suc i)))
+
+pub all-are : (s : List ℕ) → Each s → Bytes s
+all-are [] e i = omega arith
+all-are (x ∷ s) e zero = e .0
+all-are (x ∷ s) e (suc i) = all-are s (e .1) i
+
+pub each-append : (p q : List ℕ) → Each p → Each q → Each (p ++ q)
+each-append [] q a b = b
+each-append (x ∷ p) q a b = (a .0, each-append p q (a .1) b)
+
+pub bytes-take : (n : ℕ) (s : List ℕ) → Bytes s → Bytes (take n s)
+bytes-take zero s b i = omega arith
+bytes-take (suc n) [] b i = omega arith
+bytes-take (suc n) (x ∷ s) b zero = b 0
+bytes-take (suc n) (x ∷ s) b (suc i) = bytes-take n s (λ j. b (suc j)) i
+
+pub bytes-drop : (n : ℕ) (s : List ℕ) → Bytes s → Bytes (drop n s)
+bytes-drop zero s b i = b i
+bytes-drop (suc n) [] b i = omega arith
+bytes-drop (suc n) (x ∷ s) b i = bytes-drop n s (λ j. b (suc j)) i
