@@ -12,8 +12,8 @@ use Rattle.call.specs.declared.request.Request.{Request}
 use Rattle.call.specs.declared.request.Request.the-variants.{NewUser, StartThread, EndThread, NewSegment, NewKey, GiveKey, TakeKey, AddLock, DropLock, CallSegment, ReturnCall, Access}
 use Rattle.call.specs.declared.request.Decoded.{Decoded}
 use Rattle.call.specs.declared.request.Decoded.the-variants.{WellFormed, Corrupt}
-use Rattle.call.specs.Calls.{Call, callWith, Row, table, unnamedZero, textNamed, decodedIn, decodedOf, isWellFormed, textFits, recordFits}
-use Rattle.call.specs.Requests.{callOf, RequestsExactly, TextAlone}
+use Rattle.call.specs.Calls.{Call, callWith, Row, table, unnamedZero, textNamed, decodedIn, decodedOf}
+use Rattle.call.specs.Requests.{callOf, RequestsExactly}
 
 -- ---- what a row's tests say
 
@@ -143,31 +143,3 @@ pub requests-exactly : RequestsExactly
 unfolding decodedOf
 requests-exactly x q =
     (λ h. found x (table (x .a) (x .b) (x .c)) q (rows x) h, λ e. subst (λ (y : Call). decoded y ≡ WellFormed q) (sym e) (back q (x .text)))
-
--- ---- the text alone
-
-or-true : (p : Bool) → p || true ≡ true
-or-true true = refl
-or-true false = refl
-
--- a text that fits is one that the letter names
-named : (lock : Bool) (n : ℕ) → cond lock (leb 1 n && leb n 96) (eqb n 0) ≡ true → lock || eqb n 0 ≡ true
-named true n h = refl
-named false n h = h
-
-module _ (l a b c n : ℕ) (h : textNamed l n ≡ true) where
-  as-without : (rs : List Row) → decodedIn rs l a b c n ≡ decodedIn rs l a b c 0
-  as-without [] = refl
-  as-without (r ∷ rs) = rw (h, or-true (eqb l 76), as-without rs)
-
-pub text-alone : TextAlone
-unfolding recordFits decodedOf
-text-alone l a b c n = go (textFits l n) refl
-  where
-    go : (f : Bool) → textFits l n ≡ f → isWellFormed (decodedIn (table a b c) l a b c 0) && f ≡ isWellFormed (decodedIn (table a b c) l a b c n) && f
-    go true e = rw (as-without l a b c n (named (eqb l 76) n e) (table a b c))
-    go false e = and-false (isWellFormed (decodedIn (table a b c) l a b c 0)) ∙ sym (and-false (isWellFormed (decodedIn (table a b c) l a b c n)))
-      where
-        and-false : (p : Bool) → p && false ≡ false
-        and-false true = refl
-        and-false false = refl

@@ -19,6 +19,13 @@ pub record Call : Type 0 where
 abbrev pub callWith : ℕ → ℕ → ℕ → ℕ → List ℕ → Call
 callWith l a b c t = record { letter = l; a = a; b = b; c = c; text = t }
 
+-- the letter of the one call with a text, and the most bytes of it in a record
+abbrev pub lockLetter : ℕ
+lockLetter = 76
+
+abbrev pub mostText : ℕ
+mostText = 96
+
 -- a row of the table: the letter's byte, the request, and how many of a, b and c, in their order, it names
 pub record Row : Type 0 where
   pub letter : ℕ
@@ -38,7 +45,7 @@ table a b c =
     ∷ row 75 (NewKey a) 1
     ∷ row 71 (GiveKey a b c) 3
     ∷ row 84 (TakeKey a b c) 3
-    ∷ row 76 (AddLock a b c) 3
+    ∷ row lockLetter (AddLock a b c) 3
     ∷ row 68 (DropLock a b) 2
     ∷ row 67 (CallSegment a b) 2
     ∷ row 82 (ReturnCall a) 1
@@ -51,7 +58,7 @@ unnamedZero k a b c = (leb 1 k || eqb a 0) && (leb 2 k || eqb b 0) && (leb 3 k |
 
 -- only L names a text, here of n bytes
 abbrev pub textNamed : ℕ → ℕ → Bool
-textNamed letter n = eqb letter 76 || eqb n 0
+textNamed letter n = eqb letter lockLetter || eqb n 0
 
 -- 18 for 'an unknown letter, an unnamed field not 0 or a text outside L', else the letter's request
 abbrev pub decodedIn : List Row → ℕ → ℕ → ℕ → ℕ → ℕ → Decoded
@@ -69,8 +76,8 @@ isWellFormed Corrupt = false
 
 -- 'Only L has text, 1 to 96 bytes.'
 abbrev pub textFits : ℕ → ℕ → Bool
-textFits letter n = cond (eqb letter 76) (leb 1 n && leb n 96) (eqb n 0)
+textFits letter n = cond (eqb letter lockLetter) (leb 1 n && leb n mostText) (eqb n 0)
 
--- a call that a record can hold: its letter and fields are those of a well formed call, and its text has the right length
+-- a call that a record can hold: a well formed one, whose text has the right length
 unfoldable pub recordFits : ℕ → ℕ → ℕ → ℕ → ℕ → Bool
-recordFits letter a b c n = isWellFormed (decodedOf letter a b c 0) && textFits letter n
+recordFits letter a b c n = isWellFormed (decodedOf letter a b c n) && textFits letter n

@@ -1,7 +1,6 @@
--- There is one request for each well formed call, and one well formed call for each request (and text, of a lock). A record and a call handed straight to
--- the guard differ in the text alone. Proved in `proofs/Requests.antt`. Assumes nothing.
+-- There is one request for each well formed call, and one well formed call for each request (and text, of a lock). Proved in `proofs/Requests.antt`.
+-- Assumes nothing.
 use mathlib.Core.Path.{_≡_}
-use mathlib.Core.Bool.{_&&_}
 use mathlib.Core.List.{List, []}
 use mathlib.Core.Logic.{_↔_}
 use Prim.Native.Nat.{ℕ}
@@ -9,7 +8,7 @@ use lib.ListN.{length}
 use Rattle.call.specs.declared.request.Request.{Request}
 use Rattle.call.specs.declared.request.Request.the-variants.{NewUser, StartThread, EndThread, NewSegment, NewKey, GiveKey, TakeKey, AddLock, DropLock, CallSegment, ReturnCall, Access}
 use Rattle.call.specs.declared.request.Decoded.the-variants.{WellFormed}
-use Rattle.call.specs.Calls.{Call, callWith, decodedOf, isWellFormed, textFits, recordFits}
+use Rattle.call.specs.Calls.{Call, callWith, decodedOf}
 
 -- the call of a request; t is the text of a lock
 abbrev pub callOf : Request → List ℕ → Call
@@ -29,7 +28,3 @@ callOf (Access a b c) t = callWith 65 a b c []
 abbrev pub RequestsExactly : Type 0
 RequestsExactly =
     (x : Call) (q : Request) → (decodedOf (x .letter) (x .a) (x .b) (x .c) (length (x .text)) ≡ WellFormed q) ↔ (x ≡ callOf q (x .text))
-
--- a record is unfit exactly where its call is not well formed or its text has not the right length
-abbrev pub TextAlone : Type 0
-TextAlone = (l a b c n : ℕ) → recordFits l a b c n ≡ isWellFormed (decodedOf l a b c n) && textFits l n

@@ -11,6 +11,7 @@ const MOST_TEXT: usize = 96;
 pub fn fits(letter: u8, a: u16, b: u16, c: u16, size: usize) -> bool
     ensures { λ r. ⌜ r ≡ recordFits letter a b c size ⌝ }
 {
+    // The text is judged here alone, so the fields are judged as without one.
     match decode(letter, a, b, c, 0) {
         Decoded::Corrupt => false,
         Decoded::WellFormed(_) => text_fits(letter, size),

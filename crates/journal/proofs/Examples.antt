@@ -30,7 +30,7 @@ long-refused : (rs : List Call) → mostBytes < length (fileBytes rs) → verdic
 unfolding verdictOf fileBytes
 long-refused rs h =
     let s = fileHead (length rs) ++ allBytes rs in
-    rw (le-leb 3 (length s) (omega arith), le-ltb (length s) 7 (omega arith), le-leb 5 (length s) (omega arith), lt-ltb mostBytes (length s) h)
+    rw (le-leb 3 (length s) (omega arith), le-ltb (length s) 7 (omega arith), lt-ltb mostBytes (length s) h)
 
 lock-recordable : Recordable (callWith 76 0 0 1 eightBytes)
 unfolding recordFits decodedOf
@@ -59,8 +59,9 @@ examples =
       empty-written = refl;
       two-bytes = refl;
       version-cut = refl;
-      version-two = λ x y t. let s : List ℕ = 75 ∷ 76 ∷ 68 ∷ 2 ∷ 0 ∷ x ∷ y ∷ t in rw (le-leb 3 (length s) (omega arith), le-ltb (length s) 7 (omega arith), le-leb 5 (length s) (omega arith));
-      wrong-mark = λ x y z t. let s : List ℕ = 75 ∷ 76 ∷ 69 ∷ x ∷ y ∷ z ∷ t in rw (le-leb 3 (length s) (omega arith));
+      version-two = λ x y t. let s : List ℕ = 75 ∷ 76 ∷ 68 ∷ 2 ∷ 0 ∷ x ∷ y ∷ t in rw (le-leb 3 (length s) (omega arith), le-ltb (length s) 7 (omega arith));
+      wrong-mark = λ t. let s : List ℕ = 75 ∷ 76 ∷ 69 ∷ t in rw (le-leb 3 (length s) (omega arith));
+      one-readable = refl;
       one-record = refl;
       left-over = refl;
       longest-length = longest-is;

@@ -75,7 +75,7 @@ passed s a =
     record {
       mark = not-false (marked s) (a .0);
       least = ltb-false (length s) 7 (a .1 .0);
-      version = eqb-true (word s 3) 1 (and-right (leb 5 (length s)) (eqb (word s 3) 1) (not-false (current s) (a .1 .1 .0)));
+      version = eqb-true (word s 3) 1 (not-false (current s) (a .1 .1 .0));
       most = ltb-false mostBytes (length s) (a .1 .1 .1 .0);
       records = not-false (wholeFrom (word s 5) s 7) (a .1 .1 .1 .1 .0);
     }
@@ -87,9 +87,8 @@ open-file s h = passed s (all-fail (fileConditions s) (readable-none (firstRefus
 pub shut-file : (s : List ℕ) → File s → verdictOf s ≡ Readable
 unfolding verdictOf
 shut-file s f =
-    let v : not (current s) ≡ false = rw (le-leb 5 (length s) (omega (arith, f .least)), eq-eqb (word s 3) 1 (f .version)) in
     ap verdict (none-first (fileConditions s)
-    (ap not (f .mark), (le-ltb (length s) 7 (f .least), (v, (le-ltb mostBytes (length s) (f .most), (ap not (f .records), tt))))))
+    (ap not (f .mark), (le-ltb (length s) 7 (f .least), (ap not (eq-eqb (word s 3) 1 (f .version)), (le-ltb mostBytes (length s) (f .most), (ap not (f .records), tt))))))
 
 pub count-small : (s : List ℕ) → File s → word s 5 ≤ 7280
 count-small s f = omega (arith, count-bound (word s 5) s 7 (f .records), f .most)

@@ -5,13 +5,15 @@ use mathlib.Core.List.{List, [], _∷_, _++_}
 use mathlib.Core.Option.{Option, none, some}
 use Prim.Native.Nat.{ℕ, _≤_}
 use lib.ListN.{length}
-use borrow.Author.Tests.{ltb-false}
+use native.Mathlib.Omega.{arith}
+use lib.Dec.{ltb}
+use borrow.Author.Tests.{ltb-false, le-leb}
 use Rattle.journal.specs.declared.file.Refusal.{Refusal}
 use Rattle.journal.specs.declared.file.Refusal.the-variants.{Corrupt}
 use Rattle.journal.specs.declared.file.Verdict.the-variants.{Readable, Refused}
 use Rattle.journal.specs.Verdicts.{Condition, when, firstRefusal}
 use Rattle.journal.specs.Reading.{word, wholeFrom, marked, current, verdict, verdictOf}
-use Rattle.journal.specs.Steps.{headConditions, headVerdict}
+use Rattle.journal.specs.Steps.{versionRead, headConditions, headVerdict}
 
 pub and-left : (x y : Bool) → x && y ≡ true → x ≡ true
 and-left true y h = refl
@@ -73,21 +75,30 @@ readable-none (some g) h = cc
 abbrev last : List ℕ → List Condition
 last s = when (not (wholeFrom (word s 5) s 7)) Corrupt ∷ []
 
+-- the version is judged where there is one: under 7 bytes the test is never reached
+head-same : (s : List ℕ) (m : Bool) (ys : List Condition)
+    → firstRefusal (headConditions (length s) m (versionRead s) ++ ys) ≡ firstRefusal (headConditions (length s) m (current s) ++ ys)
+head-same s m ys = go (ltb (length s) 7) refl
+  where
+    go : (b : Bool) → ltb (length s) 7 ≡ b → firstRefusal (headConditions (length s) m (versionRead s) ++ ys) ≡ firstRefusal (headConditions (length s) m (current s) ++ ys)
+    go true e = rw e
+    go false e = rw (le-leb 5 (length s) (omega (arith, ltb-false (length s) 7 e)))
+
 -- m and k are what the code says of the mark and the version
-module _ (s : List ℕ) (m k : Bool) (em : m ≡ marked s) (ek : k ≡ current s) where
+module _ (s : List ℕ) (m k : Bool) (em : m ≡ marked s) (ek : k ≡ versionRead s) where
+  parted : verdictOf s ≡ verdict (firstRefusal (headConditions (length s) m k ++ last s))
+  unfolding verdictOf
+  parted = rw (em, ek) (ap verdict (sym (head-same s (marked s) (last s))))
+
   -- a refusal of the head is the file's
   pub head-refused : (f : Refusal) → Refused f ≡ headVerdict (length s) m k → Refused f ≡ verdictOf s
-  unfolding verdictOf
-  head-refused f h = rw (← em, ← ek) (sym (ap verdict (first-here (headConditions (length s) m k) (last s) f (refused-some _ (sym h)))))
+  head-refused f h = sym (parted ∙ ap verdict (first-here (headConditions (length s) m k) (last s) f (refused-some _ (sym h))))
 
   -- otherwise the records decide
   module _ (h : Readable ≡ headVerdict (length s) m k) where
-    head-passed : verdictOf s ≡ verdict (firstRefusal (last s))
-    unfolding verdictOf
-    head-passed = rw (← em, ← ek) (ap verdict (first-later (headConditions (length s) m k) (last s) (readable-none _ (sym h))))
-
     pub records-decide : (w : Bool) → w ≡ wholeFrom (word s 5) s 7 → verdictOf s ≡ cond w Readable (Refused Corrupt)
-    records-decide w e = head-passed ∙ rw (← e) (go w)
+    records-decide w e =
+        parted ∙ ap verdict (first-later (headConditions (length s) m k) (last s) (readable-none _ (sym h))) ∙ rw (← e) (go w)
       where
         go : (w : Bool) → verdict (cond (not w) (some Corrupt) none) ≡ cond w Readable (Refused Corrupt)
         go true = refl

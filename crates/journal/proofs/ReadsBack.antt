@@ -11,8 +11,9 @@ use lib.Dec.{lit<}
 use borrow.Author.Tests.{eq-eqb, eqb-true, le-leb}
 use Rattle.call.specs.Calls.{Call}
 use Rattle.journal.specs.declared.record.Found.the-variants.{End}
-use Rattle.journal.specs.Format.{low, high, recordBytes, allBytes, fileHead, fileBytes, Recordable, AllRecordable}
-use Rattle.journal.specs.Reading.{word, recordOf, nextOf, wholeAt, wholeFrom, recordsFrom, recordsOf}
+use Rattle.journal.specs.Format.{low, high, recordBytes, allBytes, fileHead, fileBytes, Recordable, AllRecordable, mostBytes, isFit}
+use Rattle.journal.specs.Reading.{word, recordOf, nextOf, wholeAt, wholeFrom, recordsFrom, recordsOf, verdictOf}
+use Rattle.journal.specs.declared.file.Verdict.the-variants.{Readable}
 use Rattle.journal.specs.ReadsBack.{WrittenReadable, WrittenBytes, RecordsBack, runFrom, ReadsInOrder}
 use Rattle.call.proofs.Texts.{text-short}
 use Rattle.journal.proofs.ByteLists.{Each, each, all-are, each-append}
@@ -55,18 +56,26 @@ module _ (p q : List ℕ) (r : Call) where
   next-back : nextOf (p ++ (recordBytes r ++ q)) (length p) ≡ length (p ++ recordBytes r)
   next-back = rw (at-size, length-append p (recordBytes r)) (omega arith)
 
-  whole-back : Recordable r → wholeAt (p ++ (recordBytes r ++ q)) (length p) ≡ true
+  whole-back : isFit r ≡ true → wholeAt (p ++ (recordBytes r ++ q)) (length p) ≡ true
   unfolding wholeAt
   whole-back v =
       let n : length (p ++ (recordBytes r ++ q)) ≡ length p + (9 + (length (r .text) + length q)) = rw (length-append p (recordBytes r ++ q), length-append (r .text) q) (omega arith) in
-      simp (at-letter, at-a, at-b, at-c, at-size, v .fit, le-leb (length p + 9) (length (p ++ (recordBytes r ++ q))) (omega arith), le-leb (length p + 9 + length (r .text)) (length (p ++ (recordBytes r ++ q))) (omega arith))
+      simp (at-letter, at-a, at-b, at-c, at-size, v, le-leb (length p + 9) (length (p ++ (recordBytes r ++ q))) (omega arith), le-leb (length p + 9 + length (r .text)) (length (p ++ (recordBytes r ++ q))) (omega arith))
 
 -- ---- a list of records after p
 
 after-first : (r : Call) (rs : List Call) (p : List ℕ) → p ++ allBytes (r ∷ rs) ≡ (p ++ recordBytes r) ++ allBytes rs
 after-first r rs p = sym (append-assoc p (recordBytes r) (allBytes rs))
 
-whole-all : (rs : List Call) (p : List ℕ) → AllRecordable rs → wholeFrom (length rs) (p ++ allBytes rs) (length p) ≡ true
+abbrev pub AllFit : List Call → Type 0
+AllFit [] = Unit {0}
+AllFit (r ∷ rs) = (isFit r ≡ true) × AllFit rs
+
+pub all-fit : (rs : List Call) → AllRecordable rs → AllFit rs
+all-fit [] v = tt
+all-fit (r ∷ rs) v = (v .0 .fit, all-fit rs (v .1))
+
+whole-all : (rs : List Call) (p : List ℕ) → AllFit rs → wholeFrom (length rs) (p ++ allBytes rs) (length p) ≡ true
 unfolding wholeFrom
 whole-all [] p v = eq-eqb (length p) (length (p ++ [])) (sym (ap length (append-nil p)))
 whole-all (r ∷ rs) p v =
@@ -84,9 +93,9 @@ records-all (r ∷ rs) p =
 
 -- ---- a file
 
-pub written-readable : WrittenReadable
+pub fit-readable : (rs : List Call) → AllFit rs → length (fileBytes rs) ≤ mostBytes → verdictOf (fileBytes rs) ≡ Readable
 unfolding fileBytes
-written-readable rs v h =
+fit-readable rs v h =
     let s = fileHead (length rs) ++ allBytes rs in
     shut-file s
     (record {
@@ -96,6 +105,9 @@ written-readable rs v h =
       most = h;
       records = rw (word-value (length rs)) (whole-all rs (fileHead (length rs)) v);
     })
+
+pub written-readable : WrittenReadable
+written-readable rs v h = fit-readable rs (all-fit rs v) h
 
 pub file-length : (rs : List Call) → length (fileBytes rs) ≡ 7 + length (allBytes rs)
 unfolding fileBytes

@@ -15,11 +15,11 @@ use Rattle.journal.specs.declared.append.Appended.the-variants.{Length}
 use Rattle.journal.specs.Format.{Bytes, recordBytes, allBytes, fileHead, fileBytes, Recordable, AllRecordable, mostBytes, isFit}
 use Rattle.journal.specs.Reading.{recordsOf, verdictOf}
 use Rattle.journal.specs.Appending.{lengthWith, appendAnswer, withRecord, emptyAnswer}
-use Rattle.journal.specs.Rebuilds.{AddsOne, Buffer, emptied, appendOne, appendAll, holding, Rebuilds}
+use Rattle.journal.specs.Rebuilds.{AddsOne, Buffer, emptied, appendOne, appendAll, holding, Rebuilds, AppendsAll}
 use Rattle.journal.proofs.ByteLists.{bytes-take}
 use Rattle.journal.proofs.Files.{new-length, accepted, open-file, shut-file}
 use Rattle.journal.proofs.Answering.{accepts}
-use Rattle.journal.proofs.ReadsBack.{word-value, file-length, written-readable, records-back}
+use Rattle.journal.proofs.ReadsBack.{AllFit, all-fit, fit-readable, word-value, file-length, written-readable, records-back}
 use Rattle.journal.proofs.WritesBack.{writes-back, records-recordable}
 
 -- a run of stores from a seam on
@@ -49,6 +49,10 @@ part-shorter rs ts =
 snoc-recordable : (rs : List Call) (r : Call) → AllRecordable rs → Recordable r → AllRecordable (rs ++ r ∷ [])
 snoc-recordable [] r vs v = (v, tt)
 snoc-recordable (x ∷ rs) r vs v = (vs .0, snoc-recordable rs r (vs .1) v)
+
+snoc-fit : (rs : List Call) (r : Call) → AllFit rs → isFit r ≡ true → AllFit (rs ++ r ∷ [])
+snoc-fit [] r vs v = (v, tt)
+snoc-fit (x ∷ rs) r vs v = (vs .0, snoc-fit rs r (vs .1) v)
 
 -- ---- one append
 
@@ -119,13 +123,14 @@ empty-held d h =
     let b = sets-seam [] d (fileHead 0) 0 refl h in
     rw (le-ltb (length d) 7 h) (λ i. record { bytes = b i; len = 7 })
 
+pub appends-all : AppendsAll
+appends-all rs vs most d room = rw (empty-held d (omega (arith, file-length rs))) (all d rs [] tt vs most room)
+
 pub rebuilds : Rebuilds
 rebuilds s bytes h d room =
     let e : fileBytes (recordsOf s) ≡ s = writes-back s bytes h in
     let n : length (fileBytes (recordsOf s)) ≡ length s = ap length e in
-    let f = open-file s h in
-    rw (empty-held d (omega (arith, f .least)))
-    (all d (recordsOf s) [] tt (records-recordable s bytes h) (omega (arith, f .most)) (omega arith) ∙ ap (holding d) e)
+    appends-all (recordsOf s) (records-recordable s bytes h) (omega (arith, open-file s h .most)) d (omega arith) ∙ ap (holding d) e
 
 -- ---- one record more
 
@@ -146,6 +151,6 @@ adds-one d len r n bytes h =
     record {
       size = size;
       bytes = after;
-      readable = λ v. rw front (written-readable (ps ++ r ∷ []) (snoc-recordable ps r (records-recordable s few readable) v) (omega (arith, ok .most, new-length d len r n h)));
+      readable = rw front (fit-readable (ps ++ r ∷ []) (snoc-fit ps r (all-fit ps (records-recordable s few readable)) (ok .fit)) (omega (arith, ok .most, new-length d len r n h)));
       records = rw front (records-back (ps ++ r ∷ []));
     }

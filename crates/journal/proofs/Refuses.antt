@@ -35,9 +35,6 @@ module _ (s : List ℕ) (bytes : Bytes s) where
       go true e = absurd (no-mark (is-marked e))
       go false e = refl
 
-  current-is : 7 ≤ length s → current s ≡ eqb (word s 3) 1
-  current-is h = rw (le-leb 5 (length s) (omega arith))
-
   broken-is : Marked s → 7 ≤ length s → word s 3 ≡ 1 → length s ≤ mostBytes → (Written s → ⊥) → wholeFrom (word s 5) s 7 ≡ false
   broken-is m l v k no-file = go (wholeFrom (word s 5) s 7) refl
     where
@@ -51,10 +48,10 @@ module _ (s : List ℕ) (bytes : Bytes s) where
   unfolding verdictOf
   refused (unmarked n) = rw (unmarked-is n)
   refused (short m l) = rw (marked-is m, lt-ltb (length s) 7 l)
-  refused (version m l v) = rw (marked-is m, le-ltb (length s) 7 l, current-is l, ne-eqb (word s 3) 1 v)
-  refused (long m l v k) = rw (marked-is m, le-ltb (length s) 7 l, current-is l, eq-eqb (word s 3) 1 v, lt-ltb mostBytes (length s) k)
+  refused (version m l v) = rw (marked-is m, le-ltb (length s) 7 l, ne-eqb (word s 3) 1 v)
+  refused (long m l v k) = rw (marked-is m, le-ltb (length s) 7 l, eq-eqb (word s 3) 1 v, lt-ltb mostBytes (length s) k)
   refused (broken m l v k n) =
-      rw (marked-is m, le-ltb (length s) 7 l, current-is l, eq-eqb (word s 3) 1 v, le-ltb mostBytes (length s) k, broken-is m l v k n)
+      rw (marked-is m, le-ltb (length s) 7 l, eq-eqb (word s 3) 1 v, le-ltb mostBytes (length s) k, broken-is m l v k n)
 
   -- ---- every file is one of them, or readable
 

@@ -11,13 +11,13 @@ use Rattle.journal.specs.declared.file.Refusal.{Refusal}
 use Rattle.journal.specs.declared.file.Refusal.the-variants.{Full, Corrupt}
 use Rattle.journal.specs.declared.append.Appended.{Appended}
 use Rattle.journal.specs.declared.append.Appended.the-variants.{Length, Declined}
-use Rattle.journal.specs.Format.{wordBytes, recordBytes, fileBytes, mostBytes, isFit}
+use Rattle.journal.specs.Format.{wordBytes, recordBytes, recordHeadSize, fileHeadSize, countAt, fileBytes, mostBytes, isFit}
 use Rattle.journal.specs.Verdicts.{Condition, when, firstRefusal}
 use Rattle.journal.specs.Reading.{word, fileConditions}
 
 -- the length of the file with the record
 abbrev pub lengthWith : ℕ → Call → ℕ
-lengthWith len r = len + 9 + length (r .text)
+lengthWith len r = len + recordHeadSize + length (r .text)
 
 -- '18 for an unfit record .., and 10 when the buffer or 65,535 bytes would be passed'
 abbrev pub ownConditions : List ℕ → ℕ → Call → List Condition
@@ -36,9 +36,9 @@ answer n (some f) = Declined f
 unfoldable pub appendAnswer : List ℕ → ℕ → Call → Appended
 appendAnswer d len r = answer (lengthWith len r) (firstRefusal (appendConditions d len r))
 
--- 'the count rises by 1, the record follows the file, no other byte changes': bytes are set from place 5 on, and from the file's end on
+-- 'the count rises by 1, the record follows the file, no other byte changes': bytes are set at the count's place, and from the file's end on
 unfoldable pub withRecord : List ℕ → ℕ → Call → List ℕ
-withRecord d len r = sets (sets d 5 (wordBytes (word d 5 + 1))) len (recordBytes r)
+withRecord d len r = sets (sets d countAt (wordBytes (word d countAt + 1))) len (recordBytes r)
 
 -- the buffer after an answer: a refusal changes no byte
 abbrev pub bufferAfter : Appended → List ℕ → ℕ → Call → List ℕ
@@ -48,7 +48,7 @@ bufferAfter (Declined f) d len r = d
 -- ---- the file with no record, from which appending starts: 10 where the buffer does not hold its 7 bytes
 
 unfoldable pub emptyAnswer : List ℕ → Appended
-emptyAnswer d = cond (ltb (length d) 7) (Declined Full) (Length 7)
+emptyAnswer d = cond (ltb (length d) fileHeadSize) (Declined Full) (Length fileHeadSize)
 
 abbrev pub emptyAfter : Appended → List ℕ → List ℕ
 emptyAfter (Length n) d = sets d 0 (fileBytes [])

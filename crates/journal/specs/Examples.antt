@@ -38,8 +38,9 @@ pub record Examples : Type 0 where
   pub version-cut : verdictOf (75 ∷ 76 ∷ 68 ∷ 2 ∷ 0 ∷ []) ≡ Refused Corrupt
   pub version-two : (x y : ℕ) (t : List ℕ) → verdictOf (75 ∷ 76 ∷ 68 ∷ 2 ∷ 0 ∷ x ∷ y ∷ t) ≡ Refused OtherVersion
   -- a wrong mark at any length and with any version
-  pub wrong-mark : (x y z : ℕ) (t : List ℕ) → verdictOf (75 ∷ 76 ∷ 69 ∷ x ∷ y ∷ z ∷ t) ≡ Refused NotJournal
-  -- one record U, and a byte that is left over
+  pub wrong-mark : (t : List ℕ) → verdictOf (75 ∷ 76 ∷ 69 ∷ t) ≡ Refused NotJournal
+  -- one record U; the same and a byte that is left over
+  pub one-readable : verdictOf (75 ∷ 76 ∷ 68 ∷ 1 ∷ 0 ∷ 1 ∷ 0 ∷ 85 ∷ 0 ∷ 0 ∷ 0 ∷ 0 ∷ 0 ∷ 0 ∷ 0 ∷ 0 ∷ []) ≡ Readable
   pub one-record : recordsOf (75 ∷ 76 ∷ 68 ∷ 1 ∷ 0 ∷ 1 ∷ 0 ∷ 85 ∷ 0 ∷ 0 ∷ 0 ∷ 0 ∷ 0 ∷ 0 ∷ 0 ∷ 0 ∷ []) ≡ callWith 85 0 0 0 [] ∷ []
   pub left-over : verdictOf (75 ∷ 76 ∷ 68 ∷ 1 ∷ 0 ∷ 1 ∷ 0 ∷ 85 ∷ 0 ∷ 0 ∷ 0 ∷ 0 ∷ 0 ∷ 0 ∷ 0 ∷ 0 ∷ 0 ∷ []) ≡ Refused Corrupt
   pub longest-length : length (fileBytes longest) ≡ 65535

@@ -7,7 +7,7 @@ use Prim.Native.Nat.{ℕ, _/_, _%_, _<_}
 use lib.ListN.{length, getD}
 use Rattle.call.specs.Calls.{Call, recordFits}
 
--- every element is a byte
+-- every element is a byte, as in what a `&[u8]` holds
 abbrev pub Bytes : List ℕ → Type 0
 Bytes s = (i : ℕ) → getD s i 0 < 256
 
@@ -23,7 +23,7 @@ wordBytes w = low w ∷ high w ∷ []
 
 -- the letter's byte, a, b, c and the text length
 abbrev pub headBytes : ℕ → ℕ → ℕ → ℕ → ℕ → List ℕ
-headBytes l a b c n = l ∷ low a ∷ high a ∷ low b ∷ high b ∷ low c ∷ high c ∷ low n ∷ high n ∷ []
+headBytes l a b c n = l ∷ wordBytes a ++ wordBytes b ++ wordBytes c ++ wordBytes n
 
 -- the text follows
 abbrev pub recordBytes : Call → List ℕ
@@ -36,9 +36,22 @@ allBytes (r ∷ rs) = recordBytes r ++ allBytes rs
 abbrev pub fileVersion : ℕ
 fileVersion = 1
 
+-- the bytes of a record before its text, and of a file before its first record; where version and count stand
+abbrev pub recordHeadSize : ℕ
+recordHeadSize = 9
+
+abbrev pub fileHeadSize : ℕ
+fileHeadSize = 7
+
+abbrev pub versionAt : ℕ
+versionAt = 3
+
+abbrev pub countAt : ℕ
+countAt = 5
+
 -- `KLD`, the version and the count
 abbrev pub fileHead : ℕ → List ℕ
-fileHead n = 75 ∷ 76 ∷ 68 ∷ low fileVersion ∷ high fileVersion ∷ low n ∷ high n ∷ []
+fileHead n = 75 ∷ 76 ∷ 68 ∷ wordBytes fileVersion ++ wordBytes n
 
 -- the file of a list of records
 unfoldable pub fileBytes : List Call → List ℕ
@@ -51,7 +64,7 @@ mostBytes = 65535
 abbrev pub isFit : Call → Bool
 isFit r = recordFits (r .letter) (r .a) (r .b) (r .c) (length (r .text))
 
--- a call that a file can hold: it is fit, and the letter is a byte, the fields have 16 bits and the text is of bytes
+-- a call that a file can hold: it is fit and, as every call that code can make, has a letter of 8 bits, fields of 16 and a text of bytes
 pub record Recordable (r : Call) : Type 0 where
   pub fit : isFit r ≡ true
   pub letter-byte : r .letter < 256

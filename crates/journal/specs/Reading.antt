@@ -14,7 +14,7 @@ use Rattle.journal.specs.declared.file.Refusal.{Refusal}
 use Rattle.journal.specs.declared.file.Refusal.the-variants.{NotJournal, OtherVersion, Corrupt}
 use Rattle.journal.specs.declared.file.Verdict.{Verdict}
 use Rattle.journal.specs.declared.file.Verdict.the-variants.{Readable, Refused}
-use Rattle.journal.specs.Format.{fileVersion, mostBytes}
+use Rattle.journal.specs.Format.{recordHeadSize, fileHeadSize, fileVersion, versionAt, countAt, mostBytes}
 use Rattle.journal.specs.Verdicts.{Condition, when, firstRefusal}
 
 -- the 16 bits at i, low byte first
@@ -31,17 +31,17 @@ recordOf s at =
       a = word s (at + 1);
       b = word s (at + 3);
       c = word s (at + 5);
-      text = take (word s (at + 7)) (drop (at + 9) s);
+      text = take (word s (at + 7)) (drop (at + recordHeadSize) s);
     }
 
 -- the cursor after it
 abbrev pub nextOf : List ℕ → ℕ → ℕ
-nextOf s at = at + 9 + word s (at + 7)
+nextOf s at = at + recordHeadSize + word s (at + 7)
 
 -- the record is fit, and not cut short
 unfoldable pub wholeAt : List ℕ → ℕ → Bool
 wholeAt s at =
-    leb (at + 9) (length s)
+    leb (at + recordHeadSize) (length s)
     && (recordFits (getD s at 0) (word s (at + 1)) (word s (at + 3)) (word s (at + 5)) (word s (at + 7))
     && leb (nextOf s at) (length s))
 
@@ -53,7 +53,7 @@ entryOf s at =
       a = word s (at + 1);
       b = word s (at + 3);
       c = word s (at + 5);
-      start = at + 9;
+      start = at + recordHeadSize;
       next = nextOf s at;
     }
 
@@ -67,14 +67,14 @@ cursorAfter (Record e) at = e .next
 cursorAfter End at = at
 cursorAfter Damaged at = at
 
--- ---- the records of a file: as many as its count says, from place 7 on
+-- ---- the records of a file: as many as its count says, after its head
 
 unfoldable pub recordsFrom : ℕ → List ℕ → ℕ → List Call
 recordsFrom zero s at = []
 recordsFrom (suc n) s at = recordOf s at ∷ recordsFrom n s (nextOf s at)
 
 unfoldable pub recordsOf : List ℕ → List Call
-recordsOf s = recordsFrom (word s 5) s 7
+recordsOf s = recordsFrom (word s countAt) s fileHeadSize
 
 -- each is whole, and no byte is left over
 unfoldable pub wholeFrom : ℕ → List ℕ → ℕ → Bool
@@ -87,19 +87,18 @@ wholeFrom (suc n) s at = wholeAt s at && wholeFrom n s (nextOf s at)
 abbrev pub marked : List ℕ → Bool
 marked s = leb 3 (length s) && (eqb (getD s 0 0) 75 && eqb (getD s 1 0) 76 && eqb (getD s 2 0) 68)
 
--- there is a version, and it is the file's
 abbrev pub current : List ℕ → Bool
-current s = leb 5 (length s) && eqb (word s 3) fileVersion
+current s = eqb (word s versionAt) fileVersion
 
 -- 'The order is 16; 18 if under 7 bytes; 17; then 18 for length over the limit, unknown letter, an unnamed field not 0, text length wrong, records
 -- cut short, bytes left over.'
 abbrev pub fileConditions : List ℕ → List Condition
 fileConditions s =
     when (not (marked s)) NotJournal
-    ∷ when (ltb (length s) 7) Corrupt
+    ∷ when (ltb (length s) fileHeadSize) Corrupt
     ∷ when (not (current s)) OtherVersion
     ∷ when (ltb mostBytes (length s)) Corrupt
-    ∷ when (not (wholeFrom (word s 5) s 7)) Corrupt
+    ∷ when (not (wholeFrom (word s countAt) s fileHeadSize)) Corrupt
     ∷ []
 
 abbrev pub verdict : Option Refusal → Verdict

@@ -10,7 +10,7 @@ use Rattle.journal.specs.declared.record.Entry.{Entry}
 use Rattle.journal.specs.declared.record.Found.{Found}
 use Rattle.journal.specs.declared.record.Found.the-variants.{Record, End, Damaged}
 use Rattle.journal.specs.declared.file.Verdict.the-variants.{Readable}
-use Rattle.journal.specs.Format.{Bytes, AllRecordable, fileBytes, mostBytes}
+use Rattle.journal.specs.Format.{Bytes, AllRecordable, fileHeadSize, fileBytes, mostBytes}
 use Rattle.journal.specs.Reading.{foundAt, recordsOf, verdictOf}
 
 abbrev pub WrittenReadable : Type 0
@@ -45,4 +45,4 @@ runFrom zero s at = record { read = []; last = foundAt s at }
 runFrom (suc n) s at = runOn s (foundAt s at) (runFrom n s)
 
 abbrev pub ReadsInOrder : Type 0
-ReadsInOrder = (s : List ℕ) → verdictOf s ≡ Readable → runFrom (length (recordsOf s)) s 7 ≡ record { read = recordsOf s; last = End }
+ReadsInOrder = (s : List ℕ) → verdictOf s ≡ Readable → runFrom (length (recordsOf s)) s fileHeadSize ≡ record { read = recordsOf s; last = End }

@@ -1,6 +1,6 @@
--- Appending a record to a readable file gives the file of its records with that one at the end, and changes no byte after it. So a readable file's
--- records, appended in order to the empty file, give the same file in any buffer that holds it (demand 2). Proved in `proofs/Rebuilds.antt`.
--- Assumes nothing.
+-- Appending a record to a readable file gives the file of its records with that one at the end, and changes no byte after it. So records appended in
+-- order to the empty file give their file, and a readable file's records the same file, in any buffer that holds it (demand 2). Proved in
+-- `proofs/Rebuilds.antt`. Assumes nothing.
 use mathlib.Core.Path.{_≡_}
 use mathlib.Core.List.{List, [], _∷_, _++_}
 use Prim.Native.Nat.{ℕ, _≤_}
@@ -9,7 +9,7 @@ use Rattle.call.specs.Calls.{Call}
 use Rattle.journal.specs.declared.file.Verdict.the-variants.{Readable}
 use Rattle.journal.specs.declared.append.Appended.{Appended}
 use Rattle.journal.specs.declared.append.Appended.the-variants.{Length, Declined}
-use Rattle.journal.specs.Format.{Bytes, Recordable, fileBytes}
+use Rattle.journal.specs.Format.{Bytes, AllRecordable, fileBytes, mostBytes}
 use Rattle.journal.specs.Reading.{recordsOf, verdictOf}
 use Rattle.journal.specs.Appending.{appendAnswer, bufferAfter, emptyAnswer, emptyAfter}
 
@@ -19,8 +19,7 @@ use Rattle.journal.specs.Appending.{appendAnswer, bufferAfter, emptyAnsw
 pub record Added (d : List ℕ) (len : ℕ) (r : Call) (n : ℕ) : Type 0 where
   pub size : n ≡ length (fileBytes (recordsOf (take len d) ++ r ∷ []))
   pub bytes : bufferAfter (Length n) d len r ≡ fileBytes (recordsOf (take len d) ++ r ∷ []) ++ drop n d
-  -- a caller's fields are 16 bits wide
-  pub readable : Recordable r → verdictOf (take n (bufferAfter (Length n) d len r)) ≡ Readable
+  pub readable : verdictOf (take n (bufferAfter (Length n) d len r)) ≡ Readable
   pub records : recordsOf (take n (bufferAfter (Length n) d len r)) ≡ recordsOf (take len d) ++ r ∷ []
 
 abbrev pub AddsOne : Type 0
@@ -54,6 +53,13 @@ appendAll x (r ∷ rs) = appendAll (appendOne x r) rs
 abbrev pub holding : List ℕ → List ℕ → Buffer
 holding d s = record { bytes = s ++ drop (length s) d; len = length s }
 
+-- any records that a file can hold, appended in order to the empty file, give their file
+abbrev pub AppendsAll : Type 0
+AppendsAll =
+    (rs : List Call) → AllRecordable rs → length (fileBytes rs) ≤ mostBytes → (d : List ℕ) → length (fileBytes rs) ≤ length d
+    → appendAll (emptied d) rs ≡ holding d (fileBytes rs)
+
+-- so a readable file's records give that file again
 abbrev pub Rebuilds : Type 0
 Rebuilds =
     (s : List ℕ) → Bytes s → verdictOf s ≡ Readable → (d : List ℕ) → length s ≤ length d

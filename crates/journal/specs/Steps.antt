@@ -1,22 +1,27 @@
 -- What the crate's private functions promise each other. Nothing here is part of what a reader must believe.
-use mathlib.Core.Bool.{Bool, not, cond}
+use mathlib.Core.Bool.{Bool, not, cond, _&&_}
 use mathlib.Core.List.{List, [], _∷_}
 use Prim.Native.Nat.{ℕ, _+_}
-use lib.Dec.{ltb}
+use lib.Dec.{leb, ltb}
+use lib.ListN.{length}
 use Rattle.journal.specs.declared.file.Refusal.the-variants.{NotJournal, OtherVersion, Corrupt}
 use Rattle.journal.specs.declared.file.Verdict.{Verdict}
-use Rattle.journal.specs.Format.{mostBytes}
+use Rattle.journal.specs.Format.{recordHeadSize, fileHeadSize, mostBytes}
 use Rattle.journal.specs.Verdicts.{Condition, when, firstRefusal}
-use Rattle.journal.specs.Reading.{word, wholeAt, verdict}
+use Rattle.journal.specs.Reading.{word, wholeAt, current, verdict}
+
+-- a version is there to be read, and it is the file's
+abbrev pub versionRead : List ℕ → Bool
+versionRead s = leb 5 (length s) && current s
 
 -- the refusals of a file of n bytes, its records left aside
 abbrev pub headConditions : ℕ → Bool → Bool → List Condition
 headConditions n marked current =
-    when (not marked) NotJournal ∷ when (ltb n 7) Corrupt ∷ when (not current) OtherVersion ∷ when (ltb mostBytes n) Corrupt ∷ []
+    when (not marked) NotJournal ∷ when (ltb n fileHeadSize) Corrupt ∷ when (not current) OtherVersion ∷ when (ltb mostBytes n) Corrupt ∷ []
 
 abbrev pub headVerdict : ℕ → Bool → Bool → Verdict
 headVerdict n marked current = verdict (firstRefusal (headConditions n marked current))
 
 -- the bytes of the whole record at a cursor, or 0
 unfoldable pub sizeAt : List ℕ → ℕ → ℕ
-sizeAt s at = cond (wholeAt s at) (9 + word s (at + 7)) 0
+sizeAt s at = cond (wholeAt s at) (recordHeadSize + word s (at + 7)) 0

@@ -3,8 +3,8 @@ ghost use mathlib.Core.Path.{_≡_};
 ghost use Prim.Native.Nat.{_≤_};
 ghost use lib.ListN.{length};
 ghost use Rattle.journal.specs.Verdicts.{refusalNumber};
-ghost use Rattle.journal.specs.Reading.{word, wholeFrom, marked, current, verdictOf};
-ghost use Rattle.journal.specs.Steps.{headVerdict};
+ghost use Rattle.journal.specs.Reading.{word, wholeFrom, marked, verdictOf};
+ghost use Rattle.journal.specs.Steps.{versionRead, headVerdict};
 use crate::bytes::word_at;
 use crate::record::record_size;
 
@@ -91,7 +91,7 @@ fn is_marked(file: &[u8]) -> bool
 }
 
 fn is_current(file: &[u8]) -> bool
-    ensures { λ r. ⌜ r ≡ current (now (file .entry)) ⌝ }
+    ensures { λ r. ⌜ r ≡ versionRead (now (file .entry)) ⌝ }
 {
     if file.len() < 5 {
         return false;

@@ -1,16 +1,17 @@
 -- A call that is not well formed is unfit; of one that is, the text's length decides. Assumes nothing.
+use mathlib.Core.Path.{sym, _∙_}
 use borrow.Author.Needs.{needs}
-use Rattle.call.specs.Calls.{recordFits}
+use Rattle.call.proofs.Texts.{not-well, well}
 use Rattle.call.proofs.record.fits.Statement.{statement}
 use Rattle.call.proofs.record.fits.Tie as tie
 
 returns : tie.Need-returns
-unfolding recordFits
-returns c = rw (← c .before .before .decode .ensures, c .enum-told .given .1)
+returns c = not-well _ _ _ _ _ (sym (c .enum-told .given .1) ∙ c .before .before .decode .ensures)
 
 returns-2 : tie.Need-returns-2
-unfolding recordFits
-returns-2 c = rw (c .text-fits .ensures, ← c .before .before .before .decode .ensures, c .before .enum-told2 .given .1)
+returns-2 c =
+    let told = c .before in
+    well _ _ _ _ _ _ (sym (told .enum-told2 .given .1) ∙ told .before .before .decode .ensures) _ (c .text-fits .ensures)
 
 pub fits-spec : {M : Type 1} → statement M
 fits-spec =
