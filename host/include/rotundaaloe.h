@@ -1,7 +1,8 @@
 /*
  * The proved guard for C: link target/staticlib/libabi.a, which `rt staticlib abi` makes.
  * A pointer must be valid for the length that goes with it, or for the array that is declared, and
- * what is written to must overlap nothing else that is passed. No pointer is kept.
+ * never NULL, even with a length of 0. What is written to must overlap nothing else that is passed.
+ * No pointer is kept.
  */
 #ifndef ROTUNDAALOE_H
 #define ROTUNDAALOE_H

@@ -1,4 +1,4 @@
--- How a caller in C sees the journal's answers: one number, 0 where nothing is refused, and what is then in the lent cells. Assumes nothing.
+-- How a caller in C sees the journal's answers: one number, and what is then in the cells, bytes and length that it lent. Assumes nothing.
 use mathlib.Core.List.{List, [], _∷_}
 use Prim.Native.Nat.{ℕ}
 use Rattle.journal.specs.declared.file.Refusal.the-variants.{Corrupt}
@@ -8,8 +8,11 @@ use Rattle.journal.specs.declared.record.Found.{Found}
 use Rattle.journal.specs.declared.record.Found.the-variants.{Record, End, Damaged}
 use Rattle.journal.specs.declared.append.Appended.{Appended}
 use Rattle.journal.specs.declared.append.Appended.the-variants.{Length, Declined}
+use Rattle.call.specs.Calls.{Call}
 use Rattle.journal.specs.Verdicts.{refusalNumber}
+use Rattle.journal.specs.Appending.{appendAnswer, bufferAfter, lengthAfter}
 
+-- 0 where nothing is refused
 abbrev pub verdictNumber : Verdict → ℕ
 verdictNumber Readable = 0
 verdictNumber (Refused f) = refusalNumber f
@@ -30,6 +33,12 @@ abbrev pub appendedNumber : Appended → ℕ
 appendedNumber (Length n) = 0
 appendedNumber (Declined f) = refusalNumber f
 
-abbrev pub lengthIn : Appended → ℕ → ℕ
-lengthIn (Length n) old = n
-lengthIn (Declined f) old = old
+-- an append of r to the file in the first len bytes of d: its number, the buffer and the length afterwards
+abbrev pub appendNumber : List ℕ → ℕ → Call → ℕ
+appendNumber d len r = appendedNumber (appendAnswer d len r)
+
+abbrev pub appendBuffer : List ℕ → ℕ → Call → List ℕ
+appendBuffer d len r = bufferAfter (appendAnswer d len r) d len r
+
+abbrev pub appendLength : List ℕ → ℕ → Call → ℕ
+appendLength d len r = lengthAfter (appendAnswer d len r) len

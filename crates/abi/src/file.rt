@@ -1,12 +1,13 @@
-// The journal for C: answers are numbers, 0 where nothing is refused, and what is found or changed goes into what the caller lends.
+// The journal for C: answers are numbers, and what is found or changed goes into what the caller lends.
 ghost use mathlib.Core.Path.{_≡_};
 ghost use Rattle.call.specs.Calls.{callWith};
 ghost use Rattle.journal.specs.Reading.{verdictOf, foundAt};
-ghost use Rattle.journal.specs.Appending.{appendAnswer, bufferAfter, emptyAnswer, emptyAfter};
-ghost use Rattle.abi.specs.Files.{verdictNumber, foundNumber, cellsIn, appendedNumber, lengthIn};
+ghost use Rattle.journal.specs.Appending.{emptyAnswer, emptyAfter};
+ghost use Rattle.abi.specs.Files.{verdictNumber, foundNumber, cellsIn, appendedNumber, appendNumber, appendBuffer, appendLength};
 use journal::append::Appended;
 use journal::append::append;
 use journal::append::empty;
+use journal::file::Refusal;
 use journal::file::Verdict;
 use journal::file::check;
 use journal::file::refusal_number;
@@ -32,7 +33,7 @@ pub extern "C" fn rotundaaloe_journal_record(file: &[u8], at: usize, row: &mut [
 {
     match record_at(file, at) {
         Found::End => 0,
-        Found::Damaged => 18,
+        Found::Damaged => refusal_number(Refusal::Corrupt),
         Found::Record(e) => {
             *row = [
                 e.letter as u64,
@@ -59,8 +60,8 @@ pub extern "C" fn rotundaaloe_journal_empty(buffer: &mut [u8]) -> u32
     }
 }
 
-// 0 and the record appended to the file in the buffer's first `length` bytes, with the new length; or the number of the refusal, and then no byte
-// and not the length is changed.
+// 0 and the record appended to the file in the buffer's first `length` bytes, with the new length; or the number of the refusal, and then neither a
+// byte nor the length is changed.
 #[no_mangle]
 pub extern "C" fn rotundaaloe_journal_append(
     buffer: &mut [u8],
@@ -71,9 +72,9 @@ pub extern "C" fn rotundaaloe_journal_append(
     c: u16,
     text: &[u8],
 ) -> u32
-    ensures number { λ r. ⌜ r ≡ appendedNumber (appendAnswer (now (buffer .entry)) (now (length .entry)) (callWith letter a b c (now (text .entry)))) ⌝ }
-    ensures bytes { λ r. ⌜ now (buffer .exit) ≡ bufferAfter (appendAnswer (now (buffer .entry)) (now (length .entry)) (callWith letter a b c (now (text .entry)))) (now (buffer .entry)) (now (length .entry)) (callWith letter a b c (now (text .entry))) ⌝ }
-    ensures length { λ r. ⌜ now (length .exit) ≡ lengthIn (appendAnswer (now (buffer .entry)) (now (length .entry)) (callWith letter a b c (now (text .entry)))) (now (length .entry)) ⌝ }
+    ensures number { λ r. ⌜ r ≡ appendNumber (now (buffer .entry)) (now (length .entry)) (callWith letter a b c (now (text .entry))) ⌝ }
+    ensures bytes { λ r. ⌜ now (buffer .exit) ≡ appendBuffer (now (buffer .entry)) (now (length .entry)) (callWith letter a b c (now (text .entry))) ⌝ }
+    ensures length { λ r. ⌜ now (length .exit) ≡ appendLength (now (buffer .entry)) (now (length .entry)) (callWith letter a b c (now (text .entry))) ⌝ }
 {
     let len = *length;
     match append(buffer, len, letter, a, b, c, text) {

@@ -10,11 +10,13 @@ use Rattle.call.specs.declared.request.Line.the-variants.{Of, Unknown}
 use Rattle.call.specs.declared.request.Decoded.{Decoded}
 use Rattle.call.specs.declared.request.Decoded.the-variants.{WellFormed, Corrupt}
 use Rattle.call.specs.Calls.{Row, table, unnamedZero, textNamed, decodedIn, decodedOf}
-use Rattle.call.specs.Steps.{lineIn, lineOf, judged}
+use Rattle.call.specs.Steps.{lineIn, lineOf}
 
 module _ (letter a b c n : ℕ) where
+  -- the request of a line, where what it does not name is 0
   abbrev judge : Line → Decoded
-  judge l = judged l letter a b c n
+  judge Unknown = Corrupt
+  judge (Of q k) = cond (unnamedZero k a b c && textNamed letter n) (WellFormed q) Corrupt
 
   by-line : (rs : List Row) → judge (lineIn rs letter) ≡ decodedIn rs letter a b c n
   by-line [] = refl

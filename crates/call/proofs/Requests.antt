@@ -1,6 +1,6 @@
 -- Each row of the table fixes the letter, and the fields that it does not name to 0: one induction over the table, for any property of the request that
 -- is found. The other way round the call of a request is decoded by computing. Assumes nothing.
-use mathlib.Core.Path.{_≡_, refl, sym, subst, _∙_}
+use mathlib.Core.Path.{_≡_, refl, sym, subst}
 use mathlib.Core.Bool.{Bool, true, false, cond, _&&_, _||_}
 use mathlib.Core.List.{List, [], _∷_}
 use Prim.Native.Nat.{ℕ}
@@ -12,6 +12,7 @@ use Rattle.call.specs.declared.request.Request.{Request}
 use Rattle.call.specs.declared.request.Request.the-variants.{NewUser, StartThread, EndThread, NewSegment, NewKey, GiveKey, TakeKey, AddLock, DropLock, CallSegment, ReturnCall, Access}
 use Rattle.call.specs.declared.request.Decoded.{Decoded}
 use Rattle.call.specs.declared.request.Decoded.the-variants.{WellFormed, Corrupt}
+use Rattle.call.proofs.Truth.{and-left, and-right}
 use Rattle.call.specs.Calls.{Call, callWith, Row, table, unnamedZero, textNamed, decodedIn, decodedOf}
 use Rattle.call.specs.Requests.{callOf, RequestsExactly}
 
@@ -20,10 +21,6 @@ use Rattle.call.specs.Requests.{callOf, RequestsExactly}
 or-zero : (p : Bool) (x : ℕ) → p ≡ false → p || eqb x 0 ≡ true → x ≡ 0
 or-zero true x e h = let z : _≡_ {A = ℕ} 0 1 = cc in absurd (omega arith)
 or-zero false x e h = eqb-true x 0 h
-
-both : (x y : Bool) → x && y ≡ true → (x ≡ true) × (y ≡ true)
-both true y h = (refl, h)
-both false y h = (h, cc)
 
 module _ (x : Call) where
   abbrev passes : ℕ → Bool
@@ -42,14 +39,14 @@ module _ (x : Call) where
 
   zeros : (k : ℕ) → passes k ≡ true → Zero k
   zeros k h =
-      let outer = both (unnamedZero k (x .a) (x .b) (x .c)) (textNamed (x .letter) (length (x .text))) h in
-      let last = both ((leb 1 k || eqb (x .a) 0) && (leb 2 k || eqb (x .b) 0)) (leb 3 k || eqb (x .c) 0) (outer .0) in
-      let first = both (leb 1 k || eqb (x .a) 0) (leb 2 k || eqb (x .b) 0) (last .0) in
+      let pa = leb 1 k || eqb (x .a) 0 in let pb = leb 2 k || eqb (x .b) 0 in let pc = leb 3 k || eqb (x .c) 0 in
+      let fields = and-left (pa && pb && pc) (textNamed (x .letter) (length (x .text))) h in
+      let ab = and-left (pa && pb) pc fields in
       record {
-        a = λ e. or-zero (leb 1 k) (x .a) e (first .0);
-        b = λ e. or-zero (leb 2 k) (x .b) e (first .1);
-        c = λ e. or-zero (leb 3 k) (x .c) e (last .1);
-        text = λ e. no-text (x .text) (or-zero (eqb (x .letter) 76) (length (x .text)) e (outer .1));
+        a = λ e. or-zero (leb 1 k) (x .a) e (and-left pa pb ab);
+        b = λ e. or-zero (leb 2 k) (x .b) e (and-right pa pb ab);
+        c = λ e. or-zero (leb 3 k) (x .c) e (and-right (pa && pb) pc fields);
+        text = λ e. no-text (x .text) (or-zero (eqb (x .letter) 76) (length (x .text)) e (and-right (pa && pb && pc) (textNamed (x .letter) (length (x .text))) h));
       }
 
   -- ---- what every row says, the row that was found says

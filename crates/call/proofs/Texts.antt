@@ -9,19 +9,16 @@ use borrow.Author.Tests.{eqb-true, leb-true}
 use Rattle.call.specs.declared.request.Request.{Request}
 use Rattle.call.specs.declared.request.Decoded.{Decoded}
 use Rattle.call.specs.declared.request.Decoded.the-variants.{WellFormed, Corrupt}
+use Rattle.call.proofs.Truth.{and-right}
 use Rattle.call.specs.Calls.{Row, table, textNamed, decodedIn, isWellFormed, decodedOf, textFits, recordFits}
 
-second : (x y : Bool) → x && y ≡ true → y ≡ true
-second true y h = h
-second false y h = cc
-
 short : (lock : Bool) (n : ℕ) → cond lock (leb 1 n && leb n 96) (eqb n 0) ≡ true → n ≤ 96
-short true n h = leb-true n 96 (second (leb 1 n) (leb n 96) h)
+short true n h = leb-true n 96 (and-right (leb 1 n) (leb n 96) h)
 short false n h = omega (arith, eqb-true n 0 h)
 
 pub text-short : (l a b c n : ℕ) → recordFits l a b c n ≡ true → n ≤ 96
 unfolding recordFits
-text-short l a b c n h = short (eqb l 76) n (second (isWellFormed (decodedOf l a b c n)) (textFits l n) h)
+text-short l a b c n h = short (eqb l 76) n (and-right (isWellFormed (decodedOf l a b c n)) (textFits l n) h)
 
 -- ---- the fields alone
 

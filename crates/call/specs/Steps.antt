@@ -1,13 +1,11 @@
 -- What the crate's private functions promise each other. Nothing here is part of what a reader must believe.
-use mathlib.Core.Bool.{cond, _&&_}
+use mathlib.Core.Bool.{cond}
 use mathlib.Core.List.{List, [], _∷_}
 use Prim.Native.Nat.{ℕ}
 use lib.Dec.{eqb}
 use Rattle.call.specs.declared.request.Line.{Line}
 use Rattle.call.specs.declared.request.Line.the-variants.{Of, Unknown}
-use Rattle.call.specs.declared.request.Decoded.{Decoded}
-use Rattle.call.specs.declared.request.Decoded.the-variants.{WellFormed, Corrupt}
-use Rattle.call.specs.Calls.{Row, table, unnamedZero, textNamed}
+use Rattle.call.specs.Calls.{Row, table}
 
 -- the line of a letter
 abbrev pub lineIn : List Row → ℕ → Line
@@ -16,8 +14,3 @@ lineIn (r ∷ rs) letter = cond (eqb letter (r .letter)) (Of (r .request) (r .na
 
 unfoldable pub lineOf : ℕ → ℕ → ℕ → ℕ → Line
 lineOf letter a b c = lineIn (table a b c) letter
-
--- the request of a line, where what it does not name is 0
-abbrev pub judged : Line → ℕ → ℕ → ℕ → ℕ → ℕ → Decoded
-judged Unknown letter a b c n = Corrupt
-judged (Of q k) letter a b c n = cond (unnamedZero k a b c && textNamed letter n) (WellFormed q) Corrupt

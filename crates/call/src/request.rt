@@ -3,29 +3,31 @@ ghost use mathlib.Core.Path.{_≡_};
 ghost use Rattle.call.specs.Calls.{unnamedZero, decodedOf};
 ghost use Rattle.call.specs.Steps.{lineOf};
 
-// A well formed call, with the fields that its letter names. The text of a lock stands beside it.
+// A well formed call, with the fields that its letter names; beside each stands its letter and document 01's word. The text of a lock is not in it.
 pub enum Request {
+    // U, new user
     NewUser,
-    // user
+    // S, start run: user
     StartThread(u16),
-    // thread
+    // E, end run: thread
     EndThread(u16),
-    // user, 0 code or 1 sheet
+    // N, new segment: user, 0 code or 1 sheet
     NewSegment(u16, u16),
-    // user
+    // K, new D key: user
     NewKey(u16),
-    // user, segment, key
+    // G, give key: user, segment, key
     GiveKey(u16, u16, u16),
+    // T, take key: user, segment, key
     TakeKey(u16, u16, u16),
-    // user, segment, operations
+    // L, lock: user, segment, operations
     AddLock(u16, u16, u16),
-    // user, lock
+    // D, drop lock: user, lock
     DropLock(u16, u16),
-    // thread, segment
+    // C, call: thread, segment
     CallSegment(u16, u16),
-    // thread
+    // R, return: thread
     ReturnCall(u16),
-    // thread, segment, operation
+    // A, access: thread, segment, operation
     Access(u16, u16, u16),
 }
 

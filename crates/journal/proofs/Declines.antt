@@ -1,7 +1,7 @@
 -- Every append is one of the five cases, and each case has its answer; so the answer tells the case. Assumes nothing.
 use Prim.Native.Nat.{ℕ, _<_, _≤_}
 use mathlib.Core.Path.{_≡_, refl, sym, ap, subst, _∙_}
-use mathlib.Core.Bool.{Bool, true, false, not, _||_}
+use mathlib.Core.Bool.{Bool, true, false, not, _||_, or-true}
 use mathlib.Core.List.{List}
 use mathlib.Core.Logic.{_⊎_, inl, inr}
 use native.Mathlib.Omega.{arith}
@@ -27,10 +27,6 @@ module _ (d : List ℕ) (len : ℕ) (r : Call) where
   too-long : (length d < lengthWith len r) ⊎ (mostBytes < lengthWith len r) → ltb (length d) (lengthWith len r) || ltb mostBytes (lengthWith len r) ≡ true
   too-long (inl h) = rw (lt-ltb (length d) (lengthWith len r) h)
   too-long (inr h) = rw (lt-ltb mostBytes (lengthWith len r) h) (or-true (ltb (length d) (lengthWith len r)))
-    where
-      or-true : (b : Bool) → b || true ≡ true
-      or-true true = refl
-      or-true false = refl
 
   declined : {f : Refusal} → DeclinedBy d len r f → appendAnswer d len r ≡ Declined f
   declined (beyond h) = sym (cases.beyond d len r h)

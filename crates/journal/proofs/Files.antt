@@ -1,14 +1,14 @@
 -- What a whole record, a readable file and an accepted append are, taken apart into facts with names. Assumes nothing.
 use Prim.Native.Nat.{ℕ, zero, suc, _+_, _*_, _<_, _≤_}
 use mathlib.Core.Path.{_≡_, refl, ap}
-use mathlib.Core.Bool.{Bool, true, false, not, _&&_, _||_}
+use mathlib.Core.Bool.{true, not, _&&_}
 use mathlib.Core.List.{List}
 use mathlib.Core.Option.{Option, none, some}
 use native.Mathlib.Omega.{arith}
 use lib.ListN.{length, getD, take}
 use lib.Dec.{leb, ltb, eqb}
 use lib.Seq.{getD-take, length-take-le}
-use borrow.Author.Tests.{eqb-true, leb-true, ltb-false, eq-eqb, le-leb, le-ltb, not-false}
+use borrow.Author.Tests.{eqb-true, leb-true, ltb-false, eq-eqb, le-ltb, not-false}
 use Rattle.call.specs.Calls.{Call, recordFits}
 use Rattle.journal.specs.declared.file.Refusal.{Refusal}
 use Rattle.journal.specs.declared.file.Verdict.the-variants.{Readable}
@@ -17,7 +17,8 @@ use Rattle.journal.specs.Format.{mostBytes, isFit}
 use Rattle.journal.specs.Verdicts.{firstRefusal}
 use Rattle.journal.specs.Reading.{word, nextOf, wholeAt, wholeFrom, marked, current, fileConditions, verdict, verdictOf}
 use Rattle.journal.specs.Appending.{lengthWith, ownConditions, appendConditions, answer, appendAnswer}
-use Rattle.journal.proofs.Judging.{and-left, and-right, AllFail, all-fail, fail-parts, none-first, readable-none}
+use Rattle.call.proofs.Truth.{and-left, and-right, neither}
+use Rattle.journal.proofs.Judging.{AllFail, all-fail, fail-parts, none-first, readable-none}
 
 -- ---- a whole record, and several
 
@@ -97,10 +98,6 @@ count-small s f = omega (arith, count-bound (word s 5) s 7 (f .records), f .most
 
 pub word-take : (n : ℕ) (s : List ℕ) (i : ℕ) → i + 1 < n → word (take n s) i ≡ word s i
 word-take n s i h = rw (getD-take n s i 0 (omega arith), getD-take n s (i + 1) 0 h)
-
-neither : (x y : Bool) → x || y ≡ false → (x ≡ false) × (y ≡ false)
-neither true y h = (h, cc)
-neither false y h = (refl, h)
 
 length-none : (n e : ℕ) (o : Option Refusal) → answer n o ≡ Length e → o ≡ none
 length-none n e none h = refl

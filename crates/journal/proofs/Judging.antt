@@ -1,6 +1,6 @@
 -- Laws of the first condition that holds: over two lists, and where none holds; and what a readable file's conditions say. Assumes nothing.
 use mathlib.Core.Path.{_≡_, refl, sym, ap, _∙_}
-use mathlib.Core.Bool.{Bool, true, false, not, cond, _&&_}
+use mathlib.Core.Bool.{Bool, true, false, not, cond}
 use mathlib.Core.List.{List, [], _∷_, _++_}
 use mathlib.Core.Option.{Option, none, some}
 use Prim.Native.Nat.{ℕ, _≤_}
@@ -14,14 +14,6 @@ use Rattle.journal.specs.declared.file.Verdict.the-variants.{Readable, R
 use Rattle.journal.specs.Verdicts.{Condition, when, firstRefusal}
 use Rattle.journal.specs.Reading.{word, wholeFrom, marked, current, verdict, verdictOf}
 use Rattle.journal.specs.Steps.{versionRead, headConditions, headVerdict}
-
-pub and-left : (x y : Bool) → x && y ≡ true → x ≡ true
-and-left true y h = refl
-and-left false y h = h
-
-pub and-right : (x y : Bool) → x && y ≡ true → y ≡ true
-and-right true y h = h
-and-right false y h = cc
 
 -- ---- the first condition that holds
 

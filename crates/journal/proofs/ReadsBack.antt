@@ -17,7 +17,7 @@ use Rattle.journal.specs.declared.file.Verdict.the-variants.{Readable}
 use Rattle.journal.specs.ReadsBack.{WrittenReadable, WrittenBytes, RecordsBack, runFrom, ReadsInOrder}
 use Rattle.call.proofs.Texts.{text-short}
 use Rattle.journal.proofs.ByteLists.{Each, each, all-are, each-append}
-use Rattle.journal.proofs.Judging.{and-left, and-right}
+use Rattle.call.proofs.Truth.{and-left, and-right}
 use Rattle.journal.proofs.Finding.{found-record, found-end}
 use Rattle.journal.proofs.Files.{open-file, shut-file}
 

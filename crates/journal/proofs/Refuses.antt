@@ -13,7 +13,7 @@ use Rattle.journal.specs.declared.file.Refusal.the-variants.{NotJournal,
 use Rattle.journal.specs.declared.file.Verdict.{Verdict}
 use Rattle.journal.specs.declared.file.Verdict.the-variants.{Readable, Refused}
 use Rattle.journal.specs.Format.{Bytes, mostBytes}
-use Rattle.journal.specs.Reading.{word, wholeFrom, marked, current, verdictOf}
+use Rattle.journal.specs.Reading.{word, wholeFrom, marked, verdictOf}
 use Rattle.journal.specs.WritesBack.{Written}
 use Rattle.journal.specs.Refuses.{Marked, RefusedBy, unmarked, short, version, long, broken, RefusedExactly}
 use Rattle.journal.proofs.Files.{mark-of, shut-file}

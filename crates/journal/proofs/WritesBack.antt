@@ -12,7 +12,7 @@ use Rattle.journal.specs.Format.{Bytes, low, high, recordBytes, allBytes
 use Rattle.journal.specs.Reading.{word, recordOf, nextOf, wholeAt, wholeFrom, recordsFrom, recordsOf, verdictOf}
 use Rattle.journal.specs.WritesBack.{WritesBack, ReadableExactly}
 use Rattle.journal.proofs.ByteLists.{bytes-take, bytes-drop}
-use Rattle.journal.proofs.Judging.{and-left, and-right}
+use Rattle.call.proofs.Truth.{and-left, and-right}
 use Rattle.journal.proofs.Files.{Whole, whole, Mark, mark-of, File, open-file}
 use Rattle.journal.proofs.ReadsBack.{records-length, written-readable}
 

@@ -45,6 +45,11 @@ abbrev pub bufferAfter : Appended → List ℕ → ℕ → Call → List ℕ
 bufferAfter (Length n) d len r = withRecord d len r
 bufferAfter (Declined f) d len r = d
 
+-- the length of the file after it
+abbrev pub lengthAfter : Appended → ℕ → ℕ
+lengthAfter (Length n) len = n
+lengthAfter (Declined f) len = len
+
 -- ---- the file with no record, from which appending starts: 10 where the buffer does not hold its 7 bytes
 
 unfoldable pub emptyAnswer : List ℕ → Appended

@@ -7,11 +7,10 @@ use Prim.Native.Nat.{ℕ, _≤_}
 use lib.ListN.{length, take, drop}
 use Rattle.call.specs.Calls.{Call}
 use Rattle.journal.specs.declared.file.Verdict.the-variants.{Readable}
-use Rattle.journal.specs.declared.append.Appended.{Appended}
-use Rattle.journal.specs.declared.append.Appended.the-variants.{Length, Declined}
+use Rattle.journal.specs.declared.append.Appended.the-variants.{Length}
 use Rattle.journal.specs.Format.{Bytes, AllRecordable, fileBytes, mostBytes}
 use Rattle.journal.specs.Reading.{recordsOf, verdictOf}
-use Rattle.journal.specs.Appending.{appendAnswer, bufferAfter, emptyAnswer, emptyAfter}
+use Rattle.journal.specs.Appending.{appendAnswer, bufferAfter, lengthAfter, emptyAnswer, emptyAfter}
 
 -- ---- one record
 
@@ -31,10 +30,6 @@ AddsOne = (d : List ℕ) (len : ℕ) (r : Call) (n : ℕ) → Bytes d → append
 pub record Buffer : Type 0 where
   pub bytes : List ℕ
   pub len : ℕ
-
-abbrev pub lengthAfter : Appended → ℕ → ℕ
-lengthAfter (Length n) len = n
-lengthAfter (Declined f) len = len
 
 -- the empty file in the buffer d
 unfoldable pub emptied : List ℕ → Buffer

@@ -24,7 +24,7 @@ pub enum Verdict {
 // The bytes before the first record: the mark `KLD`, the version and the count.
 pub(crate) const FILE_HEAD: usize = 7;
 
-// Where the version and the count stand in it.
+// Where the version and the count stand in it, right after the mark and each other.
 const VERSION_AT: usize = 3;
 
 pub(crate) const COUNT_AT: usize = 5;
@@ -84,7 +84,7 @@ fn head_verdict(n: usize, marked: bool, current: bool) -> Verdict
 fn is_marked(file: &[u8]) -> bool
     ensures { λ r. ⌜ r ≡ marked (now (file .entry)) ⌝ }
 {
-    if file.len() < 3 {
+    if file.len() < VERSION_AT {
         return false;
     }
     (file[0] == b'K') & (file[1] == b'L') & (file[2] == b'D')
@@ -93,7 +93,7 @@ fn is_marked(file: &[u8]) -> bool
 fn is_current(file: &[u8]) -> bool
     ensures { λ r. ⌜ r ≡ versionRead (now (file .entry)) ⌝ }
 {
-    if file.len() < 5 {
+    if file.len() < COUNT_AT {
         return false;
     }
     word_at(file, VERSION_AT) == VERSION

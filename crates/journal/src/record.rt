@@ -15,7 +15,7 @@ pub struct Entry {
     pub next: usize,
 }
 
-// What stands at a cursor. Damaged: no whole record, and not the end either.
+// What stands at a cursor. Damaged, document 01's 18: no whole record, and not the end either.
 pub enum Found {
     Record(Entry),
     End,

@@ -8,7 +8,9 @@ returns : tie.Need-returns
 returns c = rw (← c .before .before .record-at .ensures, c .enum-told .given .1) (refl, refl)
 
 returns-2 : tie.Need-returns-2
-returns-2 c = rw (← c .before .before .record-at .ensures, c .enum-told2 .given .1) (refl, refl)
+returns-2 c =
+    let told = c .before in
+    rw (← told .before .before .record-at .ensures, told .enum-told2 .given .1) (c .refusal-number .ensures, refl)
 
 returns-3 : tie.Need-returns-3
 returns-3 c =
@@ -22,11 +24,12 @@ rotundaaloe-journal-record-spec =
     (λ c κs. search needs)  -- record-at-requires
     (λ c. search needs)  -- enum-told
     (λ c. search needs)  -- enum-told-2
+    (λ c κs. search needs)  -- refusal-number-requires
     (λ c. search needs)  -- enum-known-e
-    (λ c. search needs)  -- cast-t7
     (λ c. search needs)  -- cast-t8
     (λ c. search needs)  -- cast-t9
     (λ c. search needs)  -- cast-t10
+    (λ c. search needs)  -- cast-t11
     returns
     returns-2
     returns-3)
