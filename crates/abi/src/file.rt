@@ -11,8 +11,8 @@ use journal::file::Refusal;
 use journal::file::Verdict;
 use journal::file::check;
 use journal::file::refusal_number;
+use journal::reader::read;
 use journal::record::Found;
-use journal::record::record_at;
 
 // 0 where the file is readable, else the number of its first refusal.
 #[no_mangle]
@@ -31,7 +31,7 @@ pub extern "C" fn rotundaaloe_journal_record(file: &[u8], at: usize, row: &mut [
     ensures number { λ r. ⌜ r ≡ foundNumber (foundAt (now (file .entry)) at) ⌝ }
     ensures cells { λ r. ⌜ now (row .exit) ≡ cellsIn (foundAt (now (file .entry)) at) (now (row .entry)) ⌝ }
 {
-    match record_at(file, at) {
+    match read(file, at) {
         Found::End => 0,
         Found::Damaged => refusal_number(Refusal::Corrupt),
         Found::Record(e) => {

@@ -10,3 +10,4 @@ pub mod Declines
 pub mod Refuses
 pub mod Examples
 pub mod ByteLists
+pub mod Held

@@ -5,23 +5,23 @@ use Rattle.abi.proofs.file.rotundaaloe_journal_record.Statement.{statem
 use Rattle.abi.proofs.file.rotundaaloe_journal_record.Tie as tie
 
 returns : tie.Need-returns
-returns c = rw (← c .before .before .record-at .ensures, c .enum-told .given .1) (refl, refl)
+returns c = rw (← c .before .before .read .ensures, c .enum-told .given .1) (refl, refl)
 
 returns-2 : tie.Need-returns-2
 returns-2 c =
     let told = c .before in
-    rw (← told .before .before .record-at .ensures, told .enum-told2 .given .1) (c .refusal-number .ensures, refl)
+    rw (← told .before .before .read .ensures, told .enum-told2 .given .1) (c .refusal-number .ensures, refl)
 
 returns-3 : tie.Need-returns-3
 returns-3 c =
     let told = c .before .before .before .before .before .before in
-    rw (← told .before .before .record-at .ensures, told .e .given .1) (refl, refl)
+    rw (← told .before .before .read .ensures, told .e .given .1) (refl, refl)
 
 pub rotundaaloe-journal-record-spec : {M : Type 1} → statement M
 rotundaaloe-journal-record-spec =
     tie.close
     (tie.spec
-    (λ c κs. search needs)  -- record-at-requires
+    (λ c κs. search needs)  -- read-requires
     (λ c. search needs)  -- enum-told
     (λ c. search needs)  -- enum-told-2
     (λ c κs. search needs)  -- refusal-number-requires
