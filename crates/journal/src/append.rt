@@ -2,7 +2,8 @@
 ghost use mathlib.Core.Path.{_≡_};
 ghost use Prim.Native.Nat.{_+_, _<_, _≤_};
 ghost use lib.ListN.{length};
-ghost use Rattle.call.specs.Calls.{callWith};
+ghost use Rattle.call.specs.Calls.{callWith, mostText};
+ghost use Rattle.journal.specs.Format.{recordHeadSize, fileHeadSize, countAt};
 ghost use Rattle.journal.specs.Reading.{word};
 ghost use Rattle.journal.specs.Appending.{appendAnswer, withRecord, bufferAfter, emptyAnswer, emptyAfter};
 use crate::bytes::store;
@@ -97,7 +98,7 @@ fn append_answer(
 
 // Raises the count, and stores the record after the file.
 fn store_record(d: &mut [u8], len: usize, letter: u8, a: u16, b: u16, c: u16, text: &[u8])
-    requires { ⌜ (7 ≤ len) × (len + 9 + length (now text) ≤ length (now d)) × (length (now text) ≤ 96) × (word (now d) 5 < 65535) ⌝ }
+    requires { ⌜ (fileHeadSize ≤ len) × (len + recordHeadSize + length (now text) ≤ length (now d)) × (length (now text) ≤ mostText) × (word (now d) countAt < 65535) ⌝ }
     ensures { λ _. ⌜ now (d .exit) ≡ withRecord (now (d .entry)) len (callWith letter a b c (now (text .entry))) ⌝ }
 {
     let count = word_at(&d[..], COUNT_AT) + 1;

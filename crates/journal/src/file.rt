@@ -2,6 +2,7 @@
 ghost use mathlib.Core.Path.{_≡_};
 ghost use Prim.Native.Nat.{_≤_};
 ghost use lib.ListN.{length};
+ghost use Rattle.journal.specs.Format.{fileHeadSize, countAt};
 ghost use Rattle.journal.specs.Verdicts.{refusalNumber};
 ghost use Rattle.journal.specs.Reading.{word, wholeFrom, marked, verdictOf};
 ghost use Rattle.journal.specs.Steps.{versionRead, headVerdict};
@@ -101,8 +102,8 @@ fn is_current(file: &[u8]) -> bool
 
 // Whether the count's records, from the first on, fill the file exactly.
 fn records_fill(file: &[u8]) -> bool
-    requires { ⌜ 7 ≤ length (now file) ⌝ }
-    ensures { λ r. ⌜ r ≡ wholeFrom (word (now (file .entry)) 5) (now (file .entry)) 7 ⌝ }
+    requires { ⌜ fileHeadSize ≤ length (now file) ⌝ }
+    ensures { λ r. ⌜ r ≡ wholeFrom (word (now (file .entry)) countAt) (now (file .entry)) fileHeadSize ⌝ }
 {
     let mut left = word_at(file, COUNT_AT);
     let mut at = FILE_HEAD;
