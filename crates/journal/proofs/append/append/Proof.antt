@@ -1,5 +1,5 @@
 -- An answer that is a length gives what `store_record` asks; after a refusal the buffer is as it was. Assumes nothing.
-use mathlib.Core.Path.{sym, _∙_}
+use mathlib.Core.Path.{refl, sym, _∙_}
 use native.Mathlib.Omega.{arith}
 use borrow.Author.Needs.{needs}
 use Rattle.call.proofs.Texts.{text-short}
@@ -8,7 +8,7 @@ use Rattle.journal.proofs.append.append.Statement.{statement}
 use Rattle.journal.proofs.append.append.Tie as tie
 
 returns : tie.Need-returns
-returns c = (c .before .before .append-answer .ensures, rw (c .enum-told2 .given .1))
+returns c = (c .before .before .append-answer .ensures, rw (c .enum-told2 .given .1) refl)
 
 store-record-requires : tie.Need-store-record-requires
 store-record-requires c κs =
