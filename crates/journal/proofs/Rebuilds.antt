@@ -12,14 +12,14 @@ use borrow.Author.Tests.{le-ltb}
 use Rattle.call.specs.Calls.{Call}
 use Rattle.journal.specs.declared.file.Verdict.the-variants.{Readable}
 use Rattle.journal.specs.declared.append.Appended.the-variants.{Length}
-use Rattle.journal.specs.Format.{Bytes, recordBytes, allBytes, fileHead, fileBytes, Recordable, AllRecordable, mostBytes, isFit}
+use Rattle.journal.specs.Format.{Bytes, recordBytes, allBytes, fileHead, fileBytes, mostBytes, isFit}
 use Rattle.journal.specs.Reading.{recordsOf, verdictOf}
 use Rattle.journal.specs.Appending.{lengthWith, appendAnswer, withRecord, emptyAnswer}
 use Rattle.journal.specs.Rebuilds.{AddsOne, Buffer, emptied, appendOne, appendAll, holding, Rebuilds, AppendsAll}
 use Rattle.journal.proofs.ByteLists.{bytes-take}
 use Rattle.journal.proofs.Files.{new-length, accepted, open-file, shut-file}
 use Rattle.journal.proofs.Answering.{accepts}
-use Rattle.journal.proofs.ReadsBack.{AllFit, all-fit, fit-readable, word-value, file-length, written-readable, records-back}
+use Rattle.journal.proofs.ReadsBack.{AllFit, all-fit, fit-readable, word-value, file-length, records-back}
 use Rattle.journal.proofs.WritesBack.{writes-back, records-recordable}
 
 -- a run of stores from a seam on
@@ -45,10 +45,6 @@ snoc-length rs r =
 part-shorter : (rs ts : List Call) → length (fileBytes rs) ≤ length (fileBytes (rs ++ ts))
 part-shorter rs ts =
     omega (arith, file-length rs, file-length (rs ++ ts), ap length (all-append rs ts), length-append (allBytes rs) (allBytes ts))
-
-snoc-recordable : (rs : List Call) (r : Call) → AllRecordable rs → Recordable r → AllRecordable (rs ++ r ∷ [])
-snoc-recordable [] r vs v = (v, tt)
-snoc-recordable (x ∷ rs) r vs v = (vs .0, snoc-recordable rs r (vs .1) v)
 
 snoc-fit : (rs : List Call) (r : Call) → AllFit rs → isFit r ≡ true → AllFit (rs ++ r ∷ [])
 snoc-fit [] r vs v = (v, tt)
@@ -88,34 +84,34 @@ module _ (d : List ℕ) (ps : List Call) (r : Call) (room : length (fileBytes (p
       ∙ ap (λ (t : List ℕ). fileBytes (ps ++ r ∷ []) ++ t) (drop-drop (length (recordBytes r)) (length file) d ∙ ap (λ (k : ℕ). drop k d) n)
 
   -- it is accepted
-  accepts-one : AllRecordable ps → isFit r ≡ true → length (fileBytes (ps ++ r ∷ [])) ≤ mostBytes
+  accepts-one : AllFit ps → isFit r ≡ true → length (fileBytes (ps ++ r ∷ [])) ≤ mostBytes
       → appendAnswer (x .bytes) (x .len) r ≡ Length (length (fileBytes (ps ++ r ∷ [])))
   accepts-one vs v most =
       let n : length (x .bytes) ≡ length d = length-append file (drop (length file) d) ∙ omega (arith, rest-length, snoc-length ps r) in
       let e : lengthWith (length file) r ≡ length (fileBytes (ps ++ r ∷ [])) = sym (snoc-length ps r) in
       let full : ltb (length (x .bytes)) (lengthWith (length file) r) || ltb mostBytes (lengthWith (length file) r) ≡ false =
       rw (le-ltb (length (x .bytes)) (lengthWith (length file) r) (omega arith), le-ltb mostBytes (lengthWith (length file) r) (omega arith)) in
-      let readable : verdictOf (take (length file) (x .bytes)) ≡ Readable = rw (take-append-seam file (drop (length file) d)) (written-readable ps vs (omega (arith, snoc-length ps r))) in
+      let readable : verdictOf (take (length file) (x .bytes)) ≡ Readable = rw (take-append-seam file (drop (length file) d)) (fit-readable ps vs (omega (arith, snoc-length ps r))) in
       sym (accepts (x .bytes) (x .len) r (omega (arith, snoc-length ps r)) (sym readable) (isFit r) refl (ap not v) full) ∙ ap Length e
 
 -- ---- a list of records
 
-one : (d : List ℕ) (ps : List Call) (r : Call) → AllRecordable ps → isFit r ≡ true → length (fileBytes (ps ++ r ∷ [])) ≤ mostBytes
+one : (d : List ℕ) (ps : List Call) (r : Call) → AllFit ps → isFit r ≡ true → length (fileBytes (ps ++ r ∷ [])) ≤ mostBytes
     → length (fileBytes (ps ++ r ∷ [])) ≤ length d → appendOne (holding d (fileBytes ps)) r ≡ holding d (fileBytes (ps ++ r ∷ []))
 unfolding appendOne
 one d ps r vs v most room =
     let b = adds-bytes d ps r room in
     rw (accepts-one d ps r room vs v most) (λ i. record { bytes = b i; len = length (fileBytes (ps ++ r ∷ [])) })
 
-all : (d : List ℕ) (rs ps : List Call) → AllRecordable ps → AllRecordable rs → length (fileBytes (ps ++ rs)) ≤ mostBytes → length (fileBytes (ps ++ rs)) ≤ length d
+all : (d : List ℕ) (rs ps : List Call) → AllFit ps → AllFit rs → length (fileBytes (ps ++ rs)) ≤ mostBytes → length (fileBytes (ps ++ rs)) ≤ length d
     → appendAll (holding d (fileBytes ps)) rs ≡ holding d (fileBytes (ps ++ rs))
 unfolding appendAll
 all d [] ps vp vs most room = rw (append-nil ps)
 all d (r ∷ rs) ps vp vs most room =
     let e : (ps ++ r ∷ []) ++ rs ≡ ps ++ r ∷ rs = append-assoc ps (r ∷ []) rs in
     let l : length (fileBytes (ps ++ r ∷ [])) ≤ length (fileBytes (ps ++ r ∷ rs)) = subst (λ (t : List Call). length (fileBytes (ps ++ r ∷ [])) ≤ length (fileBytes t)) e (part-shorter (ps ++ r ∷ []) rs) in
-    rw (one d ps r vp (vs .0 .fit) (omega arith) (omega arith))
-    (all d rs (ps ++ r ∷ []) (snoc-recordable ps r vp (vs .0)) (vs .1) (rw e most) (rw e room) ∙ ap (λ (t : List Call). holding d (fileBytes t)) e)
+    rw (one d ps r vp (vs .0) (omega arith) (omega arith))
+    (all d rs (ps ++ r ∷ []) (snoc-fit ps r vp (vs .0)) (vs .1) (rw e most) (rw e room) ∙ ap (λ (t : List Call). holding d (fileBytes t)) e)
 
 empty-held : (d : List ℕ) → 7 ≤ length d → emptied d ≡ holding d (fileBytes [])
 unfolding emptied emptyAnswer fileBytes
@@ -124,7 +120,7 @@ empty-held d h =
     rw (le-ltb (length d) 7 h) (λ i. record { bytes = b i; len = 7 })
 
 pub appends-all : AppendsAll
-appends-all rs vs most d room = rw (empty-held d (omega (arith, file-length rs))) (all d rs [] tt vs most room)
+appends-all rs vs most d room = rw (empty-held d (omega (arith, file-length rs))) (all d rs [] tt (all-fit rs vs) most room)
 
 pub rebuilds : Rebuilds
 rebuilds s bytes h d room =
