@@ -2,3 +2,4 @@ pub mod Texts
 pub mod Lines
 pub mod Requests
 pub mod Truth
+pub mod Conditions

@@ -7,15 +7,16 @@ use lib.ListN.{length, take}
 use lib.Dec.{ltb}
 use borrow.Author.Tests.{lt-ltb, le-ltb}
 use Rattle.call.specs.Calls.{Call}
+use Rattle.call.specs.Conditions.{firstRefusal}
 use Rattle.journal.specs.declared.file.Refusal.{Refusal}
 use Rattle.journal.specs.declared.file.Refusal.the-variants.{Full, Corrupt}
 use Rattle.journal.specs.declared.file.Verdict.the-variants.{Readable, Refused}
 use Rattle.journal.specs.declared.append.Appended.the-variants.{Length, Declined}
 use Rattle.journal.specs.Format.{mostBytes, isFit}
-use Rattle.journal.specs.Verdicts.{firstRefusal}
 use Rattle.journal.specs.Reading.{fileConditions, verdictOf}
 use Rattle.journal.specs.Appending.{lengthWith, ownConditions, answer, appendAnswer}
-use Rattle.journal.proofs.Judging.{first-here, first-later, refused-some, readable-none}
+use Rattle.call.proofs.Conditions.{first-here, first-later}
+use Rattle.journal.proofs.Judging.{refused-some, readable-none}
 
 module _ (d : List ℕ) (len : ℕ) (r : Call) where
   pub beyond : length d < len → Declined Corrupt ≡ appendAnswer d len r

@@ -7,12 +7,12 @@ use lib.ListN.{length, take}
 use lib.Dec.{ltb}
 use lib.Seq.{sets}
 use Rattle.call.specs.Calls.{Call}
+use Rattle.call.specs.Conditions.{Condition, when, firstRefusal}
 use Rattle.journal.specs.declared.file.Refusal.{Refusal}
 use Rattle.journal.specs.declared.file.Refusal.the-variants.{Full, Corrupt}
 use Rattle.journal.specs.declared.append.Appended.{Appended}
 use Rattle.journal.specs.declared.append.Appended.the-variants.{Length, Declined}
 use Rattle.journal.specs.Format.{wordBytes, recordBytes, recordHeadSize, fileHeadSize, countAt, fileBytes, mostBytes, isFit}
-use Rattle.journal.specs.Verdicts.{Condition, when, firstRefusal}
 use Rattle.journal.specs.Reading.{word, fileConditions}
 
 -- the length of the file with the record
@@ -20,12 +20,12 @@ abbrev pub lengthWith : ℕ → Call → ℕ
 lengthWith len r = len + recordHeadSize + length (r .text)
 
 -- '18 for an unfit record .., and 10 when the buffer or 65,535 bytes would be passed'
-abbrev pub ownConditions : List ℕ → ℕ → Call → List Condition
+abbrev pub ownConditions : List ℕ → ℕ → Call → List (Condition Refusal)
 ownConditions d len r =
     when (not (isFit r)) Corrupt ∷ when (ltb (length d) (lengthWith len r) || ltb mostBytes (lengthWith len r)) Full ∷ []
 
 -- a length beyond the buffer is 18, 'checked first. Then come these refusals for the file', and then those
-abbrev pub appendConditions : List ℕ → ℕ → Call → List Condition
+abbrev pub appendConditions : List ℕ → ℕ → Call → List (Condition Refusal)
 appendConditions d len r = when (ltb (length d) len) Corrupt ∷ fileConditions (take len d) ++ ownConditions d len r
 
 abbrev pub answer : ℕ → Option Refusal → Appended

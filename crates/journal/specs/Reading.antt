@@ -7,6 +7,7 @@ use Prim.Native.Nat.{ℕ, zero, suc, _+_, _*_}
 use lib.ListN.{length, getD, take, drop}
 use lib.Dec.{leb, ltb, eqb}
 use Rattle.call.specs.Calls.{Call, recordFits}
+use Rattle.call.specs.Conditions.{Condition, when, firstRefusal}
 use Rattle.journal.specs.declared.record.Entry.{Entry}
 use Rattle.journal.specs.declared.record.Found.{Found}
 use Rattle.journal.specs.declared.record.Found.the-variants.{Record, End, Damaged}
@@ -15,7 +16,6 @@ use Rattle.journal.specs.declared.file.Refusal.the-variants.{NotJournal,
 use Rattle.journal.specs.declared.file.Verdict.{Verdict}
 use Rattle.journal.specs.declared.file.Verdict.the-variants.{Readable, Refused}
 use Rattle.journal.specs.Format.{recordHeadSize, fileHeadSize, fileVersion, versionAt, countAt, mostBytes}
-use Rattle.journal.specs.Verdicts.{Condition, when, firstRefusal}
 
 -- the 16 bits at i, low byte first
 abbrev pub word : List ℕ → ℕ → ℕ
@@ -92,7 +92,7 @@ current s = eqb (word s versionAt) fileVersion
 
 -- 'The order is 16; 18 if under 7 bytes; 17; then 18 for length over the limit, unknown letter, an unnamed field not 0, text length wrong, records
 -- cut short, bytes left over.'
-abbrev pub fileConditions : List ℕ → List Condition
+abbrev pub fileConditions : List ℕ → List (Condition Refusal)
 fileConditions s =
     when (not (marked s)) NotJournal
     ∷ when (ltb (length s) fileHeadSize) Corrupt

@@ -4,10 +4,11 @@ use mathlib.Core.List.{List, [], _∷_}
 use Prim.Native.Nat.{ℕ, _+_}
 use lib.Dec.{leb, ltb}
 use lib.ListN.{length}
+use Rattle.call.specs.Conditions.{Condition, when, firstRefusal}
+use Rattle.journal.specs.declared.file.Refusal.{Refusal}
 use Rattle.journal.specs.declared.file.Refusal.the-variants.{NotJournal, OtherVersion, Corrupt}
 use Rattle.journal.specs.declared.file.Verdict.{Verdict}
 use Rattle.journal.specs.Format.{recordHeadSize, fileHeadSize, mostBytes}
-use Rattle.journal.specs.Verdicts.{Condition, when, firstRefusal}
 use Rattle.journal.specs.Reading.{word, wholeAt, current, verdict}
 
 -- a version is there to be read, and it is the file's
@@ -15,7 +16,7 @@ abbrev pub versionRead : List ℕ → Bool
 versionRead s = leb 5 (length s) && current s
 
 -- the refusals of a file of n bytes, its records left aside
-abbrev pub headConditions : ℕ → Bool → Bool → List Condition
+abbrev pub headConditions : ℕ → Bool → Bool → List (Condition Refusal)
 headConditions n marked current =
     when (not marked) NotJournal ∷ when (ltb n fileHeadSize) Corrupt ∷ when (not current) OtherVersion ∷ when (ltb mostBytes n) Corrupt ∷ []
 

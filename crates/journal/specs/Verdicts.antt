@@ -1,7 +1,4 @@
--- Refusals of a file and of an append, by document 01's table, and how the first of several conditions is chosen. Assumes nothing.
-use mathlib.Core.Bool.{Bool, cond}
-use mathlib.Core.List.{List, [], _∷_}
-use mathlib.Core.Option.{Option, none, some}
+-- Refusals of a file and of an append, by document 01's table. Assumes nothing.
 use Prim.Native.Nat.{ℕ}
 use Rattle.journal.specs.declared.file.Refusal.{Refusal}
 use Rattle.journal.specs.declared.file.Refusal.the-variants.{Full, NotJournal, OtherVersion, Corrupt}
@@ -12,15 +9,3 @@ refusalNumber Full = 10
 refusalNumber NotJournal = 16
 refusalNumber OtherVersion = 17
 refusalNumber Corrupt = 18
-
-pub record Condition : Type 0 where
-  pub holds : Bool
-  pub refusal : Refusal
-
-abbrev pub when : Bool → Refusal → Condition
-when b f = record { holds = b; refusal = f }
-
--- the refusal of the first condition that holds
-abbrev pub firstRefusal : List Condition → Option Refusal
-firstRefusal [] = none
-firstRefusal (x ∷ xs) = cond (x .holds) (some (x .refusal)) (firstRefusal xs)
