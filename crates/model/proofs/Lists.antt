@@ -1,0 +1,186 @@
+-- Laws of lists: tests over them, what a test keeps, the first that passes, and a list read index by index. Assumes nothing.
+use mathlib.Core.Path.{_≡_, refl, sym, ap, _∙_}
+use mathlib.Core.Logic.{_≢_}
+use mathlib.Core.Bool.{Bool, true, false, _&&_, _||_, not, cond, true≢false, false≢true, or-assoc}
+use mathlib.Core.List.{List, [], _∷_, _++_, map, append-assoc}
+use mathlib.Core.Option.{Option, none, some}
+use Prim.Native.Nat.{ℕ, zero, suc, _+_, _≤_, _<_, zero-le, suc-le-suc}
+use native.Mathlib.Omega.{arith}
+use native.Mathlib.Nat.{add-zero, add-suc, suc-add, le-of-suc-le-suc, not-suc-le-zero}
+use lib.Dec.{eqb, eqb·suc-suc, eqb·suc-zero, eqb·zero-suc}
+use lib.ListN.{length, getD, set, getElem?}
+use lib.Seq.{getD-set-same, getD-set-other, ext-getD}
+use borrow.Author.Tests.{eqb-true, eqb-false, eq-eqb, ne-eqb}
+use Rattle.model.specs.Lists.{any, keep, keepIf, first, orElse, isSome, indexOf, each, put, adjust}
+
+-- every element
+module _ {A : Type 0} where
+  abbrev pub All : (A → Type 0) → List A → Type 0
+  All P [] = Unit {0}
+  All P (x ∷ xs) = P x × All P xs
+
+-- what f gives of each element, one after the other
+abbrev pub concatMap : {A B : Type 0} → (A → List B) → List A → List B
+concatMap f [] = []
+concatMap f (x ∷ xs) = f x ++ concatMap f xs
+
+pub caseBool {ℓ} : {A : Type ℓ} (b : Bool) → (b ≡ true → A) → (b ≡ false → A) → A
+caseBool true t f = t refl
+caseBool false t f = f refl
+
+-- a test that is true and false
+pub clash {ℓ} : {A : Type ℓ} {b : Bool} → b ≡ true → b ≡ false → A
+clash p q = absurd (true≢false (sym p ∙ q))
+
+pub eqb-self : (n : ℕ) → eqb n n ≡ true
+eqb-self n = eq-eqb n n refl
+
+module _ {A : Type 0} where
+  pub isSome-first : (p : A → Bool) (xs : List A) → isSome (first p xs) ≡ any p xs
+  isSome-first p [] = refl
+  isSome-first p (x ∷ xs) = caseBool (p x) (λ e. simp e) (λ e. simp e (isSome-first p xs))
+
+  pub any-append : (p : A → Bool) (xs ys : List A) → any p (xs ++ ys) ≡ (any p xs || any p ys)
+  any-append p [] ys = refl
+  any-append p (x ∷ xs) ys = rw (any-append p xs ys) (sym (or-assoc (p x) (any p xs) (any p ys)))
+
+  pub any-and : (c : Bool) (p : A → Bool) (xs : List A) → any (λ x. c && p x) xs ≡ (c && any p xs)
+  any-and true p xs = refl
+  any-and false p [] = refl
+  any-and false p (x ∷ xs) = any-and false p xs
+
+  pub any-keep : (p q : A → Bool) (xs : List A) → any p (keep q xs) ≡ any (λ x. q x && p x) xs
+  any-keep p q [] = refl
+  any-keep p q (x ∷ xs) = caseBool (q x) (λ e. simp (e, any-keep p q xs)) (λ e. simp (e, any-keep p q xs))
+
+  pub any-same : (p q : A → Bool) (xs : List A) → All (λ x. p x ≡ q x) xs → any p xs ≡ any q xs
+  any-same p q [] h = refl
+  any-same p q (x ∷ xs) h = simp (h .0, any-same p q xs (h .1))
+
+  -- what holds of every element, and of one that passes
+  pub from-any : {R : Type 0} (p : A → Bool) (Q : A → Type 0) (xs : List A) → All Q xs → ((x : A) → Q x → p x ≡ true → R) → any p xs ≡ true → R
+  from-any p Q [] h f t = absurd (false≢true t)
+  from-any p Q (x ∷ xs) h f t = caseBool (p x) (λ e. f x (h .0) e) (λ e. from-any p Q xs (h .1) f (rw e at t))
+
+  pub keep-append : (p : A → Bool) (xs ys : List A) → keep p (xs ++ ys) ≡ keep p xs ++ keep p ys
+  keep-append p [] ys = refl
+  keep-append p (x ∷ xs) ys = caseBool (p x) (λ e. simp (e, keep-append p xs ys)) (λ e. simp (e, keep-append p xs ys))
+
+  pub keep-all : (p : A → Bool) (xs : List A) → All (λ x. p x ≡ true) xs → keep p xs ≡ xs
+  keep-all p [] h = refl
+  keep-all p (x ∷ xs) h = simp (h .0, keep-all p xs (h .1))
+
+  pub keep-keep : (p q : A → Bool) (xs : List A) → keep p (keep q xs) ≡ keep q (keep p xs)
+  keep-keep p q [] = refl
+  keep-keep p q (x ∷ xs) =
+      caseBool (p x)
+      (λ e. caseBool (q x) (λ e′. simp (e, e′, keep-keep p q xs)) (λ e′. simp (e, e′, keep-keep p q xs)))
+      (λ e. caseBool (q x) (λ e′. simp (e, e′, keep-keep p q xs)) (λ e′. simp (e, e′, keep-keep p q xs)))
+
+  -- what is kept by q was kept by p anyway
+  pub keep-idle : (p q : A → Bool) (xs : List A) → All (λ x. q x ≡ true → p x ≡ true) xs → keep q (keep p xs) ≡ keep q xs
+  keep-idle p q [] h = refl
+  keep-idle p q (x ∷ xs) h =
+      caseBool (q x)
+      (λ e. simp (h .0 e, e, keep-idle p q xs (h .1)))
+      (λ e. caseBool (p x) (λ e′. simp (e, e′, keep-idle p q xs (h .1))) (λ e′. simp (e, e′, keep-idle p q xs (h .1))))
+
+  pub All-map : {P Q : A → Type 0} → ((x : A) → P x → Q x) → (xs : List A) → All P xs → All Q xs
+  All-map f [] h = tt
+  All-map f (x ∷ xs) h = (f x (h .0), All-map f xs (h .1))
+
+  pub All-append : (P : A → Type 0) (xs ys : List A) → All P xs → All P ys → All P (xs ++ ys)
+  All-append P [] ys h k = k
+  All-append P (x ∷ xs) ys h k = (h .0, All-append P xs ys (h .1) k)
+
+  pub All-keep : (P : A → Type 0) (p : A → Bool) (xs : List A) → All P xs → All P (keep p xs)
+  All-keep P p [] h = tt
+  All-keep P p (x ∷ xs) h = caseBool (p x) (λ e. simp e (h .0, All-keep P p xs (h .1))) (λ e. simp e (All-keep P p xs (h .1)))
+
+  pub indexOf-lt : (p : A → Bool) (xs : List A) → any p xs ≡ true → indexOf p xs < length xs
+  indexOf-lt p [] t = absurd (false≢true t)
+  indexOf-lt p (x ∷ xs) t = caseBool (p x) (λ e. simp e (suc-le-suc zero-le)) (λ e. simp e (suc-le-suc (indexOf-lt p xs (rw e at t))))
+
+  pub indexOf-passes : (p : A → Bool) (d : A) (xs : List A) → any p xs ≡ true → p (getD xs (indexOf p xs) d) ≡ true
+  indexOf-passes p d [] t = absurd (false≢true t)
+  indexOf-passes p d (x ∷ xs) t = caseBool (p x) (λ e. simp e) (λ e. simp e (indexOf-passes p d xs (rw e at t)))
+
+module _ {A B : Type 0} where
+  pub any-map : (p : B → Bool) (f : A → B) (xs : List A) → any p (map f xs) ≡ any (λ x. p (f x)) xs
+  any-map p f [] = refl
+  any-map p f (x ∷ xs) = rw (any-map p f xs)
+
+  pub any-concatMap : (p : B → Bool) (f : A → List B) (xs : List A) → any p (concatMap f xs) ≡ any (λ x. any p (f x)) xs
+  any-concatMap p f [] = refl
+  any-concatMap p f (x ∷ xs) = any-append p (f x) (concatMap f xs) ∙ rw (any-concatMap p f xs)
+
+  pub map-append : (f : A → B) (xs ys : List A) → map f (xs ++ ys) ≡ map f xs ++ map f ys
+  map-append f [] ys = refl
+  map-append f (x ∷ xs) ys = rw (map-append f xs ys)
+
+  pub concatMap-append : (f : A → List B) (xs ys : List A) → concatMap f (xs ++ ys) ≡ concatMap f xs ++ concatMap f ys
+  concatMap-append f [] ys = refl
+  concatMap-append f (x ∷ xs) ys = rw (concatMap-append f xs ys) (sym (append-assoc (f x) (concatMap f xs) (concatMap f ys)))
+
+  pub keep-map : (p : B → Bool) (f : A → B) (xs : List A) → keep p (map f xs) ≡ map f (keep (λ x. p (f x)) xs)
+  keep-map p f [] = refl
+  keep-map p f (x ∷ xs) = caseBool (p (f x)) (λ e. simp (e, keep-map p f xs)) (λ e. simp (e, keep-map p f xs))
+
+  -- a test that is the same for all that x yields
+  pub keep-concatMap : (p : B → Bool) (q : A → Bool) (f : A → List B) → ((x : A) → keep p (f x) ≡ cond (q x) (f x) [])
+      → (xs : List A) → keep p (concatMap f xs) ≡ concatMap f (keep q xs)
+  keep-concatMap p q f h [] = refl
+  keep-concatMap p q f h (x ∷ xs) =
+      keep-append p (f x) (concatMap f xs) ∙ rw (h x, keep-concatMap p q f h xs) (caseBool (q x) (λ e. simp e) (λ e. simp e))
+
+-- an element of a list by its index
+
+module _ {A : Type 0} where
+  pub at-append-one : (xs : List A) (x : A) (i : ℕ) → getElem? (xs ++ (x ∷ [])) i ≡ put (getElem? xs) (length xs) x i
+  at-append-one [] x zero = refl
+  at-append-one [] x (suc i) = simp eqb·suc-zero
+  at-append-one (y ∷ ys) x zero = simp eqb·zero-suc
+  at-append-one (y ∷ ys) x (suc i) = simp eqb·suc-suc (at-append-one ys x i)
+
+  pub at-set : (xs : List A) (i : ℕ) (f : A → A) (d : A) (j : ℕ) → getElem? (set xs i (f (getD xs i d))) j ≡ adjust (getElem? xs) i f j
+  at-set [] i f d j = caseBool (eqb j i) (λ e. simp e) (λ e. simp e)
+  at-set (y ∷ ys) zero f d zero = refl
+  at-set (y ∷ ys) zero f d (suc j) = simp eqb·suc-zero
+  at-set (y ∷ ys) (suc i) f d zero = simp eqb·zero-suc
+  at-set (y ∷ ys) (suc i) f d (suc j) = simp eqb·suc-suc (at-set ys i f d j)
+
+  pub getD-at : (xs : List A) (i : ℕ) (d : A) (x : A) → getElem? xs i ≡ some x → getD xs i d ≡ x
+  getD-at [] i d x e = let z : _≡_ {A = ℕ} 0 1 = cc in absurd (omega arith)
+  getD-at (y ∷ ys) zero d x e = cc
+  getD-at (y ∷ ys) (suc i) d x e = getD-at ys i d x e
+
+  pub at-lt : (xs : List A) (i : ℕ) (d : A) → i < length xs → getElem? xs i ≡ some (getD xs i d)
+  at-lt [] i d h = absurd (not-suc-le-zero h)
+  at-lt (y ∷ ys) zero d h = refl
+  at-lt (y ∷ ys) (suc i) d h = at-lt ys i d (le-of-suc-le-suc h)
+
+  pub at-some-lt : (xs : List A) (i : ℕ) (x : A) → getElem? xs i ≡ some x → i < length xs
+  at-some-lt [] i x e = let z : _≡_ {A = ℕ} 0 1 = cc in absurd (omega arith)
+  at-some-lt (y ∷ ys) zero x e = suc-le-suc zero-le
+  at-some-lt (y ∷ ys) (suc i) x e = suc-le-suc (at-some-lt ys i x e)
+
+-- a list read index by index
+
+module _ {A : Type 0} (f : ℕ → A) where
+  pub length-each : (i n : ℕ) → length (each f i n) ≡ n
+  length-each i zero = refl
+  length-each i (suc n) = ap suc (length-each (suc i) n)
+
+  pub getD-each : (i n j : ℕ) (d : A) → j < n → getD (each f i n) j d ≡ f (i + j)
+  getD-each i zero j d h = absurd (omega arith)
+  getD-each i (suc n) zero d h = rw add-zero
+  getD-each i (suc n) (suc j) d h = getD-each (suc i) n j d (omega arith) ∙ rw (suc-add, add-suc)
+
+  pub each-snoc : (i n : ℕ) → each f i (suc n) ≡ each f i n ++ f (i + n) ∷ []
+  each-snoc i zero = rw add-zero
+  each-snoc i (suc n) = ap (λ (r : List A). f i ∷ r) (each-snoc (suc i) n ∙ rw (suc-add, add-suc))
+
+pub each-same : {A : Type 0} (f g : ℕ → A) (i n : ℕ) → ((j : ℕ) → i ≤ j → j < i + n → f j ≡ g j) → each f i n ≡ each g i n
+each-same f g i zero h = refl
+each-same {A} f g i (suc n) h =
+    rw (h i (omega arith) (omega arith)) (ap (λ (r : List A). g i ∷ r) (each-same f g (suc i) n (λ j l u. h j (omega arith) (omega arith))))

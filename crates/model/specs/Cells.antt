@@ -1,0 +1,343 @@
+-- The state in the arrays that the host lends: their layout, the state that any numbers are, and what each accepted call stores. Conditions and
+-- answers are those of the state that the arrays hold, so that the table of refusals stands once, in the model. Assumes nothing.
+--
+-- registry: [u32; 8]               users, threads, segments, defined keys and locks handed out
+-- makers: [u16; 1024]              each defined key's maker
+-- segments: [[[u16; 8]; 2]; 64]    row 0: owner, kind, number of product rows; row 1: the key list, first its own S key
+-- locks: [[[u32; 8]; 8]; 64]       a segment's products, a row each: six literals, 16 times the lock and its operations, number of literals
+-- threads: [[[u16; 8]; 17]; 64]    row 0: number, user, number of frames, 1 where it is live; rows 1 to 16: the frames, the oldest first, each
+--                                  a copy of its segment's key list
+use mathlib.Core.Path.{_≡_}
+use mathlib.Core.Bool.{Bool, _&&_, not, cond}
+use mathlib.Core.List.{List, [], _∷_, _++_, map}
+use mathlib.Core.Option.{Option, none, some}
+use Prim.Native.Nat.{ℕ, zero, suc, _+_, _-_, _*_, _/_, _%_, _<_, min}
+use lib.Dec.{eqb, ltb}
+use lib.ListN.{length, getD, set, take, replicate}
+use lib.Seq.{sets}
+use Rattle.product.specs.declared.literal.Key.{Key}
+use Rattle.product.specs.declared.literal.Key.the-variants.{Segment as SegmentKey, Defined}
+use Rattle.product.specs.Product.{Product}
+use Rattle.product.specs.Sum.{Sum}
+use Rattle.product.specs.Code.{literalOf}
+use Rattle.product.specs.Cells.{sizeOf, rowOf}
+use Rattle.formula.specs.Outcome.{sumIn}
+use Rattle.formula.specs.Compiler.{Compiler}
+use Rattle.call.specs.declared.request.Request.{Request}
+use Rattle.call.specs.declared.request.Request.the-variants.{NewUser, StartThread, EndThread, NewSegment, NewKey, GiveKey, TakeKey, AddLock, DropLock, CallSegment, ReturnCall, Access}
+use Rattle.call.specs.declared.request.Decoded.{Decoded}
+use Rattle.call.specs.declared.request.Decoded.the-variants.{WellFormed, Corrupt as NotWellFormed}
+use Rattle.call.specs.Calls.{Call, decodedOf}
+use Rattle.call.specs.Conditions.{firstRefusal}
+use Rattle.model.specs.declared.answer.Refusal.{Refusal}
+use Rattle.model.specs.declared.answer.Refusal.the-variants.{Corrupt}
+use Rattle.model.specs.declared.answer.Answer.{Answer}
+use Rattle.model.specs.declared.answer.Answer.the-variants.{Accepted, Refused}
+use Rattle.model.specs.Lists.{keep, each}
+use Rattle.model.specs.Limits.{mostThreads, mostSegments, mostDefined, mostListed, mostProducts, mostFrames, mostNumbers}
+use Rattle.model.specs.Threads.{Frame, Thread}
+use Rattle.model.specs.Model.{Guarded, Segment, Place, free, taken, State, isFree, placeFor, placeOf, homeOf, issued, conditions, answer}
+
+-- a row of cells, a table of rows, an array of tables
+abbrev pub Row : Type 0
+Row = List ℕ
+
+abbrev pub Table : Type 0
+Table = List Row
+
+pub record Cells : Type 0 where
+  pub registry : Row
+  pub makers : Row
+  pub segments : List Table
+  pub locks : List Table
+  pub threads : List Table
+
+abbrev pub cell : Row → ℕ → ℕ
+cell w j = getD w j 0
+
+abbrev pub rowAt : Table → ℕ → Row
+rowAt t i = getD t i []
+
+abbrev pub tableAt : List Table → ℕ → Table
+tableAt ts i = getD ts i []
+
+-- ---- the places of the cells
+
+-- in the registry
+abbrev pub userCount : ℕ
+userCount = 0
+
+abbrev pub threadCount : ℕ
+threadCount = 1
+
+abbrev pub segmentCount : ℕ
+segmentCount = 2
+
+abbrev pub definedCount : ℕ
+definedCount = 3
+
+abbrev pub lockCount : ℕ
+lockCount = 4
+
+-- in row 0 of a segment
+abbrev pub ownerCell : ℕ
+ownerCell = 0
+
+abbrev pub kindCell : ℕ
+kindCell = 1
+
+abbrev pub productCount : ℕ
+productCount = 2
+
+-- in a product's row; its literals come before, their number after
+abbrev pub lockCell : ℕ
+lockCell = 6
+
+-- in row 0 of a thread
+abbrev pub numberCell : ℕ
+numberCell = 0
+
+abbrev pub userCell : ℕ
+userCell = 1
+
+abbrev pub frameCount : ℕ
+frameCount = 2
+
+abbrev pub liveCell : ℕ
+liveCell = 3
+
+-- ---- key lists: S n is n, D n is 64 more, and a cell without a key has the greatest number
+
+abbrev pub noKey : ℕ
+noKey = 65535
+
+abbrev pub definedCode : ℕ → ℕ
+definedCode k = mostSegments + k
+
+abbrev pub keyOf : ℕ → Key
+keyOf x = cond (ltb x mostSegments) (SegmentKey x) (Defined (x - mostSegments))
+
+abbrev pub hasKey : ℕ → Bool
+hasKey x = not (eqb x noKey)
+
+abbrev pub keysOf : Row → List Key
+keysOf w = map keyOf (keep hasKey w)
+
+-- a list that is written is closed up
+abbrev pub keyRow : List ℕ → Row
+keyRow xs = xs ++ replicate (mostListed - length xs) noKey
+
+-- ---- the state that the arrays hold; a count is read as no more than its limit
+
+abbrev pub frameOf : Row → Frame
+frameOf w = record { segment = cell w 0; keys = keysOf w }
+
+-- the oldest n frames, the newest of them first
+abbrev pub framesOf : Table → ℕ → List Frame
+framesOf t zero = []
+framesOf t (suc n) = frameOf (rowAt t (suc n)) ∷ framesOf t n
+
+abbrev pub depthOf : Table → ℕ
+depthOf t = min (cell (rowAt t 0) frameCount) mostFrames
+
+abbrev pub placeIn : Table → Place
+placeIn t =
+    let w = rowAt t 0 in
+    cond (eqb (cell w liveCell) 0) free (taken (cell w numberCell) (record { user = cell w userCell; frames = framesOf t (depthOf t) }))
+
+abbrev pub guardedOf : Row → Guarded
+guardedOf w = record { lock = cell w lockCell / 16 % mostNumbers; operations = cell w lockCell % 16; product = map literalOf (take (sizeOf w) w) }
+
+abbrev pub rowsOf : Table → ℕ
+rowsOf g = min (cell (rowAt g 0) productCount) mostProducts
+
+-- a segment's table, and its products'
+abbrev pub segmentOf : Table → Table → Segment
+segmentOf g t =
+    record {
+      number = cell (rowAt g 1) 0;
+      owner = cell (rowAt g 0) ownerCell;
+      kind = cell (rowAt g 0) kindCell;
+      keys = keysOf (rowAt g 1);
+      products = map guardedOf (take (rowsOf g) t);
+    }
+
+abbrev pub segmentIn : Cells → ℕ → Segment
+segmentIn d s = segmentOf (tableAt (d .segments) s) (tableAt (d .locks) s)
+
+unfoldable pub stateOf : Cells → State
+stateOf d =
+    record {
+      users = cell (d .registry) userCount;
+      threadNumbers = cell (d .registry) threadCount;
+      lockNumbers = cell (d .registry) lockCount;
+      makers = take (min (cell (d .registry) definedCount) mostDefined) (d .makers);
+      segments = each (segmentIn d) 0 (min (cell (d .registry) segmentCount) mostSegments);
+      places = map placeIn (d .threads);
+    }
+
+-- ---- what an accepted call stores
+
+-- a cell of a row of a table, a row, a table
+abbrev pub setCell : Table → ℕ → ℕ → ℕ → Table
+setCell t i j x = set t i (set (rowAt t i) j x)
+
+abbrev pub onTable : List Table → ℕ → (Table → Table) → List Table
+onTable ts i f = set ts i (f (tableAt ts i))
+
+abbrev pub countUp : Row → ℕ → Row
+countUp w j = set w j (suc (cell w j))
+
+-- S
+abbrev pub startThread : ℕ → ℕ → Table → Table
+startThread n u t = set t 0 (n ∷ u ∷ 0 ∷ 1 ∷ 0 ∷ 0 ∷ 0 ∷ 0 ∷ [])
+
+-- E
+abbrev pub endThread : Table → Table
+endThread t = setCell t 0 liveCell 0
+
+-- N
+abbrev pub newSegment : ℕ → ℕ → ℕ → Table
+newSegment s u kind = (u ∷ kind ∷ 0 ∷ 0 ∷ 0 ∷ 0 ∷ 0 ∷ 0 ∷ []) ∷ keyRow (s ∷ []) ∷ []
+
+-- G and T
+abbrev pub giveCode : ℕ → Table → Table
+giveCode x g = set g 1 (keyRow (keep hasKey (rowAt g 1) ++ x ∷ []))
+
+abbrev pub takeCode : ℕ → Table → Table
+takeCode x g = set g 1 (keyRow (keep (λ y. not (eqb x y)) (keep hasKey (rowAt g 1))))
+
+-- L
+abbrev pub productRow : ℕ → ℕ → Product → Row
+productRow lock operations p = set (rowOf p) lockCell (lock * 16 + operations)
+
+abbrev pub addRows : ℕ → ℕ → ℕ → Sum → Table → Table
+addRows n lock operations ps t = sets t n (map (productRow lock operations) ps)
+
+-- D: the rows that stay, of the first n
+abbrev pub rowsLeft : ℕ → ℕ → Table → Table
+rowsLeft n lock t = keep (λ w. not (eqb (guardedOf w .lock) lock)) (take n t)
+
+abbrev pub dropRows : ℕ → ℕ → Table → Table
+dropRows n lock t = sets t 0 (rowsLeft n lock t)
+
+-- C and R
+abbrev pub pushRow : Row → Table → Table
+pushRow w t = setCell (set t (suc (depthOf t)) w) 0 frameCount (suc (depthOf t))
+
+abbrev pub popRow : Table → Table
+popRow t = setCell t 0 frameCount (depthOf t - 1)
+
+abbrev pub withRegistry : Cells → Row → Cells
+withRegistry d registry = record { registry = registry; makers = d .makers; segments = d .segments; locks = d .locks; threads = d .threads }
+
+abbrev pub withSegmentTables : Cells → List Table → Cells
+withSegmentTables d segments = record { registry = d .registry; makers = d .makers; segments = segments; locks = d .locks; threads = d .threads }
+
+-- the table of thread n
+abbrev pub atThread : Cells → ℕ → (Table → Table) → Cells
+atThread d n f =
+    record {
+      registry = d .registry;
+      makers = d .makers;
+      segments = d .segments;
+      locks = d .locks;
+      threads = onTable (d .threads) (placeOf n (stateOf d .places)) f;
+    }
+
+module _ (compile : Compiler) where
+  unfoldable pub store : Cells → Request → List ℕ → Cells
+  store d NewUser text = withRegistry d (countUp (d .registry) userCount)
+  store d (StartThread a) text =
+      let n = cell (d .registry) threadCount in
+      record {
+        registry = countUp (d .registry) threadCount;
+        makers = d .makers;
+        segments = d .segments;
+        locks = d .locks;
+        threads = onTable (d .threads) (placeFor n isFree (stateOf d .places)) (startThread n a);
+      }
+  store d (EndThread a) text = atThread d a endThread
+  store d (NewSegment a b) text =
+      let s = cell (d .registry) segmentCount in
+      record {
+        registry = countUp (d .registry) segmentCount;
+        makers = d .makers;
+        segments = set (d .segments) s (newSegment s a b);
+        locks = d .locks;
+        threads = d .threads;
+      }
+  store d (NewKey a) text =
+      record {
+        registry = countUp (d .registry) definedCount;
+        makers = set (d .makers) (cell (d .registry) definedCount) a;
+        segments = d .segments;
+        locks = d .locks;
+        threads = d .threads;
+      }
+  store d (GiveKey a b c) text = withSegmentTables d (onTable (d .segments) b (giveCode (definedCode c)))
+  store d (TakeKey a b c) text = withSegmentTables d (onTable (d .segments) b (takeCode (definedCode c)))
+  store d (AddLock a b c) text =
+      let ps = sumIn (compile (issued (stateOf d)) text) in
+      let n = rowsOf (tableAt (d .segments) b) in
+      record {
+        registry = countUp (d .registry) lockCount;
+        makers = d .makers;
+        segments = onTable (d .segments) b (λ g. setCell g 0 productCount (n + length ps));
+        locks = onTable (d .locks) b (addRows n (cell (d .registry) lockCount) c ps);
+        threads = d .threads;
+      }
+  store d (DropLock a b) text =
+      let s = homeOf (stateOf d) b in
+      let n = rowsOf (tableAt (d .segments) s) in
+      record {
+        registry = d .registry;
+        makers = d .makers;
+        segments = onTable (d .segments) s (λ g. setCell g 0 productCount (length (rowsLeft n b (tableAt (d .locks) s))));
+        locks = onTable (d .locks) s (dropRows n b);
+        threads = d .threads;
+      }
+  store d (CallSegment a b) text = atThread d a (pushRow (rowAt (tableAt (d .segments) b) 1))
+  store d (ReturnCall a) text = atThread d a popRow
+  store d (Access a b c) text = d
+
+  -- ---- one call
+
+  abbrev pub judgedCells : Cells → Request → List ℕ → Option Refusal → record { cells : Cells; answer : Answer }
+  judgedCells d q text none = record { cells = store d q text; answer = Accepted (answer compile (stateOf d) q text) }
+  judgedCells d q text (some r) = record { cells = d; answer = Refused r }
+
+  abbrev pub stepCellsDecoded : Cells → Decoded → List ℕ → record { cells : Cells; answer : Answer }
+  stepCellsDecoded d NotWellFormed text = record { cells = d; answer = Refused Corrupt }
+  stepCellsDecoded d (WellFormed q) text = judgedCells d q text (firstRefusal (conditions compile (stateOf d) q text))
+
+  unfoldable pub stepCells : Cells → Call → record { cells : Cells; answer : Answer }
+  stepCells d x = stepCellsDecoded d (decodedOf (x .letter) (x .a) (x .b) (x .c) (length (x .text))) (x .text)
+
+-- ---- the arrays' sizes, and the empty state: every cell is 0
+
+-- n tables of k rows of 8 cells
+pub record Tables (n k : ℕ) (ts : List Table) : Type 0 where
+  pub count : length ts ≡ n
+  pub rows : (i : ℕ) → i < n → length (tableAt ts i) ≡ k
+  pub cells : (i j : ℕ) → i < n → j < k → length (rowAt (tableAt ts i) j) ≡ 8
+
+pub record Sized (d : Cells) : Type 0 where
+  pub registry : length (d .registry) ≡ 8
+  pub makers : length (d .makers) ≡ mostDefined
+  pub segments : Tables mostSegments 2 (d .segments)
+  pub locks : Tables mostSegments mostProducts (d .locks)
+  pub threads : Tables mostThreads (suc mostFrames) (d .threads)
+
+abbrev pub zeros : ℕ → ℕ → List Table
+zeros n k = replicate n (replicate k (replicate 8 0))
+
+abbrev pub emptyCells : Cells
+emptyCells =
+    record {
+      registry = replicate 8 0;
+      makers = replicate mostDefined 0;
+      segments = zeros mostSegments 2;
+      locks = zeros mostSegments mostProducts;
+      threads = zeros mostThreads (suc mostFrames);
+    }

@@ -1,0 +1,100 @@
+-- Demand 3: 'For every list of the twelve calls (U, S, E, N, K, G, T, L, D, C, R and A), in any order and refused ones included, from an empty
+-- desk: after it a live run's fitting next operation, a C or an A, is granted exactly when no deny lock then standing for it opens, some grant
+-- lock standing for it does and, for a C, fewer than sixteen of the run's calls are open. .. Opening is judged on the run's two identity keys
+-- and what each still open call handed over when made. Live runs, segments, standing locks, open calls and keys are all read from the history
+-- of calls and answers alone.' Proved in `proofs/Granting.antt`. Assumes nothing.
+use mathlib.Core.Path.{_≡_}
+use mathlib.Core.Bool.{Bool, true, false, _&&_, not}
+use mathlib.Core.List.{List, List·Memᴰ}
+use mathlib.Core.Logic.{_↔_}
+use mathlib.Core.Option.{some}
+use Prim.Native.Nat.{ℕ}
+use lib.Dec.{eqb, ltb}
+use lib.ListN.{length}
+use Rattle.formula.specs.Outcome.{outcomeOf}
+use Rattle.formula.specs.Opening.{textHolds}
+use Rattle.formula.specs.Compiler.{Compiler, Meaning, Laws}
+use Rattle.call.specs.declared.request.Request.{Request}
+use Rattle.call.specs.declared.request.Request.the-variants.{CallSegment, Access}
+use Rattle.call.specs.declared.request.Decoded.the-variants.{WellFormed}
+use Rattle.call.specs.Calls.{Call}
+use Rattle.model.specs.Answers.{isAccepted}
+use Rattle.model.specs.Lists.{any}
+use Rattle.model.specs.Limits.{mostFrames}
+use Rattle.model.specs.Operations.{execute, denies, grants, takes, isAccess}
+use Rattle.model.specs.Threads.{Thread, keySet}
+use Rattle.model.specs.History.{History, Entry, Lock}
+use Rattle.model.specs.Replay.{decoded, historyOf, answerTo}
+
+-- what a C or an A asks for: thread a, segment b, and an A's operation c
+pub data Operation : Type 0 where
+  calls : ℕ → ℕ → Operation
+  accesses : ℕ → ℕ → ℕ → Operation
+
+abbrev pub requestOf : Operation → Request
+requestOf (calls a b) = CallSegment a b
+requestOf (accesses a b c) = Access a b c
+
+abbrev pub threadOf : Operation → ℕ
+threadOf (calls a b) = a
+threadOf (accesses a b c) = a
+
+abbrev pub targetOf : Operation → ℕ
+targetOf (calls a b) = b
+targetOf (accesses a b c) = b
+
+-- 'A C's operation is execute, an A's is its c.'
+abbrev pub numberOf : Operation → ℕ
+numberOf (calls a b) = execute
+numberOf (accesses a b c) = c
+
+abbrev pub isNumbered : Operation → Bool
+isNumbered (calls a b) = true
+isNumbered (accesses a b c) = isAccess c
+
+-- 'An operation fits when its call isn't 18, an A's c is 2 or 4, and its segment is handed out and takes it.'
+pub record Fits (h : History) (next : Call) (o : Operation) : Type 0 where
+  pub wellFormed : decoded next ≡ WellFormed (requestOf o)
+  pub numbered : isNumbered o ≡ true
+  pub entry : Entry
+  pub handedOut : h .segments (targetOf o) ≡ some entry
+  pub taken : takes (entry .kind) (numberOf o) ≡ true
+
+-- 'for a C, fewer than sixteen of the run's calls are open'
+abbrev pub hasRoom : Operation → Thread → Bool
+hasRoom (calls a b) t = ltb (length (t .frames)) mostFrames
+hasRoom (accesses a b c) t = true
+
+module _ (holds : Meaning) where
+  -- 'A standing lock stands for it when the lock has that segment and its operations include that number', as a deny lock or as a grant lock.
+  -- 'It opens when its formula holds for the run's key set.'
+  abbrev pub lockOpens : (ℕ → ℕ → Bool) → Operation → Thread → Lock → Bool
+  lockOpens stands o t l =
+      eqb (l .segment) (targetOf o) && (stands (l .operations) (numberOf o) && holds (keySet (threadOf o) t) (l .text))
+
+  -- no deny lock opens, some grant lock does, and there is room
+  abbrev pub granted : History → Operation → Thread → Bool
+  granted h o t = not (any (lockOpens denies o t) (h .locks)) && (any (lockOpens grants o t) (h .locks) && hasRoom o t)
+
+-- the same in words
+pub record Granted (holds : Meaning) (h : History) (o : Operation) (t : Thread) : Type 0 where
+  pub undenied : (l : Lock) → List·Memᴰ l (h .locks) → lockOpens holds denies o t l ≡ false
+  pub lock : Lock
+  pub standing : List·Memᴰ lock (h .locks)
+  pub opens : lockOpens holds grants o t lock ≡ true
+  pub room : hasRoom o t ≡ true
+
+-- after the calls xs, for the next call: once as an equation and once in words. 'Granted means accepted.'
+pub record Grants (compile : Compiler) (holds : Meaning) (xs : List Call) (next : Call) : Type 0 where
+  pub equation : (o : Operation) (t : Thread) → Fits (historyOf compile xs) next o → historyOf compile xs .threads (threadOf o) ≡ some t
+      → isAccepted (answerTo compile xs next) ≡ granted holds (historyOf compile xs) o t
+  pub exactly : (o : Operation) (t : Thread) → Fits (historyOf compile xs) next o → historyOf compile xs .threads (threadOf o) ≡ some t
+      → (isAccepted (answerTo compile xs next) ≡ true) ↔ Granted holds (historyOf compile xs) o t
+
+-- for whatever compiler keeps the laws
+abbrev pub GrantingByLaws : Type 0
+GrantingByLaws = (compile : Compiler) (holds : Meaning) → Laws compile holds → (xs : List Call) (next : Call) → Grants compile holds xs next
+
+-- and so for the compiler that there is
+abbrev pub Granting : Type 0
+Granting = (xs : List Call) (next : Call) → Grants outcomeOf textHolds xs next

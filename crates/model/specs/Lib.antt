@@ -1,0 +1,15 @@
+pub mod Answers
+pub mod Limits
+pub mod Operations
+pub mod Lists
+pub mod Threads
+pub mod Model
+pub mod Cells
+pub mod History
+pub mod Replay
+pub mod Granting
+pub mod Numbering
+pub mod Refusing
+pub mod Refinement
+pub mod Bounds
+pub mod Examples

@@ -1,0 +1,50 @@
+-- Document 01, 'Operations and the check': operations, sets of them, and which of them a segment takes. Assumes nothing.
+use mathlib.Core.Bool.{Bool, _&&_, _||_, not, cond}
+use Prim.Native.Nat.{ℕ, _/_, _%_}
+use lib.Dec.{eqb, ltb}
+
+-- 'numbered 1 execute, 2 read and 4 write, with 8 for deny'
+abbrev pub execute : ℕ
+execute = 1
+
+abbrev pub read : ℕ
+read = 2
+
+abbrev pub write : ℕ
+write = 4
+
+abbrev pub deny : ℕ
+deny = 8
+
+-- a set of operations is the sum of their numbers
+abbrev pub includes : ℕ → ℕ → Bool
+includes operations n = eqb (operations / n % 2) 1
+
+-- a lock with that set stands for an operation as a deny lock: 'with 8 among them it is a deny lock, else a grant lock'
+abbrev pub denies : ℕ → ℕ → Bool
+denies operations n = includes operations n && includes operations deny
+
+abbrev pub grants : ℕ → ℕ → Bool
+grants operations n = includes operations n && not (includes operations deny)
+
+-- a segment's kind
+abbrev pub code : ℕ
+code = 0
+
+abbrev pub sheet : ℕ
+sheet = 1
+
+-- 'Code takes execute; sheets take read and write.'
+abbrev pub takes : ℕ → ℕ → Bool
+takes kind n = cond (eqb kind code) (eqb n execute) (eqb n read || eqb n write)
+
+-- an A's c
+abbrev pub isAccess : ℕ → Bool
+isAccess n = eqb n read || eqb n write
+
+-- a lock's set: with 1, 2 or 4, no bits above 8, and no operation that the segment doesn't take
+abbrev pub takesSet : ℕ → ℕ → Bool
+takesSet kind operations =
+    ltb operations 16
+    && ((includes operations execute || includes operations read || includes operations write)
+    && cond (eqb kind code) (not (includes operations read || includes operations write)) (not (includes operations execute)))

@@ -1,0 +1,61 @@
+-- Demand 1: 'Refused are calls .. that meet a condition in document 01's table, each by the first such number in its order and never otherwise,
+-- with the desk and every lent byte unchanged. Accepted is all the rest.' Over the arrays, whatever numbers are in them, and over every
+-- compiler. Proved in `proofs/Refusing.antt`. Assumes nothing.
+use mathlib.Core.Path.{_≡_}
+use mathlib.Core.Bool.{Bool, true, false, _&&_, cond}
+use mathlib.Core.List.{List, [], _∷_, _++_, map}
+use mathlib.Core.Logic.{_↔_}
+use Prim.Native.Nat.{ℕ}
+use lib.Dec.{eqb, ltb}
+use Rattle.formula.specs.Compiler.{Compiler}
+use Rattle.call.specs.declared.request.Request.{Request}
+use Rattle.call.specs.declared.request.Decoded.the-variants.{WellFormed, Corrupt as NotWellFormed}
+use Rattle.call.specs.Calls.{Call}
+use Rattle.call.specs.Conditions.{Condition}
+use Rattle.model.specs.declared.answer.Refusal.{Refusal}
+use Rattle.model.specs.declared.answer.Refusal.the-variants.{Corrupt}
+use Rattle.model.specs.declared.answer.Answer.the-variants.{Refused}
+use Rattle.model.specs.Answers.{refusalNumber, isAccepted}
+use Rattle.model.specs.Lists.{any}
+use Rattle.model.specs.Model.{State, conditions}
+use Rattle.model.specs.Cells.{Cells, stateOf, stepCells}
+use Rattle.model.specs.Replay.{decoded}
+
+abbrev pub someHolds : List (Condition Refusal) → Bool
+someHolds cs = any (λ c. c .holds) cs
+
+-- the first condition that holds has the refusal r
+pub record FirstHolds (r : Refusal) (cs : List (Condition Refusal)) : Type 0 where
+  pub earlier : List (Condition Refusal)
+  pub condition : Condition Refusal
+  pub later : List (Condition Refusal)
+  pub split : cs ≡ earlier ++ condition ∷ later
+  pub none : someHolds earlier ≡ false
+  pub holds : condition .holds ≡ true
+  pub refusal : condition .refusal ≡ r
+
+pub record Refuses (compile : Compiler) (d : Cells) (x : Call) : Type 0 where
+  -- 18 'before all else', exactly where the call is not well formed
+  pub corrupt : (stepCells compile d x .answer ≡ Refused Corrupt) ↔ (decoded x ≡ NotWellFormed)
+  -- a well formed call is refused exactly by the first of its conditions that holds, and accepted exactly where none does
+  pub refused : (q : Request) → decoded x ≡ WellFormed q → (r : Refusal)
+      → (stepCells compile d x .answer ≡ Refused r) ↔ FirstHolds r (conditions compile (stateOf d) q (x .text))
+  pub accepted : (q : Request) → decoded x ≡ WellFormed q
+      → (isAccepted (stepCells compile d x .answer) ≡ true) ↔ (someHolds (conditions compile (stateOf d) q (x .text)) ≡ false)
+  -- a refusal changes no cell
+  pub unchanged : (r : Refusal) → stepCells compile d x .answer ≡ Refused r → stepCells compile d x .cells ≡ d
+
+abbrev pub Refusing : Type 0
+Refusing = (compile : Compiler) (d : Cells) (x : Call) → Refuses compile d x
+
+-- the table's order: 'Checked in that order, 10 last'
+abbrev pub rank : Refusal → ℕ
+rank r = let n = refusalNumber r in cond (eqb n 10) 19 n
+
+abbrev pub rising : List ℕ → Bool
+rising [] = true
+rising (m ∷ []) = true
+rising (m ∷ n ∷ ns) = ltb m n && rising (n ∷ ns)
+
+abbrev pub InOrder : Type 0
+InOrder = (compile : Compiler) (d : State) (q : Request) (text : List ℕ) → rising (map (λ c. rank (c .refusal)) (conditions compile d q text)) ≡ true

@@ -1,0 +1,31 @@
+-- Document 01, 'Keys' and 'The history': a thread (document 01: run), its frames (its open calls) and its key set. Assumes nothing.
+use mathlib.Core.Bool.{Bool, _||_}
+use mathlib.Core.List.{List}
+use Prim.Native.Nat.{ℕ}
+use Rattle.product.specs.declared.literal.Key.{Key}
+use Rattle.product.specs.declared.literal.Key.the-variants.{User, Thread as ThreadKey}
+use Rattle.product.specs.Atom.{isEqual, compareAtoms}
+use Rattle.model.specs.Lists.{any}
+
+-- an open call: its segment, and the key list that it handed over when made
+pub record Frame : Type 0 where
+  pub segment : ℕ
+  pub keys : List Key
+
+-- the newest frame is the first
+pub record Thread : Type 0 where
+  pub user : ℕ
+  pub frames : List Frame
+
+abbrev pub sameKey : Key → Key → Bool
+sameKey j k = isEqual (compareAtoms j k)
+
+abbrev pub isIn : Key → List Key → Bool
+isIn k keys = any (sameKey k) keys
+
+abbrev pub KeySet : Type 0
+KeySet = Key → Bool
+
+-- 'its user's U key, its own R key and every key in its open calls' lists', of thread n
+abbrev pub keySet : ℕ → Thread → KeySet
+keySet n t = λ k. sameKey k (User (t .user)) || (sameKey k (ThreadKey n) || any (λ f. isIn k (f .keys)) (t .frames))
