@@ -108,6 +108,7 @@ laws =
     record {
       opening = λ i s ps e ρ. let o = opening-law i s ps e in o .law ρ ∙ sym (holds-spelt i s (o .tree) (o .text) ρ);
       bounds = λ i s ps e. opening-law i s ps e .bounds;
+      issued = λ i s ps e. let o = opening-law i s ps e in rw (o .list) (products-atoms (issuedTo i) false (o .tree) (o .text .issued));
     }
 
 -- what is stored

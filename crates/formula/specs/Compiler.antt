@@ -5,11 +5,12 @@ use mathlib.Core.Bool.{Bool, true}
 use mathlib.Core.List.{List}
 use Prim.Native.Nat.{ℕ, _≤_}
 use lib.ListN.{length}
-use Rattle.product.specs.Atom.{Atom}
+use Rattle.product.specs.Atom.{Atom, atomOf}
 use Rattle.product.specs.Product.{Product, ordered, once, All}
 use Rattle.product.specs.Sum.{Sum, opensAny, mostProducts, mostLiterals}
 use Rattle.product.specs.Code.{Numbered}
 use Rattle.formula.specs.declared.text.Issued.{Issued}
+use Rattle.formula.specs.Text.{issuedTo}
 use Rattle.formula.specs.Outcome.{Outcome, accepted}
 
 abbrev pub Compiler : Type 0
@@ -37,3 +38,5 @@ pub record Laws (compile : Compiler) (holds : Meaning) : Type 0 where
   -- a key set opens a product of an accepted text exactly where the formula is true of it
   pub opening : (i : Issued) (s : List ℕ) (ps : Sum) → compile i s ≡ accepted ps → (ρ : Atom → Bool) → opensAny ρ ps ≡ holds ρ s
   pub bounds : (i : Issued) (s : List ℕ) (ps : Sum) → compile i s ≡ accepted ps → Bounded ps
+  -- its keys are handed out
+  pub issued : (i : Issued) (s : List ℕ) (ps : Sum) → compile i s ≡ accepted ps → All (λ p. All (λ x. issuedTo i (atomOf x) ≡ true) p) ps

@@ -3,8 +3,9 @@
 --
 -- registry: [u32; 8]               users, threads, segments, defined keys and locks handed out
 -- makers: [u16; 1024]              each defined key's maker
--- segments: [[[u16; 8]; 2]; 64]    row 0: owner, kind, number of product rows; row 1: the key list, first its own S key
--- locks: [[[u32; 8]; 8]; 64]       a segment's products, a row each: six literals, 16 times the lock and its operations, number of literals
+-- segments: [[[u16; 8]; 2]; 64]    row 0: owner, kind; row 1: the key list, first its own S key
+-- locks: [[[u32; 8]; 8]; 64]       a segment's products, a row each, to the first row that begins with 0: the lock, the number of literals and the
+--                                  operations in one cell, then the literals
 -- threads: [[[u16; 8]; 17]; 64]    row 0: number, user, number of frames, 1 where it is live; rows 1 to 16: the frames, the oldest first, each
 --                                  a copy of its segment's key list
 use mathlib.Core.Path.{_≡_}
@@ -16,11 +17,11 @@ use lib.Dec.{eqb, ltb}
 use lib.ListN.{length, getD, set, take, replicate}
 use lib.Seq.{sets}
 use Rattle.product.specs.declared.literal.Key.{Key}
-use Rattle.product.specs.declared.literal.Key.the-variants.{Segment as SegmentKey, Defined}
+use Rattle.product.specs.declared.literal.Key.the-variants.{User, Thread as ThreadKey, Segment as SegmentKey, Defined}
+use Rattle.product.specs.declared.literal.Literal.{Literal}
+use Rattle.product.specs.declared.literal.Literal.the-variants.{Plain, Barred}
 use Rattle.product.specs.Product.{Product}
 use Rattle.product.specs.Sum.{Sum}
-use Rattle.product.specs.Code.{literalOf}
-use Rattle.product.specs.Cells.{sizeOf, rowOf}
 use Rattle.formula.specs.Outcome.{sumIn}
 use Rattle.formula.specs.Compiler.{Compiler}
 use Rattle.call.specs.declared.request.Request.{Request}
@@ -34,7 +35,7 @@ use Rattle.model.specs.declared.answer.Refusal.the-variants.{Corrupt}
 use Rattle.model.specs.declared.answer.Answer.{Answer}
 use Rattle.model.specs.declared.answer.Answer.the-variants.{Accepted, Refused}
 use Rattle.model.specs.Lists.{keep, each}
-use Rattle.model.specs.Limits.{mostThreads, mostSegments, mostDefined, mostListed, mostProducts, mostFrames, mostNumbers}
+use Rattle.model.specs.Limits.{mostThreads, mostSegments, mostDefined, mostListed, mostProducts, mostFrames}
 use Rattle.model.specs.Threads.{Frame, Thread}
 use Rattle.model.specs.Model.{Guarded, Segment, Place, free, taken, State, isFree, placeFor, placeOf, homeOf, issued, conditions, answer}
 
@@ -86,13 +87,6 @@ ownerCell = 0
 abbrev pub kindCell : ℕ
 kindCell = 1
 
-abbrev pub productCount : ℕ
-productCount = 2
-
--- in a product's row; its literals come before, their number after
-abbrev pub lockCell : ℕ
-lockCell = 6
-
 -- in row 0 of a thread
 abbrev pub numberCell : ℕ
 numberCell = 0
@@ -127,6 +121,46 @@ keysOf w = map keyOf (keep hasKey w)
 abbrev pub keyRow : List ℕ → Row
 keyRow xs = xs ++ replicate (mostListed - length xs) noKey
 
+-- ---- literals: a key of a list as there, and 32,768 more where it is barred; U n and R n from 131,072 and 262,144 on, and 65,536 more
+
+abbrev pub keyCode : Key → ℕ
+keyCode (User n) = 131072 + n
+keyCode (ThreadKey n) = 262144 + n
+keyCode (SegmentKey n) = n
+keyCode (Defined n) = definedCode n
+
+abbrev pub barredBy : Key → ℕ
+barredBy (User n) = 65536
+barredBy (ThreadKey n) = 65536
+barredBy (SegmentKey n) = 32768
+barredBy (Defined n) = 32768
+
+abbrev pub literalCode : Literal → ℕ
+literalCode (Plain k) = keyCode k
+literalCode (Barred k) = keyCode k + barredBy k
+
+abbrev pub signed : Bool → Key → Literal
+signed plain k = cond plain (Plain k) (Barred k)
+
+-- what any number stands for
+abbrev pub literalOf : ℕ → Literal
+literalOf x =
+    cond (ltb x 65536) (signed (ltb x 32768) (keyOf (x % 32768)))
+    (signed (eqb (x / 65536 % 2) 0) (cond (ltb x 262144) (User (x % 65536)) (ThreadKey (x % 65536))))
+
+-- ---- product rows
+
+abbrev pub head : ℕ → ℕ → ℕ → ℕ
+head lock literals operations = lock * 65536 + literals * 16 + operations
+
+abbrev pub isUsed : Row → Bool
+isUsed w = not (eqb (cell w 0) 0)
+
+-- the rows before the first that is not used
+abbrev pub usedRows : Table → Table
+usedRows [] = []
+usedRows (w ∷ t) = let rest = usedRows t in cond (isUsed w) (w ∷ rest) []
+
 -- ---- the state that the arrays hold; a count is read as no more than its limit
 
 abbrev pub frameOf : Row → Frame
@@ -146,10 +180,12 @@ placeIn t =
     cond (eqb (cell w liveCell) 0) free (taken (cell w numberCell) (record { user = cell w userCell; frames = framesOf t (depthOf t) }))
 
 abbrev pub guardedOf : Row → Guarded
-guardedOf w = record { lock = cell w lockCell / 16 % mostNumbers; operations = cell w lockCell % 16; product = map literalOf (take (sizeOf w) w) }
-
-abbrev pub rowsOf : Table → ℕ
-rowsOf g = min (cell (rowAt g 0) productCount) mostProducts
+guardedOf w =
+    record {
+      lock = cell w 0 / 65536;
+      operations = cell w 0 % 16;
+      product = each (λ i. literalOf (cell w i)) 1 (cell w 0 / 16 % 8);
+    }
 
 -- a segment's table, and its products'
 abbrev pub segmentOf : Table → Table → Segment
@@ -159,7 +195,7 @@ segmentOf g t =
       owner = cell (rowAt g 0) ownerCell;
       kind = cell (rowAt g 0) kindCell;
       keys = keysOf (rowAt g 1);
-      products = map guardedOf (take (rowsOf g) t);
+      products = map guardedOf (usedRows t);
     }
 
 abbrev pub segmentIn : Cells → ℕ → Segment
@@ -207,19 +243,21 @@ giveCode x g = set g 1 (keyRow (keep hasKey (rowAt g 1) ++ x ∷ []))
 abbrev pub takeCode : ℕ → Table → Table
 takeCode x g = set g 1 (keyRow (keep (λ y. not (eqb x y)) (keep hasKey (rowAt g 1))))
 
--- L
+-- L and D: rows from row n on, and the end of the rows after them, where there is a row left
+abbrev pub endRows : Table → ℕ → Table
+endRows t n = setCell t n 0 0
+
+abbrev pub storeRows : ℕ → Table → Table → Table
+storeRows n ws t = endRows (sets t n ws) (n + length ws)
+
 abbrev pub productRow : ℕ → ℕ → Product → Row
-productRow lock operations p = set (rowOf p) lockCell (lock * 16 + operations)
+productRow lock operations p = head lock (length p) operations ∷ map literalCode p ++ replicate (7 - length p) 0
 
-abbrev pub addRows : ℕ → ℕ → ℕ → Sum → Table → Table
-addRows n lock operations ps t = sets t n (map (productRow lock operations) ps)
+abbrev pub addRows : ℕ → ℕ → Sum → Table → Table
+addRows lock operations ps t = storeRows (length (usedRows t)) (map (productRow lock operations) ps) t
 
--- D: the rows that stay, of the first n
-abbrev pub rowsLeft : ℕ → ℕ → Table → Table
-rowsLeft n lock t = keep (λ w. not (eqb (guardedOf w .lock) lock)) (take n t)
-
-abbrev pub dropRows : ℕ → ℕ → Table → Table
-dropRows n lock t = sets t 0 (rowsLeft n lock t)
+abbrev pub dropRows : ℕ → Table → Table
+dropRows lock t = storeRows 0 (keep (λ w. not (eqb (guardedOf w .lock) lock)) (usedRows t)) t
 
 -- C and R
 abbrev pub pushRow : Row → Table → Table
@@ -264,7 +302,7 @@ module _ (compile : Compiler) where
         registry = countUp (d .registry) segmentCount;
         makers = d .makers;
         segments = set (d .segments) s (newSegment s a b);
-        locks = d .locks;
+        locks = onTable (d .locks) s (λ t. endRows t 0);
         threads = d .threads;
       }
   store d (NewKey a) text =
@@ -279,22 +317,19 @@ module _ (compile : Compiler) where
   store d (TakeKey a b c) text = withSegmentTables d (onTable (d .segments) b (takeCode (definedCode c)))
   store d (AddLock a b c) text =
       let ps = sumIn (compile (issued (stateOf d)) text) in
-      let n = rowsOf (tableAt (d .segments) b) in
       record {
         registry = countUp (d .registry) lockCount;
         makers = d .makers;
-        segments = onTable (d .segments) b (λ g. setCell g 0 productCount (n + length ps));
-        locks = onTable (d .locks) b (addRows n (cell (d .registry) lockCount) c ps);
+        segments = d .segments;
+        locks = onTable (d .locks) b (addRows (cell (d .registry) lockCount) c ps);
         threads = d .threads;
       }
   store d (DropLock a b) text =
-      let s = homeOf (stateOf d) b in
-      let n = rowsOf (tableAt (d .segments) s) in
       record {
         registry = d .registry;
         makers = d .makers;
-        segments = onTable (d .segments) s (λ g. setCell g 0 productCount (length (rowsLeft n b (tableAt (d .locks) s))));
-        locks = onTable (d .locks) s (dropRows n b);
+        segments = d .segments;
+        locks = onTable (d .locks) (homeOf (stateOf d) b) (dropRows b);
         threads = d .threads;
       }
   store d (CallSegment a b) text = atThread d a (pushRow (rowAt (tableAt (d .segments) b) 1))
