@@ -1,3 +1,5 @@
 pub mod Lists
 pub mod Examples
 pub mod Places
+pub mod Segments
+pub mod Locks

@@ -11,7 +11,7 @@ use lib.Dec.{eqb, eqb·suc-suc, eqb·suc-zero, eqb·zero-suc}
 use lib.ListN.{length, getD, set, getElem?}
 use lib.Seq.{getD-set-same, getD-set-other, ext-getD}
 use borrow.Author.Tests.{eqb-true, eqb-false, eq-eqb, ne-eqb}
-use Rattle.model.specs.Lists.{any, keep, keepIf, first, orElse, isSome, indexOf, each, put, adjust}
+use Rattle.model.specs.Lists.{any, keep, keepIf, first, orElse, isSome, indexOf, each, mapOption, put, adjust}
 
 -- every element
 module _ {A : Type 0} where
@@ -39,6 +39,14 @@ module _ {A : Type 0} where
   pub isSome-first : (p : A → Bool) (xs : List A) → isSome (first p xs) ≡ any p xs
   isSome-first p [] = refl
   isSome-first p (x ∷ xs) = caseBool (p x) (λ e. simp e) (λ e. simp e (isSome-first p xs))
+
+  pub first-keep : (p q : A → Bool) (xs : List A) → first p (keep q xs) ≡ first (λ x. q x && p x) xs
+  first-keep p q [] = refl
+  first-keep p q (x ∷ xs) = caseBool (q x) (λ e. simp (e, first-keep p q xs)) (λ e. simp (e, first-keep p q xs))
+
+  pub first-same : (p q : A → Bool) (xs : List A) → All (λ x. p x ≡ q x) xs → first p xs ≡ first q xs
+  first-same p q [] h = refl
+  first-same p q (x ∷ xs) h = simp (h .0, first-same p q xs (h .1))
 
   pub any-append : (p : A → Bool) (xs ys : List A) → any p (xs ++ ys) ≡ (any p xs || any p ys)
   any-append p [] ys = refl
@@ -110,6 +118,10 @@ module _ {A B : Type 0} where
   any-map p f [] = refl
   any-map p f (x ∷ xs) = rw (any-map p f xs)
 
+  pub first-map : (p : B → Bool) (f : A → B) (xs : List A) → first p (map f xs) ≡ mapOption f (first (λ x. p (f x)) xs)
+  first-map p f [] = refl
+  first-map p f (x ∷ xs) = caseBool (p (f x)) (λ e. simp e) (λ e. simp e (first-map p f xs))
+
   pub any-concatMap : (p : B → Bool) (f : A → List B) (xs : List A) → any p (concatMap f xs) ≡ any (λ x. any p (f x)) xs
   any-concatMap p f [] = refl
   any-concatMap p f (x ∷ xs) = any-append p (f x) (concatMap f xs) ∙ rw (any-concatMap p f xs)
@@ -163,6 +175,14 @@ module _ {A : Type 0} where
   at-some-lt [] i x e = let z : _≡_ {A = ℕ} 0 1 = cc in absurd (omega arith)
   at-some-lt (y ∷ ys) zero x e = suc-le-suc zero-le
   at-some-lt (y ∷ ys) (suc i) x e = suc-le-suc (at-some-lt ys i x e)
+
+-- optional values
+
+pub some-inj : {A : Type 0} {x y : A} → _≡_ {A = Option A} (some x) (some y) → x ≡ y
+some-inj e = cc
+
+pub some≢none : {A : Type 0} {x : A} → _≡_ {A = Option A} (some x) none → ⊥
+some≢none e = let z : _≡_ {A = ℕ} 0 1 = cc in omega arith
 
 -- a list read index by index
 

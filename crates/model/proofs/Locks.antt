@@ -1,0 +1,234 @@
+-- The products on the segments and the history's standing locks. A ghost list has the standing locks with their products, in the order of their
+-- numbers; a segment's products are those of the locks on it. So the check is a chain of laws of lists, and the opening law enters at one place.
+-- Assumes nothing.
+use mathlib.Core.Path.{_≡_, refl, sym, ap, _∙_}
+use mathlib.Core.Bool.{Bool, true, false, _&&_, _||_, not, cond}
+use mathlib.Core.List.{List, [], _∷_, _++_, map, append-nil}
+use mathlib.Core.Option.{Option, none, some}
+use Prim.Native.Nat.{ℕ, suc, _<_}
+use native.Mathlib.Omega.{arith}
+use lib.Dec.{eqb}
+use lib.ListN.{length, getD, set}
+use borrow.Author.Tests.{eqb-true, eqb-false, eq-eqb, ne-eqb}
+use Rattle.product.specs.Product.{Product, opens}
+use Rattle.product.specs.Sum.{Sum, opensAny}
+use Rattle.formula.specs.Compiler.{Meaning}
+use Rattle.call.proofs.Truth.{and-left, and-right}
+use Rattle.model.specs.Lists.{any, keep, first, mapOption, indexOf}
+use Rattle.model.specs.Threads.{KeySet}
+use Rattle.model.specs.Model.{Segment, Guarded, guarded, opensFor, isOf, hasLock, nowhere, addProducts, dropProducts}
+use Rattle.model.specs.History.{Lock}
+use Rattle.model.proofs.Lists.{All, concatMap, caseBool, eqb-self, any-map, any-concatMap, any-keep, any-and, from-any, map-append, concatMap-append, keep-append, keep-map, keep-concatMap, keep-keep, keep-idle, first-keep, first-map, first-same, All-map, All-append, All-keep, indexOf-lt, indexOf-passes}
+use Rattle.model.proofs.Segments.{productsAt, products-set}
+
+-- a standing lock with its products
+pub record Standing : Type 0 where
+  pub number : ℕ
+  pub segment : ℕ
+  pub operations : ℕ
+  pub text : List ℕ
+  pub products : Sum
+
+abbrev pub lockIn : Standing → Lock
+lockIn l = record { number = l .number; segment = l .segment; operations = l .operations; text = l .text }
+
+abbrev pub rowsOf : Standing → List Guarded
+rowsOf l = map (guarded (l .number) (l .operations)) (l .products)
+
+abbrev pub isOn : ℕ → Standing → Bool
+isOn s l = eqb (l .segment) s
+
+abbrev pub stays : ℕ → Standing → Bool
+stays n l = not (eqb (l .number) n)
+
+any-const : (b : Bool) (ps : Sum) → any (λ p. b) ps ≡ true → b ≡ true
+any-const true ps h = refl
+any-const false [] h = h
+any-const false (p ∷ ps) h = any-const false ps h
+
+-- a lock's rows have its number
+row-number : (n : ℕ) (l : Standing) → any (isOf n) (rowsOf l) ≡ true → eqb (l .number) n ≡ true
+row-number n l h = any-const (eqb (l .number) n) (l .products) (sym (any-map (isOf n) (guarded (l .number) (l .operations)) (l .products)) ∙ h)
+
+-- so they are dropped together
+keep-rows : (n : ℕ) (l : Standing) → keep (λ r. not (isOf n r)) (rowsOf l) ≡ cond (stays n l) (rowsOf l) []
+keep-rows n l = caseBool (eqb (l .number) n) (λ e. simp e (none-stay e (l .products))) (λ e. simp e (all-stay e (l .products)))
+  where
+    none-stay : eqb (l .number) n ≡ true → (ps : Sum) → keep (λ r. not (isOf n r)) (map (guarded (l .number) (l .operations)) ps) ≡ []
+    none-stay e [] = refl
+    none-stay e (p ∷ ps) = simp e (none-stay e ps)
+
+    all-stay : eqb (l .number) n ≡ false → (ps : Sum) → keep (λ r. not (isOf n r)) (map (guarded (l .number) (l .operations)) ps) ≡ map (guarded (l .number) (l .operations)) ps
+    all-stay e [] = refl
+    all-stay e (p ∷ ps) = simp e (ap (λ (rs : List Guarded). guarded (l .number) (l .operations) p ∷ rs) (all-stay e ps))
+
+-- the lock of the first row that passes is the first lock with a row that does
+first-rows : (p : Guarded → Bool) (n o : ℕ) (ps : Sum) (rest : List Guarded)
+    → mapOption (λ r. r .lock) (first p (map (guarded n o) ps ++ rest)) ≡ cond (any p (map (guarded n o) ps)) (some n) (mapOption (λ r. r .lock) (first p rest))
+first-rows p n o [] rest = refl
+first-rows p n o (x ∷ ps) rest = caseBool (p (guarded n o x)) (λ e. simp e) (λ e. simp e (first-rows p n o ps rest))
+
+first-lock : (p : Guarded → Bool) (ls : List Standing)
+    → mapOption (λ r. r .lock) (first p (concatMap rowsOf ls)) ≡ mapOption (λ l. l .number) (first (λ l. any p (rowsOf l)) ls)
+first-lock p [] = refl
+first-lock p (l ∷ ls) =
+    first-rows p (l .number) (l .operations) (l .products) (concatMap rowsOf ls)
+    ∙ caseBool (any p (rowsOf l)) (λ e. simp e) (λ e. simp e (first-lock p ls))
+
+opens-any : (keys : KeySet) (ps : Sum) → opensAny keys ps ≡ any (opens keys) ps
+unfolding opensAny
+opens-any keys [] = refl
+opens-any keys (p ∷ ps) = ap (λ (b : Bool). opens keys p || b) (opens-any keys ps)
+
+-- numbers rise
+abbrev pub Rising : List Standing → Type 0
+Rising [] = Unit {0}
+Rising (l ∷ ls) = All (λ k. l .number < k .number) ls × Rising ls
+
+rising-keep : (p : Standing → Bool) (ls : List Standing) → Rising ls → Rising (keep p ls)
+rising-keep p [] r = tt
+rising-keep p (l ∷ ls) r =
+    caseBool (p l)
+    (λ e. simp e (All-keep (λ k. l .number < k .number) p ls (r .0), rising-keep p ls (r .1)))
+    (λ e. simp e (rising-keep p ls (r .1)))
+
+rising-add : (new : Standing) (ls : List Standing) → All (λ l. l .number < new .number) ls → Rising ls → Rising (ls ++ new ∷ [])
+rising-add new [] b r = (tt, tt)
+rising-add new (l ∷ ls) b r = (All-append (λ k. l .number < k .number) ls (new ∷ []) (r .0) (b .0, tt), rising-add new ls (b .1) (r .1))
+
+module _ (holds : Meaning) where
+  -- its products open as its text says; its number is handed out, and tells its segment
+  pub record Sound (home : ℕ → ℕ) (numbers : ℕ) (l : Standing) : Type 0 where
+    pub opening : (keys : KeySet) → opensAny keys (l .products) ≡ holds keys (l .text)
+    pub below : l .number < numbers
+    pub homed : home (l .number) ≡ l .segment
+
+  pub record AgreeLocks (segments : List Segment) (numbers : ℕ) (locks : List Lock) : Type 0 where
+    pub standing : List Standing
+    pub home : ℕ → ℕ
+    pub written : locks ≡ map lockIn standing
+    pub rows : (s : ℕ) → productsAt segments s ≡ concatMap rowsOf (keep (isOn s) standing)
+    pub sound : All (Sound home numbers) standing
+    pub rising : Rising standing
+
+  -- ---- the check
+
+  lock-opens : (home : ℕ → ℕ) (numbers : ℕ) (stands : ℕ → ℕ → Bool) (s n : ℕ) (keys : KeySet) (l : Standing) → Sound home numbers l
+      → (isOn s l && any (opensFor stands n keys) (rowsOf l)) ≡ (isOn s l && (stands (l .operations) n && holds keys (l .text)))
+  lock-opens home numbers stands s n keys l c =
+      ap (λ (b : Bool). isOn s l && b)
+      (any-map (opensFor stands n keys) (guarded (l .number) (l .operations)) (l .products)
+      ∙ any-and (stands (l .operations) n) (opens keys) (l .products)
+      ∙ ap (λ (b : Bool). stands (l .operations) n && b) (sym (opens-any keys (l .products)) ∙ c .opening keys))
+
+  -- the lock of the first product that opens is the first standing lock that does
+  pub check-agrees : (segments : List Segment) (numbers : ℕ) (locks : List Lock) → AgreeLocks segments numbers locks
+      → (stands : ℕ → ℕ → Bool) (s n : ℕ) (keys : KeySet)
+      → mapOption (λ r. r .lock) (first (opensFor stands n keys) (productsAt segments s))
+      ≡ mapOption (λ l. l .number) (first (λ (l : Lock). eqb (l .segment) s && (stands (l .operations) n && holds keys (l .text))) locks)
+  check-agrees segments numbers locks c stands s n keys =
+      let p = opensFor stands n keys in
+      let q : Lock → Bool = λ l. eqb (l .segment) s && (stands (l .operations) n && holds keys (l .text)) in
+      ap (λ (rs : List Guarded). mapOption (λ (r : Guarded). r .lock) (first p rs)) (c .rows s)
+      ∙ first-lock p (keep (isOn s) (c .standing))
+      ∙ ap (mapOption (λ (l : Standing). l .number))
+      (first-keep (λ l. any p (rowsOf l)) (isOn s) (c .standing)
+      ∙ first-same (λ l. isOn s l && any p (rowsOf l)) (λ l. q (lockIn l)) (c .standing) (All-map (λ l h. lock-opens (c .home) numbers stands s n keys l h) (c .standing) (c .sound)))
+      ∙ sym (ap (λ (ls : List Lock). mapOption (λ (l : Lock). l .number) (first q ls)) (c .written)
+      ∙ ap (mapOption (λ (l : Lock). l .number)) (first-map q lockIn (c .standing))
+      ∙ numbers-same (first (λ l. q (lockIn l)) (c .standing)))
+    where
+      numbers-same : (o : Option Standing) → mapOption (λ (l : Lock). l .number) (mapOption lockIn o) ≡ mapOption (λ (l : Standing). l .number) o
+      numbers-same none = refl
+      numbers-same (some l) = refl
+
+  -- ---- L and D
+
+  module _ (segments : List Segment) (numbers : ℕ) (locks : List Lock) (c : AgreeLocks segments numbers locks) where
+    -- a call that touches no product
+    pub agree-rows : (segments′ : List Segment) → ((s : ℕ) → productsAt segments′ s ≡ productsAt segments s) → AgreeLocks segments′ numbers locks
+    agree-rows segments′ h =
+        record { standing = c .standing; home = c .home; written = c .written; rows = λ s. h s ∙ c .rows s; sound = c .sound; rising = c .rising }
+
+    module _ (s operations : ℕ) (text : List ℕ) (ps : Sum) where
+      new : Standing
+      new = record { number = numbers; segment = s; operations = operations; text = text; products = ps }
+
+      home′ : ℕ → ℕ
+      home′ n = cond (eqb n numbers) s (c .home n)
+
+      still-sound : (l : Standing) → Sound (c .home) numbers l → Sound home′ (suc numbers) l
+      unfolding home′
+      still-sound l k =
+          let b = k .below in
+          record { opening = k .opening; below = omega arith; homed = simp (ne-eqb (l .number) numbers (λ p. omega arith)) (k .homed) }
+
+      new-rows : (t : ℕ) → cond (eqb t s) (productsAt segments s ++ rowsOf new) (productsAt segments t) ≡ concatMap rowsOf (keep (isOn t) (c .standing ++ new ∷ []))
+      unfolding new
+      new-rows t =
+          caseBool (eqb t s)
+          (λ e. simp (e, keep-append, eq-eqb s t (sym (eqb-true t s e)), concatMap-append, append-nil)
+          (ap (λ (rs : List Guarded). rs ++ rowsOf new) (ap (productsAt segments) (sym (eqb-true t s e)) ∙ c .rows t)))
+          (λ e. simp (e, keep-append, ne-eqb s t (λ p. eqb-false t s e (sym p)), append-nil) (c .rows t))
+
+      pub agree-add : s < length segments → ((keys : KeySet) → opensAny keys ps ≡ holds keys text)
+          → AgreeLocks (set segments s (addProducts numbers operations ps (getD segments s nowhere))) (suc numbers)
+          (locks ++ record { number = numbers; segment = s; operations = operations; text = text } ∷ [])
+      unfolding new home′
+      agree-add h law =
+          record {
+            standing = c .standing ++ new ∷ [];
+            home = home′;
+            written = ap (λ ls. ls ++ lockIn new ∷ []) (c .written) ∙ sym (map-append lockIn (c .standing) (new ∷ []));
+            rows = λ t. products-set segments s _ h t ∙ new-rows t;
+            sound =
+                All-append (Sound home′ (suc numbers)) (c .standing) (new ∷ [])
+                (All-map still-sound (c .standing) (c .sound))
+                (record { opening = law; below = omega arith; homed = simp (eqb-self numbers) }, tt);
+            rising = rising-add new (c .standing) (All-map (λ l k. k .below) (c .standing) (c .sound)) (c .rising);
+          }
+
+    module _ (n : ℕ) (there : any (hasLock n) segments ≡ true) where
+      abbrev pub place : ℕ
+      place = indexOf (hasLock n) segments
+
+      -- the lock is on the segment where it is found
+      pub found : c .home n ≡ place
+      found =
+          from-any (λ l. isOn place l && any (isOf n) (rowsOf l)) (Sound (c .home) numbers) (c .standing) (c .sound)
+          (λ l k t.
+          let h = eqb-true (l .segment) place (and-left (isOn place l) (any (isOf n) (rowsOf l)) t) in
+          let m = eqb-true (l .number) n (row-number n l (and-right (isOn place l) (any (isOf n) (rowsOf l)) t)) in
+          ap (c .home) (sym m) ∙ k .homed ∙ h)
+          (sym (any-keep (λ l. any (isOf n) (rowsOf l)) (isOn place) (c .standing))
+          ∙ sym (any-concatMap (isOf n) rowsOf (keep (isOn place) (c .standing)))
+          ∙ ap (any (isOf n)) (sym (c .rows place))
+          ∙ indexOf-passes (hasLock n) nowhere segments there)
+
+      dropped-rows : (t : ℕ) → cond (eqb t place) (dropProducts n (getD segments place nowhere) .products) (productsAt segments t) ≡ concatMap rowsOf (keep (isOn t) (keep (stays n) (c .standing)))
+      dropped-rows t =
+          caseBool (eqb t place)
+          (λ e. simp e
+          (ap (keep (λ (r : Guarded). not (isOf n r))) (ap (productsAt segments) (sym (eqb-true t place e)) ∙ c .rows t)
+          ∙ keep-concatMap (λ r. not (isOf n r)) (stays n) rowsOf (keep-rows n) (keep (isOn t) (c .standing))
+          ∙ ap (concatMap rowsOf) (keep-keep (stays n) (isOn t) (c .standing))))
+          (λ e. simp e
+          (c .rows t
+          ∙ ap (concatMap rowsOf) (sym (keep-idle (stays n) (isOn t) (c .standing) (All-map (elsewhere t e) (c .standing) (c .sound))))))
+        where
+          elsewhere : (t : ℕ) → eqb t place ≡ false → (l : Standing) → Sound (c .home) numbers l → isOn t l ≡ true → stays n l ≡ true
+          elsewhere t e l k on =
+              caseBool (eqb (l .number) n)
+              (λ q. absurd (eqb-false t place e (sym (eqb-true (l .segment) t on) ∙ sym (k .homed) ∙ ap (c .home) (eqb-true (l .number) n q) ∙ found)))
+              (λ q. simp q)
+
+      pub agree-drop : AgreeLocks (set segments place (dropProducts n (getD segments place nowhere))) numbers (keep (λ l. not (eqb (l .number) n)) locks)
+      agree-drop =
+          record {
+            standing = keep (stays n) (c .standing);
+            home = c .home;
+            written = ap (keep (λ (l : Lock). not (eqb (l .number) n))) (c .written) ∙ keep-map (λ (l : Lock). not (eqb (l .number) n)) lockIn (c .standing);
+            rows = λ t. products-set segments place _ (indexOf-lt (hasLock n) segments there) t ∙ dropped-rows t;
+            sound = All-keep (Sound (c .home) numbers) (stays n) (c .standing) (c .sound);
+            rising = rising-keep (stays n) (c .standing) (c .rising);
+          }

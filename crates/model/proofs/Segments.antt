@@ -1,0 +1,108 @@
+-- The segments and the history's: the same owner, kind and key list at the same number, and each segment knows its number. Assumes nothing.
+use mathlib.Core.Path.{_≡_, refl, sym, ap, _∙_}
+use mathlib.Core.Bool.{Bool, true, false, cond}
+use mathlib.Core.List.{List, [], _∷_, _++_}
+use mathlib.Core.Option.{Option, none, some}
+use Prim.Native.Nat.{ℕ, zero, suc, _<_}
+use native.Mathlib.Nat.{le-of-suc-le-suc, not-suc-le-zero}
+use native.Mathlib.Omega.{arith}
+use lib.Dec.{eqb, eqb·suc-suc, eqb·suc-zero, eqb·zero-suc}
+use lib.ListN.{length, getD, set, getElem?}
+use borrow.Author.Tests.{eqb-true}
+use Rattle.model.specs.Lists.{put, adjust, Map, mapOption}
+use Rattle.model.specs.Model.{Segment, Guarded, nowhere}
+use Rattle.model.specs.History.{Entry}
+use Rattle.model.proofs.Lists.{caseBool, at-append-one, at-set, some-inj, some≢none}
+
+abbrev pub entryOf : Segment → Entry
+entryOf g = record { owner = g .owner; kind = g .kind; keys = g .keys }
+
+pub record AgreeSegments (segments : List Segment) (entries : Map Entry) : Type 0 where
+  pub listed : (s : ℕ) → entries s ≡ mapOption entryOf (getElem? segments s)
+  pub numbered : (s : ℕ) (g : Segment) → getElem? segments s ≡ some g → g .number ≡ s
+
+module _ (segments : List Segment) (entries : Map Entry) (c : AgreeSegments segments entries) where
+  -- N
+  pub agree-new : (g : Segment) → g .number ≡ length segments → AgreeSegments (segments ++ g ∷ []) (put entries (length segments) (entryOf g))
+  agree-new g h =
+      record {
+        listed = λ s. caseBool (eqb s (length segments)) (λ t. simp (at-append-one, t)) (λ t. simp (at-append-one, t) (c .listed s));
+        numbered = λ s k e. number s k (sym (at-append-one segments g s) ∙ e);
+      }
+    where
+      number : (s : ℕ) (k : Segment) → put (getElem? segments) (length segments) g s ≡ some k → k .number ≡ s
+      number s k e =
+          caseBool (eqb s (length segments))
+          (λ t. ap (λ (x : Segment). x .number) (sym (some-inj (rw t at e))) ∙ h ∙ sym (eqb-true s (length segments) t))
+          (λ t. c .numbered s k (rw t at e))
+
+  module _ (s : ℕ) (f : Segment → Segment) (same : (g : Segment) → f g .number ≡ g .number) where
+    abbrev changed : List Segment
+    changed = set segments s (f (getD segments s nowhere))
+
+    numbers : (j : ℕ) (k : Segment) → getElem? changed j ≡ some k → k .number ≡ j
+    numbers j k e = by (getElem? segments j) refl (sym (at-set segments s f nowhere j) ∙ e)
+      where
+        by : (o : Option Segment) → getElem? segments j ≡ o → adjust (getElem? segments) s f j ≡ some k → k .number ≡ j
+        by none q a = absurd (some≢none (sym (caseBool (eqb j s) (λ t. rw (t, q) at a) (λ t. rw (t, q) at a))))
+        by (some g) q a =
+            caseBool (eqb j s)
+            (λ t. ap (λ (x : Segment). x .number) (sym (some-inj (rw (t, q) at a))) ∙ same g ∙ c .numbered j g q)
+            (λ t. c .numbered j k (rw t at a))
+
+    -- a change of segment s that the history follows
+    pub agree-adjust : (F : Entry → Entry) → ((g : Segment) → entryOf (f g) ≡ F (entryOf g)) → AgreeSegments changed (adjust entries s F)
+    agree-adjust F h = record { listed = listed′; numbered = numbers }
+      where
+        square : (o : Option Segment) → mapOption F (mapOption entryOf o) ≡ mapOption entryOf (mapOption f o)
+        square none = refl
+        square (some g) = ap some (sym (h g))
+
+        listed′ : (j : ℕ) → adjust entries s F j ≡ mapOption entryOf (getElem? changed j)
+        listed′ j =
+            caseBool (eqb j s)
+            (λ t. simp (at-set segments s f nowhere j, t, c .listed j) (square (getElem? segments j)))
+            (λ t. simp (at-set segments s f nowhere j, t) (c .listed j))
+
+    -- a change that it doesn't see
+    pub agree-unseen : ((g : Segment) → entryOf (f g) ≡ entryOf g) → AgreeSegments changed entries
+    agree-unseen h = record { listed = listed′; numbered = numbers }
+      where
+        unseen : (o : Option Segment) → mapOption entryOf o ≡ mapOption entryOf (mapOption f o)
+        unseen none = refl
+        unseen (some g) = ap some (sym (h g))
+
+        listed′ : (j : ℕ) → entries j ≡ mapOption entryOf (getElem? changed j)
+        listed′ j =
+            caseBool (eqb j s)
+            (λ t. simp (at-set segments s f nowhere j, t) (c .listed j ∙ unseen (getElem? segments j)))
+            (λ t. simp (at-set segments s f nowhere j, t) (c .listed j))
+
+-- ---- the products of a segment's standing locks
+
+abbrev pub productsAt : List Segment → ℕ → List Guarded
+productsAt segments s = getD segments s nowhere .products
+
+pub products-append-one : (segments : List Segment) (g : Segment) → g .products ≡ [] → (s : ℕ) → productsAt (segments ++ g ∷ []) s ≡ productsAt segments s
+products-append-one [] g e zero = e
+products-append-one [] g e (suc s) = refl
+products-append-one (x ∷ xs) g e zero = refl
+products-append-one (x ∷ xs) g e (suc s) = products-append-one xs g e s
+
+-- a change of a segment changes its products as it says, and no other's
+pub products-set : (segments : List Segment) (i : ℕ) (g : Segment) → i < length segments
+    → (s : ℕ) → productsAt (set segments i g) s ≡ cond (eqb s i) (g .products) (productsAt segments s)
+products-set [] i g h s = absurd (not-suc-le-zero h)
+products-set (x ∷ xs) zero g h zero = refl
+products-set (x ∷ xs) zero g h (suc s) = simp eqb·suc-zero
+products-set (x ∷ xs) (suc i) g h zero = simp eqb·zero-suc
+products-set (x ∷ xs) (suc i) g h (suc s) = simp eqb·suc-suc (products-set xs i g (le-of-suc-le-suc h) s)
+
+-- a change that leaves the products alone
+pub products-same : (segments : List Segment) (i : ℕ) (f : Segment → Segment) → ((g : Segment) → f g .products ≡ g .products)
+    → (s : ℕ) → productsAt (set segments i (f (getD segments i nowhere))) s ≡ productsAt segments s
+products-same [] i f h s = refl
+products-same (x ∷ xs) zero f h zero = h x
+products-same (x ∷ xs) zero f h (suc s) = refl
+products-same (x ∷ xs) (suc i) f h zero = refl
+products-same (x ∷ xs) (suc i) f h (suc s) = products-same xs i f h s
