@@ -3,3 +3,4 @@ pub mod Examples
 pub mod Places
 pub mod Segments
 pub mod Locks
+pub mod Agreement

@@ -8,14 +8,14 @@ use mathlib.Core.Option.{Option, none, some}
 use Prim.Native.Nat.{ℕ, zero, suc, _%_, _≤_, _<_}
 use native.Mathlib.Omega.{arith}
 use lib.Dec.{eqb}
-use lib.ListN.{length, getD, set}
+use lib.ListN.{length, getD, set, length-set}
 use lib.Seq.{getD-set-same, getD-set-other}
 use borrow.Author.Tests.{eqb-true, eqb-false, eq-eqb, ne-eqb}
 use Rattle.model.specs.Lists.{any, isSome, indexOf, put, strike, adjust, Map, mapOption}
 use Rattle.model.specs.Limits.{mostThreads}
 use Rattle.model.specs.Threads.{Thread}
 use Rattle.model.specs.Model.{Place, free, taken, isFree, isThread, threadIn, placeFor, placeOf, findThread, onThread}
-use Rattle.model.proofs.Lists.{caseBool, clash, eqb-self}
+use Rattle.model.proofs.Lists.{caseBool, clash, eqb-self, indexOf-lt, indexOf-passes}
 
 -- ---- the place that passes a test
 
@@ -61,9 +61,52 @@ found-stands n places = go (getD places (placeOf n places) free) refl
         (λ q. simp q)
         (λ q. let z : _≡_ {A = Place} (taken k t) free = sym e ∙ place-none (isThread n) n places (ap (isThread n) e ∙ q) in absurd (let o : _≡_ {A = ℕ} 0 1 = cc in omega arith))
 
+-- a live thread's place
+pub record Lives (n : ℕ) (places : List Place) : Type 0 where
+  pub thread : Thread
+  pub taken-by : getD places (placeOf n places) free ≡ taken n thread
+  pub low : placeOf n places < length places
+  pub is-found : findThread n places ≡ some thread
+
+taken-low : (places : List Place) (i k : ℕ) (t : Thread) → getD places i free ≡ taken k t → i < length places
+taken-low [] i k t e = let z : _≡_ {A = ℕ} 0 1 = cc in absurd (omega arith)
+taken-low (x ∷ xs) zero k t e = omega arith
+taken-low (x ∷ xs) (suc i) k t e = let h = taken-low xs i k t e in omega arith
+
+pub lives : (n : ℕ) (places : List Place) → isSome (findThread n places) ≡ true → Lives n places
+lives n places h = go (getD places (placeOf n places) free) refl (sym (ap isSome (found-stands n places)) ∙ h)
+  where
+    go : (x : Place) → getD places (placeOf n places) free ≡ x → isSome (standing n (getD places (placeOf n places) free)) ≡ true → Lives n places
+    go free e s = absurd (false≢true (sym (ap (λ (y : Place). isSome (standing n y)) e) ∙ s))
+    go (taken k t) e s =
+        caseBool (eqb n k)
+        (λ q. record {
+          thread = t;
+          taken-by = e ∙ ap (λ (m : ℕ). taken m t) (sym (eqb-true n k q));
+          low = taken-low places (placeOf n places) k t e;
+          is-found = ap threadIn e;
+        })
+        (λ q. absurd (false≢true (sym (ap (λ (y : Place). isSome (standing n y)) e ∙ ap isSome (stands-not n k t q)) ∙ s)))
+
+-- a free place, where there is one among the 64
+pub record Spare (n : ℕ) (places : List Place) : Type 0 where
+  pub is-free : getD places (placeFor n isFree places) free ≡ free
+  pub low : placeFor n isFree places < length places
+
+pub spare : (n : ℕ) (places : List Place) → length places ≡ mostThreads → any isFree places ≡ true → Spare n places
+spare n places l h =
+    caseBool (isFree (getD places (n % mostThreads) free))
+    (λ e. let lt : n % mostThreads < length places = omega arith in record { is-free = simp e (really _ e); low = simp e lt })
+    (λ e. record { is-free = simp e (really _ (indexOf-passes isFree free places h)); low = simp e (indexOf-lt isFree places h) })
+  where
+    really : (x : Place) → isFree x ≡ true → x ≡ free
+    really free e = refl
+    really (taken k t) e = absurd (false≢true e)
+
 -- ---- the relation
 
 pub record AgreeThreads (places : List Place) (numbers : ℕ) (threads : Map Thread) : Type 0 where
+  pub count : length places ≡ mostThreads
   pub home : ℕ → ℕ
   pub written : (n : ℕ) → threads n ≡ standing n (getD places (home n) free)
   pub here : (i k : ℕ) (t : Thread) → getD places i free ≡ taken k t → home k ≡ i
@@ -115,7 +158,7 @@ module _ (places : List Place) (numbers : ℕ) (threads : Map Thread) (c : Agree
   -- S: a free place is taken by the number to be handed out
   pub agree-start : (i : ℕ) (t : Thread) → i < length places → getD places i free ≡ free
       → AgreeThreads (set places i (taken numbers t)) (suc numbers) (put threads numbers t)
-  agree-start i t low is-free = record { home = home′; written = written′; here = here′; below = below′ }
+  agree-start i t low is-free = record { count = length-set places i _ ∙ c .count; home = home′; written = written′; here = here′; below = below′ }
     where
       x : Place
       x = taken numbers t
@@ -151,7 +194,7 @@ module _ (places : List Place) (numbers : ℕ) (threads : Map Thread) (c : Agree
   -- C and R: the thread at its place changes
   pub agree-change : (n i : ℕ) (t : Thread) (f : Thread → Thread) → i < length places → getD places i free ≡ taken n t
       → AgreeThreads (set places i (taken n (f t))) numbers (adjust threads n f)
-  agree-change n i t f low e = record { home = c .home; written = written′; here = here′; below = below′ }
+  agree-change n i t f low e = record { count = length-set places i _ ∙ c .count; home = c .home; written = written′; here = here′; below = below′ }
     where
       at-home : c .home n ≡ i
       at-home = c .here i n t e
@@ -183,7 +226,7 @@ module _ (places : List Place) (numbers : ℕ) (threads : Map Thread) (c : Agree
   -- E: it is freed
   pub agree-end : (n i : ℕ) (t : Thread) → i < length places → getD places i free ≡ taken n t
       → AgreeThreads (set places i free) numbers (strike threads n)
-  agree-end n i t low e = record { home = c .home; written = written′; here = here′; below = below′ }
+  agree-end n i t low e = record { count = length-set places i _ ∙ c .count; home = c .home; written = written′; here = here′; below = below′ }
     where
       at-home : c .home n ≡ i
       at-home = c .here i n t e
