@@ -1,4 +1,6 @@
 pub mod Lists
+pub mod Refusing
+pub mod Bounds
 pub mod Examples
 pub mod Places
 pub mod Segments

@@ -1,0 +1,340 @@
+-- The limits, by an invariant that every accepted call keeps: a call that adds something was not refused by 10, which is its limit, and the
+-- others add nothing. There are always 64 places, so no more threads live; and the frames are bounded place by place. Assumes nothing.
+use mathlib.Core.Path.{_≡_, refl, ap, _∙_}
+use mathlib.Core.Bool.{Bool, false, not}
+use mathlib.Core.List.{List, [], _∷_, _++_, map}
+use mathlib.Core.Option.{Option, none, some}
+use Prim.Native.Nat.{ℕ, zero, suc, _+_, _≤_, zero-le, suc-le-suc}
+use native.Mathlib.Omega.{arith}
+use lib.ListN.{length, getD, set, replicate, length-append, length-set, length-map, length-replicate}
+use borrow.Author.Tests.{ltb-false}
+use Rattle.product.specs.declared.literal.Key.the-variants.{Defined}
+use Rattle.product.specs.Sum.{Sum}
+use Rattle.formula.specs.Outcome.{outcomeOf, sumIn}
+use Rattle.formula.specs.Compiler.{Compiler}
+use Rattle.call.specs.declared.request.Request.{Request}
+use Rattle.call.specs.declared.request.Request.the-variants.{NewUser, StartThread, EndThread, NewSegment, NewKey, GiveKey, TakeKey, AddLock, DropLock, CallSegment, ReturnCall, Access}
+use Rattle.call.specs.declared.request.Decoded.{Decoded}
+use Rattle.call.specs.declared.request.Decoded.the-variants.{WellFormed, Corrupt as NotWellFormed}
+use Rattle.call.specs.Calls.{Call}
+use Rattle.call.specs.Conditions.{firstRefusal}
+use Rattle.call.proofs.Conditions.{all-fail}
+use Rattle.call.proofs.Truth.{neither}
+use Rattle.model.specs.declared.answer.Refusal.{Refusal}
+use Rattle.model.specs.Lists.{any, keep, orDefault, tailOf}
+use Rattle.model.specs.Limits.{mostUsers, mostThreads, mostSegments, mostDefined, mostListed, mostProducts, mostFrames, mostNumbers, passes}
+use Rattle.model.specs.Threads.{Thread, sameKey}
+use Rattle.model.specs.Model.{State, emptyState, Segment, nowhere, segmentAt, Place, free, taken, isFree, threadIn, nobody, placeFor, placeOf, threadAt, isOf, homeOf, issued, conditions, withPlaces, withSegments, onSegment, onThread, atPlace, pushFrame, popFrame, giveKey, takeKey, guarded, addProducts, dropProducts, update, judged, stepDecoded, step}
+use Rattle.model.specs.Replay.{decoded, stateAfter}
+use Rattle.model.specs.Bounds.{liveIn, Within, BoundsAlways, Bounds}
+use Rattle.model.proofs.Lists.{caseBool}
+
+-- ---- laws of lists
+
+module _ {A : Type 0} where
+  length-keep : (p : A → Bool) (xs : List A) → length (keep p xs) ≤ length xs
+  length-keep p [] = zero-le
+  length-keep p (x ∷ xs) =
+      let h : length (keep p xs) ≤ length xs = length-keep p xs in
+      caseBool (p x) (λ e. simp e (suc-le-suc h)) (λ e. simp e (omega arith))
+
+  length-append-one : (xs : List A) (x : A) → length (xs ++ x ∷ []) ≡ suc (length xs)
+  length-append-one [] x = refl
+  length-append-one (y ∷ ys) x = ap suc (length-append-one ys x)
+
+  length-tailOf : (xs : List A) → length (tailOf xs) ≤ length xs
+  length-tailOf [] = zero-le
+  length-tailOf (x ∷ xs) = omega arith
+
+  -- what holds wherever a list is read, beyond its end as well
+  abbrev Everywhere : (A → Type 0) → A → List A → Type 0
+  Everywhere P d xs = (i : ℕ) → P (getD xs i d)
+
+  everywhere-set : (P : A → Type 0) (d : A) (xs : List A) → Everywhere P d xs → (i : ℕ) (x : A) → P x → Everywhere P d (set xs i x)
+  everywhere-set P d [] h i x p j = h j
+  everywhere-set P d (y ∷ ys) h zero x p zero = p
+  everywhere-set P d (y ∷ ys) h zero x p (suc j) = h (suc j)
+  everywhere-set P d (y ∷ ys) h (suc i) x p zero = h zero
+  everywhere-set P d (y ∷ ys) h (suc i) x p (suc j) = everywhere-set P d ys (λ k. h (suc k)) i x p j
+
+  everywhere-append-one : (P : A → Type 0) (d : A) (xs : List A) → Everywhere P d xs → (x : A) → P x → Everywhere P d (xs ++ x ∷ [])
+  everywhere-append-one P d [] h x p zero = p
+  everywhere-append-one P d [] h x p (suc j) = h j
+  everywhere-append-one P d (y ∷ ys) h x p zero = h zero
+  everywhere-append-one P d (y ∷ ys) h x p (suc j) = everywhere-append-one P d ys (λ k. h (suc k)) x p j
+
+  everywhere-replicate : (P : A → Type 0) (d : A) → P d → (n : ℕ) → Everywhere P d (replicate n d)
+  everywhere-replicate P d p zero i = p
+  everywhere-replicate P d p (suc n) zero = p
+  everywhere-replicate P d p (suc n) (suc i) = everywhere-replicate P d p n i
+
+-- ---- the invariant
+
+abbrev occupant : Place → Thread
+occupant p = orDefault nobody (λ t. t) (threadIn p)
+
+abbrev Shallow : Place → Type 0
+Shallow p = length (occupant p .frames) ≤ mostFrames
+
+record PlacesKept (places : List Place) : Type 0 where
+  pub count : length places ≡ mostThreads
+  pub frames : Everywhere Shallow free places
+
+record SegmentKept (g : Segment) : Type 0 where
+  pub listed : length (g .keys) ≤ mostListed
+  pub products : length (g .products) ≤ mostProducts
+
+record SegmentsKept (segments : List Segment) : Type 0 where
+  pub count : length segments ≤ mostSegments
+  pub each : Everywhere SegmentKept nowhere segments
+
+record Kept (d : State) : Type 0 where
+  pub users : d .users ≤ mostUsers
+  pub threadNumbers : d .threadNumbers ≤ mostNumbers
+  pub lockNumbers : d .lockNumbers ≤ mostNumbers
+  pub defined : length (d .makers) ≤ mostDefined
+  pub segments : SegmentsKept (d .segments)
+  pub places : PlacesKept (d .places)
+
+kept-empty : Kept emptyState
+kept-empty =
+    record {
+      users = zero-le;
+      threadNumbers = zero-le;
+      lockNumbers = zero-le;
+      defined = zero-le;
+      segments = record { count = zero-le; each = λ s. record { listed = zero-le; products = zero-le } };
+      places = record { count = length-replicate mostThreads free; frames = everywhere-replicate Shallow free zero-le mostThreads };
+    }
+
+kept-within : (d : State) → Kept d → Within d
+kept-within d k =
+    let live : liveIn (d .places) ≤ length (d .places) = length-keep (λ p. not (isFree p)) (d .places) in
+    let places : length (d .places) ≡ mostThreads = k .places .count in
+    record {
+      users = k .users;
+      threads = omega arith;
+      segments = k .segments .count;
+      defined = k .defined;
+      listed = λ s. k .segments .each s .listed;
+      products = λ s. k .segments .each s .products;
+      frames = λ n. k .places .frames (placeOf n (d .places));
+      threadNumbers = k .threadNumbers;
+      lockNumbers = k .lockNumbers;
+    }
+
+-- ---- each part under each kind of change
+
+places-set : (places : List Place) → PlacesKept places → (i : ℕ) (p : Place) → Shallow p → PlacesKept (set places i p)
+places-set places k i p h =
+    record { count = length-set places i p ∙ k .count; frames = everywhere-set Shallow free places (k .frames) i p h }
+
+shallow-push : (g : Segment) (p : Place) → suc (length (occupant p .frames)) ≤ mostFrames → Shallow (onThread (pushFrame g) p)
+shallow-push g free h = zero-le
+shallow-push g (taken n t) h = h
+
+shallow-pop : (p : Place) → Shallow p → Shallow (onThread popFrame p)
+shallow-pop free h = zero-le
+shallow-pop (taken n t) h = let l : length (tailOf (t .frames)) ≤ length (t .frames) = length-tailOf (t .frames) in omega arith
+
+segments-set : (segments : List Segment) → SegmentsKept segments → (s : ℕ) (g : Segment) → SegmentKept g → SegmentsKept (set segments s g)
+segments-set segments k s g h =
+    let same : length (set segments s g) ≡ length segments = length-set segments s g in
+    let c : length segments ≤ mostSegments = k .count in
+    record { count = omega arith; each = everywhere-set SegmentKept nowhere segments (k .each) s g h }
+
+segments-add : (segments : List Segment) → SegmentsKept segments → (g : Segment) → SegmentKept g → suc (length segments) ≤ mostSegments
+    → SegmentsKept (segments ++ g ∷ [])
+segments-add segments k g h c =
+    let more : length (segments ++ g ∷ []) ≡ suc (length segments) = length-append-one segments g in
+    record { count = omega arith; each = everywhere-append-one SegmentKept nowhere segments (k .each) g h }
+
+give-kept : (k : ℕ) (g : Segment) → SegmentKept g → suc (length (g .keys)) ≤ mostListed → SegmentKept (giveKey k g)
+give-kept k g h c =
+    let more : length (g .keys ++ Defined k ∷ []) ≡ suc (length (g .keys)) = length-append-one (g .keys) (Defined k) in
+    record { listed = omega arith; products = h .products }
+
+take-kept : (k : ℕ) (g : Segment) → SegmentKept g → SegmentKept (takeKey k g)
+take-kept k g h =
+    let fewer : length (takeKey k g .keys) ≤ length (g .keys) = length-keep (λ j. not (sameKey (Defined k) j)) (g .keys) in
+    let c : length (g .keys) ≤ mostListed = h .listed in
+    record { listed = omega arith; products = h .products }
+
+add-kept : (lock operations : ℕ) (ps : Sum) (g : Segment) → SegmentKept g → length (g .products) + length ps ≤ mostProducts
+    → SegmentKept (addProducts lock operations ps g)
+add-kept lock operations ps g h c =
+    let added = map (guarded lock operations) ps in
+    let more : length (g .products ++ added) ≡ length (g .products) + length added = length-append (g .products) added in
+    let same : length added ≡ length ps = length-map ps (guarded lock operations) in
+    record { listed = h .listed; products = omega arith }
+
+drop-kept : (n : ℕ) (g : Segment) → SegmentKept g → SegmentKept (dropProducts n g)
+drop-kept n g h =
+    let fewer : length (dropProducts n g .products) ≤ length (g .products) = length-keep (λ r. not (isOf n r)) (g .products) in
+    let c : length (g .products) ≤ mostProducts = h .products in
+    record { listed = h .listed; products = omega arith }
+
+-- ---- each request
+
+-- 'accepting would pass a limit' is false
+not-passed : (most n : ℕ) → passes most n ≡ false → n ≤ most
+not-passed most n h = ltb-false most n h
+
+module _ (compile : Compiler) (d : State) (k : Kept d) (text : List ℕ) where
+  -- an accepted q keeps the invariant
+  abbrev Keeps : Request → Type 0
+  Keeps q = firstRefusal (conditions compile d q text) ≡ none → Kept (update compile d q text)
+
+  with-places : (places : List Place) → PlacesKept places → Kept (withPlaces d places)
+  with-places places h =
+      record { users = k .users; threadNumbers = k .threadNumbers; lockNumbers = k .lockNumbers; defined = k .defined; segments = k .segments; places = h }
+
+  with-segments : (segments : List Segment) → SegmentsKept segments → Kept (withSegments d segments)
+  with-segments segments h =
+      record { users = k .users; threadNumbers = k .threadNumbers; lockNumbers = k .lockNumbers; defined = k .defined; segments = h; places = k .places }
+
+  at-place : (a : ℕ) (f : Place → Place) → Shallow (f (getD (d .places) (placeOf a (d .places)) free)) → Kept (atPlace d a f)
+  at-place a f h = with-places _ (places-set (d .places) (k .places) (placeOf a (d .places)) _ h)
+
+  on-segment : (s : ℕ) (f : Segment → Segment) → SegmentKept (f (segmentAt d s)) → Kept (onSegment d s f)
+  on-segment s f h = with-segments _ (segments-set (d .segments) (k .segments) s (f (segmentAt d s)) h)
+
+  keep-user : Keeps NewUser
+  unfolding conditions update
+  keep-user e =
+      record {
+        users = not-passed mostUsers (suc (d .users)) (all-fail (conditions compile d NewUser text) e .0);
+        threadNumbers = k .threadNumbers;
+        lockNumbers = k .lockNumbers;
+        defined = k .defined;
+        segments = k .segments;
+        places = k .places;
+      }
+
+  keep-start : (a : ℕ) → Keeps (StartThread a)
+  unfolding conditions update
+  keep-start a e =
+      let full = all-fail (conditions compile d (StartThread a) text) e .1 .0 in
+      let numbers = neither (not (any isFree (d .places))) (passes mostNumbers (suc (d .threadNumbers))) full .1 in
+      record {
+        users = k .users;
+        threadNumbers = not-passed mostNumbers (suc (d .threadNumbers)) numbers;
+        lockNumbers = k .lockNumbers;
+        defined = k .defined;
+        segments = k .segments;
+        places = places-set (d .places) (k .places) (placeFor (d .threadNumbers) isFree (d .places)) _ zero-le;
+      }
+
+  keep-end : (a : ℕ) → Keeps (EndThread a)
+  unfolding conditions update
+  keep-end a e = at-place a (λ p. free) zero-le
+
+  keep-segment : (a b : ℕ) → Keeps (NewSegment a b)
+  unfolding conditions update
+  keep-segment a b e =
+      let full = all-fail (conditions compile d (NewSegment a b) text) e .1 .1 .0 in
+      let room = not-passed mostSegments (suc (length (d .segments))) full in
+      with-segments _ (segments-add (d .segments) (k .segments) _ (record { listed = suc-le-suc zero-le; products = zero-le }) room)
+
+  keep-key : (a : ℕ) → Keeps (NewKey a)
+  unfolding conditions update
+  keep-key a e =
+      let more : length (d .makers ++ a ∷ []) ≡ suc (length (d .makers)) = length-append-one (d .makers) a in
+      let full = all-fail (conditions compile d (NewKey a) text) e .1 .0 in
+      let room : suc (length (d .makers)) ≤ mostDefined = not-passed mostDefined (suc (length (d .makers))) full in
+      record {
+        users = k .users;
+        threadNumbers = k .threadNumbers;
+        lockNumbers = k .lockNumbers;
+        defined = omega arith;
+        segments = k .segments;
+        places = k .places;
+      }
+
+  keep-give : (a b c : ℕ) → Keeps (GiveKey a b c)
+  unfolding conditions update
+  keep-give a b c e =
+      let full = all-fail (conditions compile d (GiveKey a b c) text) e .1 .1 .1 .1 .1 .0 in
+      let room = not-passed mostListed (suc (length (segmentAt d b .keys))) full in
+      on-segment b (giveKey c) (give-kept c (segmentAt d b) (k .segments .each b) room)
+
+  keep-take : (a b c : ℕ) → Keeps (TakeKey a b c)
+  unfolding conditions update
+  keep-take a b c e = on-segment b (takeKey c) (take-kept c (segmentAt d b) (k .segments .each b))
+
+  keep-lock : (a b c : ℕ) → Keeps (AddLock a b c)
+  unfolding conditions update
+  keep-lock a b c e =
+      let ps = sumIn (compile (issued d) text) in
+      let n = length (segmentAt d b .products) + length ps in
+      let full = all-fail (conditions compile d (AddLock a b c) text) e .1 .1 .1 .1 .1 .1 .1 .0 in
+      let (products, numbers) = neither (passes mostProducts n) (passes mostNumbers (suc (d .lockNumbers))) full in
+      let more = add-kept (d .lockNumbers) c ps (segmentAt d b) (k .segments .each b) (not-passed mostProducts n products) in
+      record {
+        users = k .users;
+        threadNumbers = k .threadNumbers;
+        lockNumbers = not-passed mostNumbers (suc (d .lockNumbers)) numbers;
+        defined = k .defined;
+        segments = segments-set (d .segments) (k .segments) b _ more;
+        places = k .places;
+      }
+
+  keep-drop : (a b : ℕ) → Keeps (DropLock a b)
+  unfolding conditions update
+  keep-drop a b e = on-segment (homeOf d b) (dropProducts b) (drop-kept b (segmentAt d (homeOf d b)) (k .segments .each (homeOf d b)))
+
+  keep-call : (a b : ℕ) → Keeps (CallSegment a b)
+  unfolding conditions update
+  keep-call a b e =
+      let full = all-fail (conditions compile d (CallSegment a b) text) e .1 .1 .1 .1 .1 .0 in
+      let room = not-passed mostFrames (suc (length (threadAt d a .frames))) full in
+      let g = segmentAt d b in
+      at-place a (onThread (pushFrame g)) (shallow-push g (getD (d .places) (placeOf a (d .places)) free) room)
+
+  keep-return : (a : ℕ) → Keeps (ReturnCall a)
+  unfolding conditions update
+  keep-return a e =
+      let i = placeOf a (d .places) in
+      at-place a (onThread popFrame) (shallow-pop (getD (d .places) i free) (k .places .frames i))
+
+  keep-access : (a b c : ℕ) → Keeps (Access a b c)
+  unfolding conditions update
+  keep-access a b c e = k
+
+  keep-accepted : (q : Request) → Keeps q
+  keep-accepted NewUser = keep-user
+  keep-accepted (StartThread a) = keep-start a
+  keep-accepted (EndThread a) = keep-end a
+  keep-accepted (NewSegment a b) = keep-segment a b
+  keep-accepted (NewKey a) = keep-key a
+  keep-accepted (GiveKey a b c) = keep-give a b c
+  keep-accepted (TakeKey a b c) = keep-take a b c
+  keep-accepted (AddLock a b c) = keep-lock a b c
+  keep-accepted (DropLock a b) = keep-drop a b
+  keep-accepted (CallSegment a b) = keep-call a b
+  keep-accepted (ReturnCall a) = keep-return a
+  keep-accepted (Access a b c) = keep-access a b c
+
+  -- ---- each call, accepted or not
+
+  keep-judged : (q : Request) (o : Option Refusal) → firstRefusal (conditions compile d q text) ≡ o → Kept (judged compile d q text o .state)
+  keep-judged q none e = keep-accepted q e
+  keep-judged q (some r) e = k
+
+  keep-decoded : (x : Decoded) → Kept (stepDecoded compile d x text .state)
+  keep-decoded NotWellFormed = k
+  keep-decoded (WellFormed q) = keep-judged q (firstRefusal (conditions compile d q text)) refl
+
+keep-step : (compile : Compiler) (d : State) → Kept d → (x : Call) → Kept (step compile d x .state)
+unfolding step
+keep-step compile d k x = keep-decoded compile d k (x .text) (decoded x)
+
+keep-calls : (compile : Compiler) (d : State) → Kept d → (xs : List Call) → Kept (stateAfter compile d xs)
+keep-calls compile d k [] = k
+keep-calls compile d k (x ∷ xs) = keep-calls compile (step compile d x .state) (keep-step compile d k x) xs
+
+pub bounds-always : BoundsAlways
+bounds-always compile xs = kept-within (stateAfter compile emptyState xs) (keep-calls compile emptyState kept-empty xs)
+
+pub bounds : Bounds
+bounds = bounds-always outcomeOf
