@@ -118,7 +118,7 @@ kept-within d k =
       defined = k .defined;
       listed = λ s. k .segments .each s .listed;
       products = λ s. k .segments .each s .products;
-      frames = λ n. k .places .frames (placeOf n (d .places));
+      frames = λ i n t e. rw e at (k .places .frames i);
       threadNumbers = k .threadNumbers;
       lockNumbers = k .lockNumbers;
     }
@@ -335,6 +335,3 @@ keep-calls compile d k (x ∷ xs) = keep-calls compile (step compile d x .state)
 
 pub bounds-always : BoundsAlways
 bounds-always compile xs = kept-within (stateAfter compile emptyState xs) (keep-calls compile emptyState kept-empty xs)
-
-pub bounds : Bounds
-bounds = bounds-always outcomeOf

@@ -2,12 +2,13 @@
 -- of the table itself only two facts are read off, request by request: no condition refuses by 18, and the numbers rise. Assumes nothing.
 use mathlib.Core.Path.{_≡_, refl, sym, ap, _∙_}
 use mathlib.Core.Bool.{Bool, true, false}
-use mathlib.Core.List.{List, [], _∷_}
+use mathlib.Core.List.{List, [], _∷_, List·Memᴰ, List·Memᴰ·head, List·Memᴰ·tail}
 use mathlib.Core.Option.{Option, none, some, Option·some-inj}
 use mathlib.Core.Logic.{_↔_}
-use Prim.Native.Nat.{ℕ}
+use Prim.Native.Nat.{ℕ, _≤_}
 use native.Mathlib.Omega.{arith}
-use lib.Dec.{eqb}
+use lib.Dec.{eqb, ltb}
+use borrow.Author.Tests.{ltb-true}
 use Rattle.formula.specs.Compiler.{Compiler}
 use Rattle.call.specs.declared.request.Request.{Request}
 use Rattle.call.specs.declared.request.Request.the-variants.{NewUser, StartThread, EndThread, NewSegment, NewKey, GiveKey, TakeKey, AddLock, DropLock, CallSegment, ReturnCall, Access}
@@ -16,7 +17,7 @@ use Rattle.call.specs.declared.request.Decoded.the-variants.{WellFormed, Corrup
 use Rattle.call.specs.Calls.{Call}
 use Rattle.call.specs.Conditions.{Condition, firstRefusal}
 use Rattle.call.proofs.Conditions.{first-later, all-fail, none-first}
-use Rattle.call.proofs.Truth.{neither}
+use Rattle.call.proofs.Truth.{and-left, and-right, neither}
 use Rattle.model.specs.declared.answer.Refusal.{Refusal}
 use Rattle.model.specs.declared.answer.Refusal.the-variants.{Corrupt}
 use Rattle.model.specs.declared.answer.Answer.the-variants.{Refused}
@@ -25,7 +26,7 @@ use Rattle.model.specs.Lists.{any}
 use Rattle.model.specs.Model.{State, conditions}
 use Rattle.model.specs.Cells.{Cells, stateOf, judgedCells, stepCellsDecoded, stepCells}
 use Rattle.model.specs.Replay.{decoded}
-use Rattle.model.specs.Refusing.{someHolds, FirstHolds, Refusing, InOrder}
+use Rattle.model.specs.Refusing.{someHolds, FirstHolds, rank, ranks, rising, Refusing, InOrder}
 use Rattle.model.proofs.Lists.{caseBool, clash}
 
 -- ---- the first condition that holds
@@ -65,6 +66,34 @@ refusal-in p r [] h e = cc
 refusal-in p r (c ∷ cs) h e =
     let (here, there) = neither (p (c .refusal)) (any (λ c. p (c .refusal)) cs) h in
     caseBool (c .holds) (λ t. ap p (sym (Option·some-inj .0 (rw t at e))) ∙ here) (λ f. refusal-in p r cs there (rw f at e))
+
+-- where the ranks rise, the first that holds has the least rank of those that do
+rising-tail : (m : ℕ) (ns : List ℕ) → rising (m ∷ ns) ≡ true → rising ns ≡ true
+rising-tail m [] h = refl
+rising-tail m (n ∷ ns) h = and-right (ltb m n) (rising (n ∷ ns)) h
+
+rising-least : (m : ℕ) (c : Condition Refusal) (cs : List (Condition Refusal)) → rising (m ∷ ranks cs) ≡ true → List·Memᴰ c cs
+    → m ≤ rank (c .refusal)
+rising-least m c (x ∷ xs) h (List·Memᴰ·head e) =
+    let l = ltb-true m (rank (x .refusal)) (and-left (ltb m (rank (x .refusal))) _ h) in
+    let s : rank (c .refusal) ≡ rank (x .refusal) = ap (λ (y : Condition Refusal). rank (y .refusal)) e in
+    omega arith
+rising-least m c (x ∷ xs) h (List·Memᴰ·tail i) =
+    let l = ltb-true m (rank (x .refusal)) (and-left (ltb m (rank (x .refusal))) _ h) in
+    let r : rank (x .refusal) ≤ rank (c .refusal) = rising-least (rank (x .refusal)) c xs (rising-tail m (ranks (x ∷ xs)) h) i in
+    omega arith
+
+first-least : (r : Refusal) (cs : List (Condition Refusal)) → rising (ranks cs) ≡ true → firstRefusal cs ≡ some r
+    → (c : Condition Refusal) → List·Memᴰ c cs → c .holds ≡ true → rank r ≤ rank (c .refusal)
+first-least r (x ∷ xs) h e c (List·Memᴰ·head p) t =
+    let s : x .holds ≡ true = ap (λ (y : Condition Refusal). y .holds) (sym p) ∙ t in
+    let q : rank r ≡ rank (c .refusal) = ap rank (sym (Option·some-inj .0 (rw s at e))) ∙ ap (λ (y : Condition Refusal). rank (y .refusal)) (sym p) in
+    omega arith
+first-least r (x ∷ xs) h e c (List·Memᴰ·tail i) t =
+    caseBool (x .holds)
+    (λ s. let q : rank r ≡ rank (x .refusal) = ap rank (sym (Option·some-inj .0 (rw s at e))) in
+    let l : rank (x .refusal) ≤ rank (c .refusal) = rising-least (rank (x .refusal)) c xs h i in omega arith)
+    (λ s. first-least r xs (rising-tail (rank (x .refusal)) (ranks xs) h) (rw s at e) c i t)
 
 -- ---- the table
 
@@ -156,11 +185,18 @@ module _ (compile : Compiler) (d : Cells) where
       let same = ap isAccepted (answer-decoded x (WellFormed q) e) in
       (λ h. none-holds cs (to (sym same ∙ h)), λ k. same ∙ from (none-refuses cs k))
 
+  call-earliest : (x : Call) (q : Request) → decoded x ≡ WellFormed q → (r : Refusal) → stepCells compile d x .answer ≡ Refused r
+      → (c : Condition Refusal) → List·Memᴰ c (conditions compile (stateOf d) q (x .text)) → c .holds ≡ true → rank r ≤ rank (c .refusal)
+  call-earliest x q e r h =
+      let cs = conditions compile (stateOf d) q (x .text) in
+      first-least r cs (in-order compile (stateOf d) q (x .text)) (judged-refused q (x .text) (firstRefusal cs) r .0 (sym (answer-decoded x (WellFormed q) e) ∙ h))
+
 pub refusing : Refusing
 refusing compile d x =
     record {
       corrupt = call-corrupt compile d x;
       refused = call-refused compile d x;
       accepted = call-accepted compile d x;
+      earliest = call-earliest compile d x;
       unchanged = call-unchanged compile d x;
     }

@@ -7,7 +7,7 @@ use mathlib.Core.Path.{_≡_}
 use mathlib.Core.Bool.{Bool, true, false, _&&_, not}
 use mathlib.Core.List.{List, List·Memᴰ}
 use mathlib.Core.Logic.{_↔_}
-use mathlib.Core.Option.{some}
+use mathlib.Core.Option.{Option, none, some}
 use Prim.Native.Nat.{ℕ}
 use lib.Dec.{eqb, ltb}
 use lib.ListN.{length}
@@ -18,8 +18,11 @@ use Rattle.call.specs.declared.request.Request.{Request}
 use Rattle.call.specs.declared.request.Request.the-variants.{CallSegment, Access}
 use Rattle.call.specs.declared.request.Decoded.the-variants.{WellFormed}
 use Rattle.call.specs.Calls.{Call}
+use Rattle.model.specs.declared.answer.Refusal.the-variants.{Full, Denied, NotGranted}
+use Rattle.model.specs.declared.answer.Answer.{Answer}
+use Rattle.model.specs.declared.answer.Answer.the-variants.{Accepted, Refused}
 use Rattle.model.specs.Answers.{isAccepted}
-use Rattle.model.specs.Lists.{any}
+use Rattle.model.specs.Lists.{any, first}
 use Rattle.model.specs.Limits.{mostFrames}
 use Rattle.model.specs.Operations.{execute, denies, grants, takes, isAccess}
 use Rattle.model.specs.Threads.{Thread, keySet}
@@ -84,17 +87,31 @@ pub record Granted (holds : Meaning) (h : History) (o : Operation) (t : Thread) 
   pub opens : lockOpens holds grants o t lock ≡ true
   pub room : hasRoom o t ≡ true
 
--- after the calls xs, for the next call: once as an equation and once in words. 'Granted means accepted.'
-pub record Grants (compile : Compiler) (holds : Meaning) (xs : List Call) (next : Call) : Type 0 where
-  pub equation : (o : Operation) (t : Thread) → Fits (historyOf compile xs) next o → historyOf compile xs .threads (threadOf o) ≡ some t
-      → isAccepted (answerTo compile xs next) ≡ granted holds (historyOf compile xs) o t
-  pub exactly : (o : Operation) (t : Thread) → Fits (historyOf compile xs) next o → historyOf compile xs .threads (threadOf o) ≡ some t
-      → (isAccepted (answerTo compile xs next) ≡ true) ↔ Granted holds (historyOf compile xs) o t
+-- a check's answer: 'If a deny lock opens, the lowest one's number goes with refusal 14. Otherwise the lowest opening grant lock is the answer,
+-- and 15 if none opens.' Then comes 10.
+abbrev pub verdict : Option Lock → Option Lock → Bool → Answer
+verdict (some l) g room = Refused (Denied (l .number))
+verdict none none room = Refused NotGranted
+verdict none (some l) false = Refused Full
+verdict none (some l) true = Accepted (l .number)
+
+-- The standing locks are in the order of their numbers (`Numbering`), so the first that opens is the lowest.
+abbrev pub answerFrom : Meaning → History → Operation → Thread → Answer
+answerFrom holds h o t = verdict (first (lockOpens holds denies o t) (h .locks)) (first (lockOpens holds grants o t) (h .locks)) (hasRoom o t)
+
+-- what the history h says of the next call's answer r: whether it is granted, as an equation and in words ('Granted means accepted'), and the
+-- whole answer
+pub record Grants (holds : Meaning) (h : History) (next : Call) (r : Answer) : Type 0 where
+  pub equation : (o : Operation) (t : Thread) → Fits h next o → h .threads (threadOf o) ≡ some t → isAccepted r ≡ granted holds h o t
+  pub exactly : (o : Operation) (t : Thread) → Fits h next o → h .threads (threadOf o) ≡ some t → (isAccepted r ≡ true) ↔ Granted holds h o t
+  pub answer : (o : Operation) (t : Thread) → Fits h next o → h .threads (threadOf o) ≡ some t → r ≡ answerFrom holds h o t
 
 -- for whatever compiler keeps the laws
 abbrev pub GrantingByLaws : Type 0
-GrantingByLaws = (compile : Compiler) (holds : Meaning) → Laws compile holds → (xs : List Call) (next : Call) → Grants compile holds xs next
+GrantingByLaws =
+    (compile : Compiler) (holds : Meaning) → Laws compile holds → (xs : List Call) (next : Call)
+    → Grants holds (historyOf compile xs) next (answerTo compile xs next)
 
 -- and so for the compiler that there is
 abbrev pub Granting : Type 0
-Granting = (xs : List Call) (next : Call) → Grants outcomeOf textHolds xs next
+Granting = (xs : List Call) (next : Call) → Grants textHolds (historyOf outcomeOf xs) next (answerTo outcomeOf xs next)

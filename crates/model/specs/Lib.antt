@@ -8,8 +8,8 @@ pub mod Cells
 pub mod History
 pub mod Replay
 pub mod Granting
-pub mod Numbering
 pub mod Refusing
+pub mod Numbering
 pub mod Refinement
 pub mod Bounds
 pub mod Examples

@@ -279,6 +279,10 @@ pushFrame g t = record { user = t .user; frames = record { segment = g .number; 
 abbrev pub popFrame : Thread → Thread
 popFrame t = record { user = t .user; frames = tailOf (t .frames) }
 
+abbrev pub newest : List Frame → ℕ
+newest [] = 0
+newest (f ∷ fs) = f .segment
+
 abbrev pub withKeys : Segment → List Key → Segment
 withKeys g keys = record { number = g .number; owner = g .owner; kind = g .kind; keys = keys; products = g .products }
 
@@ -363,10 +367,6 @@ module _ (compile : Compiler) where
   answer d (DropLock a b) text = length (keep (isOf b) (segmentAt d (homeOf d b) .products))
   answer d (CallSegment a b) text = lockOf (opening d grants a b execute)
   answer d (ReturnCall a) text = newest (threadAt d a .frames)
-    where
-      newest : List Frame → ℕ
-      newest [] = 0
-      newest (f ∷ fs) = f .segment
   answer d (Access a b c) text = lockOf (opening d grants a b c)
 
   -- ---- one call

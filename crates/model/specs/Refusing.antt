@@ -3,9 +3,9 @@
 -- compiler. Proved in `proofs/Refusing.antt`. Assumes nothing.
 use mathlib.Core.Path.{_≡_}
 use mathlib.Core.Bool.{Bool, true, false, _&&_, cond}
-use mathlib.Core.List.{List, [], _∷_, _++_, map}
+use mathlib.Core.List.{List, [], _∷_, _++_, map, List·Memᴰ}
 use mathlib.Core.Logic.{_↔_}
-use Prim.Native.Nat.{ℕ}
+use Prim.Native.Nat.{ℕ, _≤_}
 use lib.Dec.{eqb, ltb}
 use Rattle.formula.specs.Compiler.{Compiler}
 use Rattle.call.specs.declared.request.Request.{Request}
@@ -34,6 +34,10 @@ pub record FirstHolds (r : Refusal) (cs : List (Condition Refusal)) : Type 0 whe
   pub holds : condition .holds ≡ true
   pub refusal : condition .refusal ≡ r
 
+-- the table's order: 'Checked in that order, 10 last'
+abbrev pub rank : Refusal → ℕ
+rank r = let n = refusalNumber r in cond (eqb n 10) 19 n
+
 pub record Refuses (compile : Compiler) (d : Cells) (x : Call) : Type 0 where
   -- 18 'before all else', exactly where the call is not well formed
   pub corrupt : (stepCells compile d x .answer ≡ Refused Corrupt) ↔ (decoded x ≡ NotWellFormed)
@@ -42,20 +46,23 @@ pub record Refuses (compile : Compiler) (d : Cells) (x : Call) : Type 0 where
       → (stepCells compile d x .answer ≡ Refused r) ↔ FirstHolds r (conditions compile (stateOf d) q (x .text))
   pub accepted : (q : Request) → decoded x ≡ WellFormed q
       → (isAccepted (stepCells compile d x .answer) ≡ true) ↔ (someHolds (conditions compile (stateOf d) q (x .text)) ≡ false)
+  -- no condition that holds is earlier in the table
+  pub earliest : (q : Request) → decoded x ≡ WellFormed q → (r : Refusal) → stepCells compile d x .answer ≡ Refused r
+      → (c : Condition Refusal) → List·Memᴰ c (conditions compile (stateOf d) q (x .text)) → c .holds ≡ true → rank r ≤ rank (c .refusal)
   -- a refusal changes no cell
   pub unchanged : (r : Refusal) → stepCells compile d x .answer ≡ Refused r → stepCells compile d x .cells ≡ d
 
 abbrev pub Refusing : Type 0
 Refusing = (compile : Compiler) (d : Cells) (x : Call) → Refuses compile d x
 
--- the table's order: 'Checked in that order, 10 last'
-abbrev pub rank : Refusal → ℕ
-rank r = let n = refusalNumber r in cond (eqb n 10) 19 n
+abbrev pub ranks : List (Condition Refusal) → List ℕ
+ranks cs = map (λ c. rank (c .refusal)) cs
 
+-- each number is above the one before it
 abbrev pub rising : List ℕ → Bool
 rising [] = true
 rising (m ∷ []) = true
 rising (m ∷ n ∷ ns) = ltb m n && rising (n ∷ ns)
 
 abbrev pub InOrder : Type 0
-InOrder = (compile : Compiler) (d : State) (q : Request) (text : List ℕ) → rising (map (λ c. rank (c .refusal)) (conditions compile d q text)) ≡ true
+InOrder = (compile : Compiler) (d : State) (q : Request) (text : List ℕ) → rising (ranks (conditions compile d q text)) ≡ true
