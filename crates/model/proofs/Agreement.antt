@@ -10,8 +10,7 @@ use native.Mathlib.Numerals.{add-one}
 use lib.Dec.{eqb}
 use lib.ListN.{length, getD, set, length-append, length-set, replicate}
 use borrow.Author.Tests.{ltb-true, not-false}
-use Rattle.product.specs.declared.literal.Key.the-variants.{Defined}
-use Rattle.product.specs.Sum.{Sum}
+use Rattle.product.specs.declared.literal.Key.{Key}
 use Rattle.formula.specs.Outcome.{Outcome, accepted, malformed, tooWide, unsatisfiable, sumIn}
 use Rattle.formula.specs.Compiler.{Compiler, Meaning, Laws}
 use Rattle.call.specs.declared.request.Request.{Request}
@@ -30,7 +29,7 @@ use Rattle.model.specs.Threads.{Frame, Thread}
 use Rattle.model.specs.Model.{State, emptyState, Place, free, taken, Segment, nowhere, segmentAt, isFree, isMalformed, isTooWide, isUnsatisfiable, issued, isLive, isSegment, isLock, homeOf, placeOf, placeFor, onThread, pushFrame, popFrame, giveKey, takeKey, addProducts, dropProducts, onSegment, conditions, update, answer, judged, stepDecoded, step}
 use Rattle.model.specs.History.{History, Entry, Event, event, emptyHistory, withEntries, onKeys, onFrames, listOf, note, noteAnswer, advance, historyFrom, history, counts, countFrom, acceptedOf}
 use Rattle.model.specs.Replay.{decoded, stateAfter, eventsOf}
-use Rattle.model.proofs.Lists.{at-lt, some≢none}
+use Rattle.model.proofs.Lists.{at-lt}
 use Rattle.model.proofs.Places.{AgreeThreads, Lives, lives, spare, agree-start, agree-change, agree-end}
 use Rattle.model.proofs.Segments.{AgreeSegments, entryOf, agree-new, agree-adjust, agree-unseen, products-append-one, products-same}
 use Rattle.model.proofs.Locks.{AgreeLocks, agree-rows, agree-add, agree-drop}
@@ -107,7 +106,7 @@ module _ (compile : Compiler) (holds : Meaning) (laws : Laws compile holds) (tex
       let (u, t, s, k, l) = c .counts in
       record {
         threads = c .threads;
-        segments = agree-new (d .segments) (h .segments) (c .segments) _ refl;
+        segments = agree-new (d .segments) (h .segments) (c .segments) _;
         locks = agree-rows holds (d .segments) (d .lockNumbers) (h .locks) (c .locks) _ (products-append-one (d .segments) _ refl);
         counts = (u, t, one-more (d .segments) _ ∙ ap suc s, k, l);
       }
@@ -118,25 +117,25 @@ module _ (compile : Compiler) (holds : Meaning) (laws : Laws compile holds) (tex
       let (u, t, s, k, l) = c .counts in
       record { threads = c .threads; segments = c .segments; locks = c .locks; counts = (u, t, s, one-more (d .makers) a ∙ ap suc k, l) }
 
-  -- a change of a segment that leaves its number and products alone
+  -- a change of a segment that leaves its products alone
   keep-adjust : (b : ℕ) (f : Segment → Segment) (F : Entry → Entry) → ((g : Segment) → entryOf (f g) ≡ F (entryOf g))
-      → ((g : Segment) → f g .number ≡ g .number) → ((g : Segment) → f g .products ≡ g .products) → (letter : ℕ) → AgreeCounts d (bump letter count)
+      → ((g : Segment) → f g .products ≡ g .products) → (letter : ℕ) → AgreeCounts d (bump letter count)
       → Agrees holds (onSegment d b f) (withEntries h (adjust (h .segments) b F)) (bump letter count)
-  keep-adjust b f F same number products letter k =
+  keep-adjust b f F same products letter k =
       record {
         threads = c .threads;
-        segments = agree-adjust (d .segments) (h .segments) (c .segments) b f number F same;
+        segments = agree-adjust (d .segments) (h .segments) (c .segments) b f F same;
         locks = agree-rows holds (d .segments) (d .lockNumbers) (h .locks) (c .locks) _ (products-same (d .segments) b f products);
         counts = (k .0, k .1, length-set (d .segments) b _ ∙ k .2, k .3, k .4);
       }
 
   keep-give : (a b k : ℕ) → Kept (GiveKey a b k)
   unfolding conditions update answer note
-  keep-give a b k e = keep-adjust b (giveKey k) _ (λ g. refl) (λ g. refl) (λ g. refl) 71 (c .counts)
+  keep-give a b k e = keep-adjust b (giveKey k) _ (λ g. refl) (λ g. refl) 71 (c .counts)
 
   keep-take : (a b k : ℕ) → Kept (TakeKey a b k)
   unfolding conditions update answer note
-  keep-take a b k e = keep-adjust b (takeKey k) _ (λ g. refl) (λ g. refl) (λ g. refl) 84 (c .counts)
+  keep-take a b k e = keep-adjust b (takeKey k) _ (λ g. refl) (λ g. refl) 84 (c .counts)
 
   keep-lock : (a b o : ℕ) → Kept (AddLock a b o)
   unfolding conditions update answer note
@@ -148,7 +147,7 @@ module _ (compile : Compiler) (holds : Meaning) (laws : Laws compile holds) (tex
       let ps = compiled x (f .1 .1 .1 .1 .0) (f .1 .1 .1 .1 .1 .0) (f .1 .1 .1 .1 .1 .1 .0) in
       record {
         threads = c .threads;
-        segments = agree-unseen (d .segments) (h .segments) (c .segments) b (addProducts (d .lockNumbers) o (sumIn x)) (λ g. refl) (λ g. refl);
+        segments = agree-unseen (d .segments) (h .segments) (c .segments) b (addProducts (d .lockNumbers) o (sumIn x)) (λ g. refl);
         locks = agree-add holds (d .segments) (d .lockNumbers) (h .locks) (c .locks) b o text (sumIn x) lt (laws .opening (issued d) text _ ps);
         counts = (u, t, length-set (d .segments) b _ ∙ s, k, ap suc l);
       }
@@ -160,7 +159,7 @@ module _ (compile : Compiler) (holds : Meaning) (laws : Laws compile holds) (tex
       let there : isLock d n ≡ true = not-false _ (all-fail (conditions compile d (DropLock a n) text) e .1 .0) in
       record {
         threads = c .threads;
-        segments = agree-unseen (d .segments) (h .segments) (c .segments) (homeOf d n) (dropProducts n) (λ g. refl) (λ g. refl);
+        segments = agree-unseen (d .segments) (h .segments) (c .segments) (homeOf d n) (dropProducts n) (λ g. refl);
         locks = agree-drop holds (d .segments) (d .lockNumbers) (h .locks) (c .locks) n there;
         counts = (u, t, length-set (d .segments) (homeOf d n) _ ∙ s, k, l);
       }
@@ -173,10 +172,7 @@ module _ (compile : Compiler) (holds : Meaning) (laws : Laws compile holds) (tex
       (agree-change (d .places) (d .threadNumbers) (h .threads) (c .threads) a (placeOf a (d .places)) (p .thread) F (p .low) (p .taken-by))
 
   keys-agree : (b : ℕ) → b < length (d .segments) → listOf h b ≡ segmentAt d b .keys
-  keys-agree b lt = simp (c .segments .listed b, at-lt (d .segments) b nowhere lt)
-
-  number-agrees : (b : ℕ) → b < length (d .segments) → segmentAt d b .number ≡ b
-  number-agrees b lt = c .segments .numbered b (segmentAt d b) (at-lt (d .segments) b nowhere lt)
+  keys-agree b lt = simp (c .segments b, at-lt (d .segments) b nowhere lt)
 
   keep-call : (a b : ℕ) → Kept (CallSegment a b)
   unfolding conditions update answer note
@@ -185,17 +181,12 @@ module _ (compile : Compiler) (holds : Meaning) (laws : Laws compile holds) (tex
       let lt = ltb-true b (length (d .segments)) (not-false _ (f .1 .0)) in
       record {
         threads =
-            keep-thread a (alive a (f .0)) (pushFrame (segmentAt d b)) (onFrames (λ frames. record { segment = b; keys = listOf h b } ∷ frames))
-            (λ t. pushed t (segmentAt d b .number) b (segmentAt d b .keys) (listOf h b) (number-agrees b lt) (sym (keys-agree b lt)));
+            keep-thread a (alive a (f .0)) (pushFrame b (segmentAt d b .keys)) (onFrames (λ frames. record { segment = b; keys = listOf h b } ∷ frames))
+            (λ t. ap (λ (keys : List Key). pushFrame b keys t) (sym (keys-agree b lt)));
         segments = c .segments;
         locks = c .locks;
         counts = c .counts;
       }
-    where
-      pushed : (t : Thread) (m n : ℕ) (j k : List _) → m ≡ n → j ≡ k
-          → _≡_ {A = Thread} (record { user = t .user; frames = record { segment = m; keys = j } ∷ t .frames })
-          (record { user = t .user; frames = record { segment = n; keys = k } ∷ t .frames })
-      pushed t m n j k p q = λ i. record { user = t .user; frames = record { segment = p i; keys = q i } ∷ t .frames }
 
   keep-return : (a : ℕ) → Kept (ReturnCall a)
   unfolding conditions update answer note
@@ -263,16 +254,13 @@ module _ (compile : Compiler) (holds : Meaning) (laws : Laws compile holds) wher
   empty-agrees =
       record {
         threads = record { count = refl; home = λ n. 0; written = λ n. refl; here = λ i k t e. absurd (none-taken i k t e); below = λ i k t e. absurd (none-taken i k t e) };
-        segments = record { listed = λ s. refl; numbered = λ s g e. absurd (no-segment g e) };
+        segments = λ s. refl;
         locks = record { standing = []; home = λ n. 0; written = refl; rows = λ s. refl; sound = tt; rising = tt };
         counts = (refl, refl, refl, refl, refl);
       }
     where
       none-taken : (i k : ℕ) (t : Thread) → getD (emptyState .places) i free ≡ taken k t → ⊥
       none-taken i k t e = all-free 64 i k t e
-
-      no-segment : (g : Segment) → _≡_ {A = Option Segment} none (some g) → ⊥
-      no-segment g e = some≢none (sym e)
 
   pub agree : (xs : List Call)
       → Agrees holds (stateAfter compile emptyState xs) (history (eventsOf compile emptyState xs)) (λ k. acceptedOf k (eventsOf compile emptyState xs))

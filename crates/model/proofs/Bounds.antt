@@ -8,6 +8,7 @@ use Prim.Native.Nat.{ℕ, zero, suc, _+_, _≤_, zero-le, suc-le-suc}
 use native.Mathlib.Omega.{arith}
 use lib.ListN.{length, getD, set, replicate, length-append, length-set, length-map, length-replicate}
 use borrow.Author.Tests.{ltb-false}
+use Rattle.product.specs.declared.literal.Key.{Key}
 use Rattle.product.specs.declared.literal.Key.the-variants.{Defined}
 use Rattle.product.specs.Sum.{Sum}
 use Rattle.formula.specs.Outcome.{outcomeOf, sumIn}
@@ -129,9 +130,9 @@ places-set : (places : List Place) → PlacesKept places → (i : ℕ) (p : Plac
 places-set places k i p h =
     record { count = length-set places i p ∙ k .count; frames = everywhere-set Shallow free places (k .frames) i p h }
 
-shallow-push : (g : Segment) (p : Place) → suc (length (occupant p .frames)) ≤ mostFrames → Shallow (onThread (pushFrame g) p)
-shallow-push g free h = zero-le
-shallow-push g (taken n t) h = h
+shallow-push : (s : ℕ) (keys : List Key) (p : Place) → suc (length (occupant p .frames)) ≤ mostFrames → Shallow (onThread (pushFrame s keys) p)
+shallow-push s keys free h = zero-le
+shallow-push s keys (taken n t) h = h
 
 shallow-pop : (p : Place) → Shallow p → Shallow (onThread popFrame p)
 shallow-pop free h = zero-le
@@ -288,8 +289,8 @@ module _ (compile : Compiler) (d : State) (k : Kept d) (text : List ℕ) where
   keep-call a b e =
       let full = all-fail (conditions compile d (CallSegment a b) text) e .1 .1 .1 .1 .1 .0 in
       let room = not-passed mostFrames (suc (length (threadAt d a .frames))) full in
-      let g = segmentAt d b in
-      at-place a (onThread (pushFrame g)) (shallow-push g (getD (d .places) (placeOf a (d .places)) free) room)
+      let keys = segmentAt d b .keys in
+      at-place a (onThread (pushFrame b keys)) (shallow-push b keys (getD (d .places) (placeOf a (d .places)) free) room)
 
   keep-return : (a : ℕ) → Keeps (ReturnCall a)
   unfolding conditions update

@@ -6,3 +6,5 @@ pub mod Places
 pub mod Segments
 pub mod Locks
 pub mod Agreement
+pub mod Checking
+pub mod Granting

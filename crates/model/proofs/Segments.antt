@@ -1,82 +1,53 @@
--- The segments and the history's: the same owner, kind and key list at the same number, and each segment knows its number. Assumes nothing.
+-- The segments and the history's: the same owner, kind and key list at the same number. Assumes nothing.
 use mathlib.Core.Path.{_≡_, refl, sym, ap, _∙_}
 use mathlib.Core.Bool.{Bool, true, false, cond}
 use mathlib.Core.List.{List, [], _∷_, _++_}
 use mathlib.Core.Option.{Option, none, some}
 use Prim.Native.Nat.{ℕ, zero, suc, _<_}
 use native.Mathlib.Nat.{le-of-suc-le-suc, not-suc-le-zero}
-use native.Mathlib.Omega.{arith}
 use lib.Dec.{eqb, eqb·suc-suc, eqb·suc-zero, eqb·zero-suc}
 use lib.ListN.{length, getD, set, getElem?}
-use borrow.Author.Tests.{eqb-true}
 use Rattle.model.specs.Lists.{put, adjust, Map, mapOption}
 use Rattle.model.specs.Model.{Segment, Guarded, nowhere}
 use Rattle.model.specs.History.{Entry}
-use Rattle.model.proofs.Lists.{caseBool, at-append-one, at-set, some-inj, some≢none}
+use Rattle.model.proofs.Lists.{caseBool, at-append-one, at-set}
 
 abbrev pub entryOf : Segment → Entry
 entryOf g = record { owner = g .owner; kind = g .kind; keys = g .keys }
 
-pub record AgreeSegments (segments : List Segment) (entries : Map Entry) : Type 0 where
-  pub listed : (s : ℕ) → entries s ≡ mapOption entryOf (getElem? segments s)
-  pub numbered : (s : ℕ) (g : Segment) → getElem? segments s ≡ some g → g .number ≡ s
+abbrev pub AgreeSegments : List Segment → Map Entry → Type 0
+AgreeSegments segments entries = (s : ℕ) → entries s ≡ mapOption entryOf (getElem? segments s)
 
 module _ (segments : List Segment) (entries : Map Entry) (c : AgreeSegments segments entries) where
   -- N
-  pub agree-new : (g : Segment) → g .number ≡ length segments → AgreeSegments (segments ++ g ∷ []) (put entries (length segments) (entryOf g))
-  agree-new g h =
-      record {
-        listed = λ s. caseBool (eqb s (length segments)) (λ t. simp (at-append-one, t)) (λ t. simp (at-append-one, t) (c .listed s));
-        numbered = λ s k e. number s k (sym (at-append-one segments g s) ∙ e);
-      }
-    where
-      number : (s : ℕ) (k : Segment) → put (getElem? segments) (length segments) g s ≡ some k → k .number ≡ s
-      number s k e =
-          caseBool (eqb s (length segments))
-          (λ t. ap (λ (x : Segment). x .number) (sym (some-inj (rw t at e))) ∙ h ∙ sym (eqb-true s (length segments) t))
-          (λ t. c .numbered s k (rw t at e))
+  pub agree-new : (g : Segment) → AgreeSegments (segments ++ g ∷ []) (put entries (length segments) (entryOf g))
+  agree-new g s = caseBool (eqb s (length segments)) (λ t. simp (at-append-one, t)) (λ t. simp (at-append-one, t) (c s))
 
-  module _ (s : ℕ) (f : Segment → Segment) (same : (g : Segment) → f g .number ≡ g .number) where
+  module _ (s : ℕ) (f : Segment → Segment) where
     abbrev changed : List Segment
     changed = set segments s (f (getD segments s nowhere))
 
-    numbers : (j : ℕ) (k : Segment) → getElem? changed j ≡ some k → k .number ≡ j
-    numbers j k e = by (getElem? segments j) refl (sym (at-set segments s f nowhere j) ∙ e)
-      where
-        by : (o : Option Segment) → getElem? segments j ≡ o → adjust (getElem? segments) s f j ≡ some k → k .number ≡ j
-        by none q a = absurd (some≢none (sym (caseBool (eqb j s) (λ t. rw (t, q) at a) (λ t. rw (t, q) at a))))
-        by (some g) q a =
-            caseBool (eqb j s)
-            (λ t. ap (λ (x : Segment). x .number) (sym (some-inj (rw (t, q) at a))) ∙ same g ∙ c .numbered j g q)
-            (λ t. c .numbered j k (rw t at a))
-
     -- a change of segment s that the history follows
     pub agree-adjust : (F : Entry → Entry) → ((g : Segment) → entryOf (f g) ≡ F (entryOf g)) → AgreeSegments changed (adjust entries s F)
-    agree-adjust F h = record { listed = listed′; numbered = numbers }
+    agree-adjust F h j =
+        caseBool (eqb j s)
+        (λ t. simp (at-set segments s f nowhere j, t, c j) (square (getElem? segments j)))
+        (λ t. simp (at-set segments s f nowhere j, t) (c j))
       where
         square : (o : Option Segment) → mapOption F (mapOption entryOf o) ≡ mapOption entryOf (mapOption f o)
         square none = refl
         square (some g) = ap some (sym (h g))
 
-        listed′ : (j : ℕ) → adjust entries s F j ≡ mapOption entryOf (getElem? changed j)
-        listed′ j =
-            caseBool (eqb j s)
-            (λ t. simp (at-set segments s f nowhere j, t, c .listed j) (square (getElem? segments j)))
-            (λ t. simp (at-set segments s f nowhere j, t) (c .listed j))
-
     -- a change that it doesn't see
     pub agree-unseen : ((g : Segment) → entryOf (f g) ≡ entryOf g) → AgreeSegments changed entries
-    agree-unseen h = record { listed = listed′; numbered = numbers }
+    agree-unseen h j =
+        caseBool (eqb j s)
+        (λ t. simp (at-set segments s f nowhere j, t) (c j ∙ unseen (getElem? segments j)))
+        (λ t. simp (at-set segments s f nowhere j, t) (c j))
       where
         unseen : (o : Option Segment) → mapOption entryOf o ≡ mapOption entryOf (mapOption f o)
         unseen none = refl
         unseen (some g) = ap some (sym (h g))
-
-        listed′ : (j : ℕ) → entries j ≡ mapOption entryOf (getElem? changed j)
-        listed′ j =
-            caseBool (eqb j s)
-            (λ t. simp (at-set segments s f nowhere j, t) (c .listed j ∙ unseen (getElem? segments j)))
-            (λ t. simp (at-set segments s f nowhere j, t) (c .listed j))
 
 -- ---- the products of a segment's standing locks
 

@@ -3,7 +3,7 @@
 --
 -- registry: [u32; 8]               users, threads, segments, defined keys and locks handed out
 -- makers: [u16; 1024]              each defined key's maker
--- segments: [[[u16; 8]; 2]; 64]    row 0: owner, kind; row 1: the key list, first its own S key
+-- segments: [[[u16; 8]; 2]; 64]    row 0: owner, kind; row 1: the key list, first its own S key, which is always its number
 -- locks: [[[u32; 8]; 8]; 64]       a segment's products, a row each, to the first row that begins with 0: the lock, the number of literals and the
 --                                  operations in one cell, then the literals
 -- threads: [[[u16; 8]; 17]; 64]    row 0: number, user, number of frames, 1 where it is live; rows 1 to 16: the frames, the oldest first, each
@@ -187,19 +187,22 @@ guardedOf w =
       product = each (λ i. literalOf (cell w i)) 1 (cell w 0 / 16 % 8);
     }
 
--- a segment's table, and its products'
-abbrev pub segmentOf : Table → Table → Segment
-segmentOf g t =
+-- segment s's key list in its table: its own S key, whatever number stands in that cell, then the rest of row 1
+abbrev pub listRow : ℕ → Table → Row
+listRow s g = set (rowAt g 1) 0 s
+
+-- segment s, of its table and its products'
+abbrev pub segmentOf : ℕ → Table → Table → Segment
+segmentOf s g t =
     record {
-      number = cell (rowAt g 1) 0;
       owner = cell (rowAt g 0) ownerCell;
       kind = cell (rowAt g 0) kindCell;
-      keys = keysOf (rowAt g 1);
+      keys = keysOf (listRow s g);
       products = map guardedOf (usedRows t);
     }
 
 abbrev pub segmentIn : Cells → ℕ → Segment
-segmentIn d s = segmentOf (tableAt (d .segments) s) (tableAt (d .locks) s)
+segmentIn d s = segmentOf s (tableAt (d .segments) s) (tableAt (d .locks) s)
 
 unfoldable pub stateOf : Cells → State
 stateOf d =
@@ -237,11 +240,11 @@ abbrev pub newSegment : ℕ → ℕ → ℕ → Table
 newSegment s u kind = (u ∷ kind ∷ 0 ∷ 0 ∷ 0 ∷ 0 ∷ 0 ∷ 0 ∷ []) ∷ keyRow (s ∷ []) ∷ []
 
 -- G and T
-abbrev pub giveCode : ℕ → Table → Table
-giveCode x g = set g 1 (keyRow (keep hasKey (rowAt g 1) ++ x ∷ []))
+abbrev pub giveCode : ℕ → ℕ → Table → Table
+giveCode s x g = set g 1 (keyRow (keep hasKey (listRow s g) ++ x ∷ []))
 
-abbrev pub takeCode : ℕ → Table → Table
-takeCode x g = set g 1 (keyRow (keep (λ y. not (eqb x y)) (keep hasKey (rowAt g 1))))
+abbrev pub takeCode : ℕ → ℕ → Table → Table
+takeCode s x g = set g 1 (keyRow (keep (λ y. not (eqb x y)) (keep hasKey (listRow s g))))
 
 -- L and D: rows from row n on, and the end of the rows after them, where there is a row left
 abbrev pub endRows : Table → ℕ → Table
@@ -313,8 +316,8 @@ module _ (compile : Compiler) where
         locks = d .locks;
         threads = d .threads;
       }
-  store d (GiveKey a b c) text = withSegmentTables d (onTable (d .segments) b (giveCode (definedCode c)))
-  store d (TakeKey a b c) text = withSegmentTables d (onTable (d .segments) b (takeCode (definedCode c)))
+  store d (GiveKey a b c) text = withSegmentTables d (onTable (d .segments) b (giveCode b (definedCode c)))
+  store d (TakeKey a b c) text = withSegmentTables d (onTable (d .segments) b (takeCode b (definedCode c)))
   store d (AddLock a b c) text =
       let ps = sumIn (compile (issued (stateOf d)) text) in
       record {
@@ -332,7 +335,7 @@ module _ (compile : Compiler) where
         locks = onTable (d .locks) (homeOf (stateOf d) b) (dropRows b);
         threads = d .threads;
       }
-  store d (CallSegment a b) text = atThread d a (pushRow (rowAt (tableAt (d .segments) b) 1))
+  store d (CallSegment a b) text = atThread d a (pushRow (listRow b (tableAt (d .segments) b)))
   store d (ReturnCall a) text = atThread d a popRow
   store d (Access a b c) text = d
 

@@ -37,10 +37,9 @@ pub record Guarded : Type 0 where
   pub operations : ℕ
   pub product : Product
 
--- a segment handed out: its number, owner and kind, its key list, and the products of its standing locks, in the order of lock numbers and
--- each lock's in its formula's order
+-- a segment handed out: its owner and kind, its key list, and the products of its standing locks, in the order of lock numbers and each lock's
+-- in its formula's order
 pub record Segment : Type 0 where
-  pub number : ℕ
   pub owner : ℕ
   pub kind : ℕ
   pub keys : List Key
@@ -76,7 +75,7 @@ abbrev pub isKey : State → ℕ → Bool
 isKey d k = ltb k (length (d .makers))
 
 abbrev pub nowhere : Segment
-nowhere = record { number = 0; owner = 0; kind = 0; keys = []; products = [] }
+nowhere = record { owner = 0; kind = 0; keys = []; products = [] }
 
 abbrev pub segmentAt : State → ℕ → Segment
 segmentAt d s = getD (d .segments) s nowhere
@@ -272,8 +271,8 @@ abbrev pub atPlace : State → ℕ → (Place → Place) → State
 atPlace d n f = let i = placeOf n (d .places) in withPlaces d (set (d .places) i (f (getD (d .places) i free)))
 
 -- 'A granted call hands the run the segment's key list as it then is.'
-abbrev pub pushFrame : Segment → Thread → Thread
-pushFrame g t = record { user = t .user; frames = record { segment = g .number; keys = g .keys } ∷ t .frames }
+abbrev pub pushFrame : ℕ → List Key → Thread → Thread
+pushFrame s keys t = record { user = t .user; frames = record { segment = s; keys = keys } ∷ t .frames }
 
 -- 'R leaves the newest open call.'
 abbrev pub popFrame : Thread → Thread
@@ -284,7 +283,7 @@ newest [] = 0
 newest (f ∷ fs) = f .segment
 
 abbrev pub withKeys : Segment → List Key → Segment
-withKeys g keys = record { number = g .number; owner = g .owner; kind = g .kind; keys = keys; products = g .products }
+withKeys g keys = record { owner = g .owner; kind = g .kind; keys = keys; products = g .products }
 
 abbrev pub giveKey : ℕ → Segment → Segment
 giveKey k g = withKeys g (g .keys ++ Defined k ∷ [])
@@ -293,7 +292,7 @@ abbrev pub takeKey : ℕ → Segment → Segment
 takeKey k g = withKeys g (keep (λ j. not (sameKey (Defined k) j)) (g .keys))
 
 abbrev pub withProducts : Segment → List Guarded → Segment
-withProducts g products = record { number = g .number; owner = g .owner; kind = g .kind; keys = g .keys; products = products }
+withProducts g products = record { owner = g .owner; kind = g .kind; keys = g .keys; products = products }
 
 abbrev pub guarded : ℕ → ℕ → Product → Guarded
 guarded lock operations p = record { lock = lock; operations = operations; product = p }
@@ -327,7 +326,7 @@ module _ (compile : Compiler) where
   update d (EndThread a) text = atPlace d a (λ p. free)
   update d (NewSegment a b) text =
       let s = length (d .segments) in
-      withSegments d (d .segments ++ record { number = s; owner = a; kind = b; keys = SegmentKey s ∷ []; products = [] } ∷ [])
+      withSegments d (d .segments ++ record { owner = a; kind = b; keys = SegmentKey s ∷ []; products = [] } ∷ [])
   update d (NewKey a) text =
       record {
         users = d .users;
@@ -349,7 +348,7 @@ module _ (compile : Compiler) where
         places = d .places;
       }
   update d (DropLock a b) text = onSegment d (homeOf d b) (dropProducts b)
-  update d (CallSegment a b) text = atPlace d a (onThread (pushFrame (segmentAt d b)))
+  update d (CallSegment a b) text = atPlace d a (onThread (pushFrame b (segmentAt d b .keys)))
   update d (ReturnCall a) text = atPlace d a (onThread popFrame)
   update d (Access a b c) text = d
 

@@ -1,0 +1,107 @@
+-- What the model answers to a fitting C or A of a live thread, read from a history that agrees with it. Its conditions before the check fail,
+-- and the check's two locks are the history's. Assumes nothing.
+use mathlib.Core.Path.{_≡_, refl, sym, ap, _∙_}
+use mathlib.Core.Bool.{Bool, true, false, _&&_, not, cond}
+use mathlib.Core.List.{List, []}
+use mathlib.Core.Option.{Option, none, some}
+use Prim.Native.Nat.{ℕ, suc, _<_}
+use native.Mathlib.Omega.{arith}
+use lib.Dec.{eqb, ltb}
+use lib.ListN.{length, getElem?}
+use borrow.Author.Tests.{lt-ltb, ltb-true, ltb-false, le-ltb}
+use Rattle.formula.specs.Compiler.{Compiler, Meaning, Laws}
+use Rattle.call.specs.declared.request.Request.{Request}
+use Rattle.call.specs.declared.request.Request.the-variants.{CallSegment, Access}
+use Rattle.call.specs.Conditions.{firstRefusal}
+use Rattle.model.specs.declared.answer.Refusal.{Refusal}
+use Rattle.model.specs.declared.answer.Refusal.the-variants.{Full, Denied, NotGranted}
+use Rattle.model.specs.declared.answer.Answer.{Answer}
+use Rattle.model.specs.declared.answer.Answer.the-variants.{Accepted, Refused}
+use Rattle.model.specs.Lists.{first, isSome, mapOption}
+use Rattle.model.specs.Limits.{mostFrames, passes}
+use Rattle.model.specs.Operations.{denies, grants, takes}
+use Rattle.model.specs.Threads.{Thread, keySet}
+use Rattle.model.specs.Model.{State, Segment, Guarded, nowhere, segmentAt, findThread, threadAt, isSegment, lockOf, opening, conditions, answer, judged}
+use Rattle.model.specs.History.{History, Entry, Lock}
+use Rattle.model.specs.Granting.{Operation, calls, accesses, requestOf, threadOf, targetOf, numberOf, isNumbered, hasRoom, lockOpens, verdict, answerFrom}
+use Rattle.model.proofs.Lists.{caseBool, at-lt, at-some-lt, some-inj, some≢none}
+use Rattle.model.proofs.Places.{look}
+use Rattle.model.proofs.Segments.{entryOf}
+use Rattle.model.proofs.Locks.{check-agrees}
+use Rattle.model.proofs.Agreement.{Agrees}
+
+-- an answer, by the first refusal
+abbrev answered : Option Refusal → ℕ → Answer
+answered none n = Accepted n
+answered (some r) n = Refused r
+
+pub judged-answer : (compile : Compiler) (d : State) (q : Request) (text : List ℕ) (o : Option Refusal)
+    → judged compile d q text o .answer ≡ answered o (answer compile d q text)
+judged-answer compile d q text none = refl
+judged-answer compile d q text (some r) = refl
+
+-- the check's conditions and the limit, by the two locks that open
+check-answers : (od og : Option Guarded) (ld lg : Option Lock) (room : Bool)
+    → mapOption (λ r. r .lock) od ≡ mapOption (λ l. l .number) ld → mapOption (λ r. r .lock) og ≡ mapOption (λ l. l .number) lg
+    → answered (cond (isSome od) (some (Denied (lockOf od))) (cond (not (isSome og)) (some NotGranted) (cond (not room) (some Full) none))) (lockOf og)
+    ≡ verdict ld lg room
+check-answers (some r) og (some l) lg room p q = ap (λ (n : ℕ). Refused (Denied n)) (some-inj p)
+check-answers (some r) og none lg room p q = absurd (some≢none p)
+check-answers none og (some l) lg room p q = absurd (some≢none (sym p))
+check-answers none (some r) none (some l) true p q = ap Accepted (some-inj q)
+check-answers none (some r) none (some l) false p q = refl
+check-answers none (some r) none none room p q = absurd (some≢none q)
+check-answers none none none (some l) room p q = absurd (some≢none (sym q))
+check-answers none none none none room p q = refl
+
+pub under-limit : (most n : ℕ) → passes most (suc n) ≡ not (ltb n most)
+under-limit most n =
+    caseBool (ltb n most)
+    (λ e. simp e (let h = ltb-true n most e in le-ltb most (suc n) (omega arith)))
+    (λ e. simp e (let h = ltb-false n most e in lt-ltb most (suc n) (omega arith)))
+
+module _ (compile : Compiler) (holds : Meaning) (text : List ℕ) (d : State) (h : History) (count : ℕ → ℕ) (c : Agrees holds d h count) where
+  module _ (o : Operation) (t : Thread) (live : h .threads (threadOf o) ≡ some t) (entry : Entry) (out : h .segments (targetOf o) ≡ some entry) where
+    pub found : findThread (threadOf o) (d .places) ≡ some t
+    found = sym (look (d .places) (d .threadNumbers) (h .threads) (c .threads) (threadOf o)) ∙ live
+
+    thread-is : threadAt d (threadOf o) ≡ t
+    thread-is = simp found
+
+    handed : targetOf o < length (d .segments)
+    handed = by (getElem? (d .segments) (targetOf o)) refl
+      where
+        by : (g : Option Segment) → getElem? (d .segments) (targetOf o) ≡ g → targetOf o < length (d .segments)
+        by none e = absurd (some≢none (sym out ∙ c .segments (targetOf o) ∙ ap (mapOption entryOf) e))
+        by (some g) e = at-some-lt (d .segments) (targetOf o) g e
+
+    out-test : isSegment d (targetOf o) ≡ true
+    out-test = lt-ltb (targetOf o) (length (d .segments)) handed
+
+    kind-is : segmentAt d (targetOf o) .kind ≡ entry .kind
+    kind-is =
+        ap (λ (e : Entry). e .kind)
+        (some-inj (sym (ap (mapOption entryOf) (at-lt (d .segments) (targetOf o) nowhere handed)) ∙ sym (c .segments (targetOf o)) ∙ out))
+
+    check : (stands : ℕ → ℕ → Bool)
+        → mapOption (λ r. r .lock) (opening d stands (threadOf o) (targetOf o) (numberOf o)) ≡ mapOption (λ l. l .number) (first (lockOpens holds stands o t) (h .locks))
+    unfolding opening
+    check stands =
+        check-agrees holds (d .segments) (d .lockNumbers) (h .locks) (c .locks) stands (targetOf o) (numberOf o) (keySet (threadOf o) (threadAt d (threadOf o)))
+        ∙ rw thread-is
+
+  pub answers-from : (o : Operation) (t : Thread) → h .threads (threadOf o) ≡ some t → (entry : Entry) → h .segments (targetOf o) ≡ some entry
+      → isNumbered o ≡ true → takes (entry .kind) (numberOf o) ≡ true
+      → judged compile d (requestOf o) text (firstRefusal (conditions compile d (requestOf o) text)) .answer ≡ answerFrom holds h o t
+  unfolding conditions answer
+  answers-from (calls a b) t live entry out number fits =
+      let o = calls a b in
+      judged-answer compile d (CallSegment a b) text (firstRefusal (conditions compile d (CallSegment a b) text))
+      ∙ simp (found o t live entry out, out-test o t live entry out, kind-is o t live entry out, fits, under-limit mostFrames (length (t .frames)))
+      (check-answers (opening d denies a b 1) (opening d grants a b 1) (first (lockOpens holds denies o t) (h .locks)) (first (lockOpens holds grants o t) (h .locks)) (hasRoom o t) (check o t live entry out denies) (check o t live entry out grants))
+  answers-from (accesses a b n) t live entry out number fits =
+      let o = accesses a b n in
+      judged-answer compile d (Access a b n) text (firstRefusal (conditions compile d (Access a b n) text))
+      ∙ simp (found o t live entry out, out-test o t live entry out, kind-is o t live entry out, fits)
+      (simp number
+      (check-answers (opening d denies a b n) (opening d grants a b n) (first (lockOpens holds denies o t) (h .locks)) (first (lockOpens holds grants o t) (h .locks)) true (check o t live entry out denies) (check o t live entry out grants)))

@@ -1,0 +1,111 @@
+-- Demand 3: the agreement of model and history, read at the call after the list; the arrays hold the model. Assumes nothing.
+use mathlib.Core.Path.{_≡_, refl, sym, ap, _∙_}
+use mathlib.Core.Logic.{_↔_}
+use mathlib.Core.Bool.{Bool, true, false, _&&_, not, false≢true}
+use mathlib.Core.List.{List, [], _∷_, List·Memᴰ, List·Memᴰ·head, List·Memᴰ·tail}
+use mathlib.Core.Option.{Option, none, some}
+use borrow.Author.Tests.{not-true}
+use Rattle.formula.specs.Outcome.{outcomeOf}
+use Rattle.formula.specs.Opening.{textHolds}
+use Rattle.formula.specs.Compiler.{Compiler, Meaning, Laws}
+use Rattle.formula.proofs.Opening.{laws}
+use Rattle.call.specs.declared.request.Request.{Request}
+use Rattle.call.specs.declared.request.Decoded.{Decoded}
+use Rattle.call.specs.declared.request.Decoded.the-variants.{WellFormed}
+use Rattle.call.specs.Calls.{Call}
+use Rattle.call.specs.Conditions.{firstRefusal}
+use Rattle.call.proofs.Truth.{and-left, and-right}
+use Rattle.model.specs.declared.answer.Answer.{Answer}
+use Rattle.model.specs.Answers.{isAccepted}
+use Rattle.model.specs.Lists.{any, first, isSome}
+use Rattle.model.specs.Operations.{denies, grants}
+use Rattle.model.specs.Threads.{Thread}
+use Rattle.model.specs.Model.{State, emptyState, conditions, judged, stepDecoded, step}
+use Rattle.model.specs.History.{History, Lock, Event, history}
+use Rattle.model.specs.Granting.{Operation, requestOf, threadOf, Fits, hasRoom, lockOpens, granted, Granted, verdict, answerFrom, Grants, GrantingByLaws, Granting}
+use Rattle.model.specs.Replay.{decoded, stateAfter, eventsOf}
+use Rattle.model.proofs.Lists.{caseBool, clash, isSome-first}
+use Rattle.model.proofs.Agreement.{agree}
+use Rattle.model.proofs.Checking.{answers-from}
+
+-- ---- the test and the words
+
+module _ {A : Type 0} (p : A → Bool) where
+  -- one that passes is among them
+  passes : (x : A) (xs : List A) → List·Memᴰ x xs → p x ≡ true → any p xs ≡ true
+  passes x (y ∷ ys) (List·Memᴰ·head e) t = simp (sym (ap p e) ∙ t)
+  passes x (y ∷ ys) (List·Memᴰ·tail m) t = caseBool (p y) (λ q. simp q) (λ q. simp q (passes x ys m t))
+
+  found : (xs : List A) → any p xs ≡ true → (x : A) × List·Memᴰ x xs × (p x ≡ true)
+  found [] t = absurd (false≢true t)
+  found (y ∷ ys) t =
+      caseBool (p y)
+      (λ q. (y, List·Memᴰ·head refl, q))
+      (λ q. let (x, m, u) = found ys (rw q at t) in (x, List·Memᴰ·tail m, u))
+
+module _ (holds : Meaning) (h : History) (o : Operation) (t : Thread) where
+  abbrev barring : Lock → Bool
+  barring = lockOpens holds denies o t
+
+  abbrev giving : Lock → Bool
+  giving = lockOpens holds grants o t
+
+  to-words : granted holds h o t ≡ true → Granted holds h o t
+  to-words g =
+      let rest = and-right (not (any barring (h .locks))) (any giving (h .locks) && hasRoom o t) g in
+      let (l, m, u) = found giving (h .locks) (and-left (any giving (h .locks)) (hasRoom o t) rest) in
+      record {
+        undenied = λ k n. caseBool (barring k)
+            (λ q. clash (passes barring k (h .locks) n q) (not-true _ (and-left (not (any barring (h .locks))) (any giving (h .locks) && hasRoom o t) g)))
+            (λ q. q);
+        lock = l;
+        standing = m;
+        opens = u;
+        room = and-right (any giving (h .locks)) (hasRoom o t) rest;
+      }
+
+  from-words : Granted holds h o t → granted holds h o t ≡ true
+  from-words g =
+      caseBool (any barring (h .locks))
+      (λ q. let (l, m, u) = found barring (h .locks) q in clash u (g .undenied l m))
+      (λ q. simp (q, passes giving (g .lock) (h .locks) (g .standing) (g .opens), g .room))
+
+  -- the answer accepts where the test says so
+  answer-accepts : isAccepted (answerFrom holds h o t) ≡ granted holds h o t
+  answer-accepts =
+      accepts (first barring (h .locks)) (first giving (h .locks)) (hasRoom o t)
+      ∙ rw (isSome-first barring (h .locks), isSome-first giving (h .locks))
+    where
+      accepts : (d g : Option Lock) (room : Bool) → isAccepted (verdict d g room) ≡ (not (isSome d) && (isSome g && room))
+      accepts (some l) g room = refl
+      accepts none none room = refl
+      accepts none (some l) true = refl
+      accepts none (some l) false = refl
+
+-- from the whole answer
+grants-from : (holds : Meaning) (h : History) (next : Call) (r : Answer)
+    → ((o : Operation) (t : Thread) → Fits h next o → h .threads (threadOf o) ≡ some t → r ≡ answerFrom holds h o t) → Grants holds h next r
+grants-from holds h next r whole =
+    record {
+      equation = equation;
+      exactly = λ o t f l. (λ a. to-words holds h o t (sym (equation o t f l) ∙ a), λ g. equation o t f l ∙ from-words holds h o t g);
+      answer = whole;
+    }
+  where
+    equation : (o : Operation) (t : Thread) → Fits h next o → h .threads (threadOf o) ≡ some t → isAccepted r ≡ granted holds h o t
+    equation o t f l = ap isAccepted (whole o t f l) ∙ answer-accepts holds h o t
+
+-- ---- on the model
+
+pub answer-is : (compile : Compiler) (d : State) (x : Call) (q : Request) → decoded x ≡ WellFormed q
+    → step compile d x .answer ≡ judged compile d q (x .text) (firstRefusal (conditions compile d q (x .text))) .answer
+unfolding step
+answer-is compile d x q e = ap (λ (k : Decoded). stepDecoded compile d k (x .text) .answer) e
+
+on-model : (compile : Compiler) (holds : Meaning) → Laws compile holds → (xs : List Call) (next : Call)
+    → Grants holds (history (eventsOf compile emptyState xs)) next (step compile (stateAfter compile emptyState xs) next .answer)
+on-model compile holds l xs next =
+    grants-from holds _ next _
+    (λ o t fits live.
+    answer-is compile (stateAfter compile emptyState xs) next (requestOf o) (fits .wellFormed)
+    ∙ answers-from compile holds (next .text) _ _ _ (agree compile holds l xs) o t live (fits .entry) (fits .handedOut) (fits .numbered) (fits .taken))
