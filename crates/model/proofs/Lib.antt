@@ -8,3 +8,4 @@ pub mod Locks
 pub mod Agreement
 pub mod Checking
 pub mod Granting
+pub mod ThreadTables
