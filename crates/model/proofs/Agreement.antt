@@ -1,14 +1,13 @@
 -- The model and the history agree, in four parts: threads, segments, locks and counts. Every call keeps each part, so that they agree after
 -- every list of calls from the empty state. Assumes nothing.
 use mathlib.Core.Path.{_≡_, refl, sym, ap, _∙_}
-use mathlib.Core.Bool.{Bool, true, false, _||_, not, cond, true≢false}
-use mathlib.Core.List.{List, [], _∷_, _++_, map}
+use mathlib.Core.Bool.{true, false, not, cond, true≢false}
+use mathlib.Core.List.{List, [], _∷_}
 use mathlib.Core.Option.{Option, none, some}
 use Prim.Native.Nat.{ℕ, zero, suc, _<_}
 use native.Mathlib.Omega.{arith}
-use native.Mathlib.Numerals.{add-one}
 use lib.Dec.{eqb}
-use lib.ListN.{length, getD, set, length-append, length-set, replicate}
+use lib.ListN.{length, getD, set, length-set, replicate}
 use borrow.Author.Tests.{ltb-true, not-false}
 use Rattle.product.specs.declared.literal.Key.{Key}
 use Rattle.formula.specs.Outcome.{Outcome, accepted, malformed, tooWide, unsatisfiable, sumIn}
@@ -24,12 +23,12 @@ use Rattle.call.proofs.Conditions.{all-fail}
 use Rattle.call.proofs.Requests.{requests-exactly}
 use Rattle.call.proofs.Truth.{neither}
 use Rattle.model.specs.declared.answer.Refusal.{Refusal}
-use Rattle.model.specs.Lists.{any, adjust, keep, tailOf}
-use Rattle.model.specs.Threads.{Frame, Thread}
-use Rattle.model.specs.Model.{State, emptyState, Place, free, taken, Segment, nowhere, segmentAt, isFree, isMalformed, isTooWide, isUnsatisfiable, issued, isLive, isSegment, isLock, homeOf, placeOf, placeFor, onThread, pushFrame, popFrame, giveKey, takeKey, addProducts, dropProducts, onSegment, conditions, update, answer, judged, stepDecoded, step}
-use Rattle.model.specs.History.{History, Entry, Event, event, emptyHistory, withEntries, onKeys, onFrames, listOf, note, noteAnswer, advance, historyFrom, history, counts, countFrom, acceptedOf}
+use Rattle.model.specs.Lists.{any, adjust, tailOf}
+use Rattle.model.specs.Threads.{Thread}
+use Rattle.model.specs.Model.{State, emptyState, free, taken, Segment, nowhere, segmentAt, isFree, isMalformed, isTooWide, isUnsatisfiable, issued, isLive, isLock, homeOf, placeOf, onThread, pushFrame, popFrame, giveKey, takeKey, addProducts, dropProducts, onSegment, conditions, update, answer, judged, stepDecoded, step}
+use Rattle.model.specs.History.{History, Entry, Event, event, emptyHistory, withEntries, onFrames, listOf, note, noteAnswer, advance, historyFrom, history, counts, countFrom, acceptedOf}
 use Rattle.model.specs.Replay.{decoded, stateAfter, eventsOf}
-use Rattle.model.proofs.Lists.{at-lt}
+use Rattle.model.proofs.Lists.{at-lt, length-append-one}
 use Rattle.model.proofs.Places.{AgreeThreads, Lives, lives, spare, agree-start, agree-change, agree-end}
 use Rattle.model.proofs.Segments.{AgreeSegments, entryOf, agree-new, agree-adjust, agree-unseen, products-append-one, products-same}
 use Rattle.model.proofs.Locks.{AgreeLocks, agree-rows, agree-add, agree-drop}
@@ -55,9 +54,6 @@ compiled (accepted ps) m w u = refl
 compiled malformed m w u = absurd (true≢false m)
 compiled tooWide m w u = absurd (true≢false w)
 compiled unsatisfiable m w u = absurd (true≢false u)
-
-one-more : {A : Type 0} (xs : List A) (x : A) → length (xs ++ x ∷ []) ≡ suc (length xs)
-one-more xs x = length-append xs (x ∷ []) ∙ add-one (length xs)
 
 module _ (compile : Compiler) (holds : Meaning) (laws : Laws compile holds) (text : List ℕ) (d : State) (h : History) (count : ℕ → ℕ) (c : Agrees holds d h count) where
   -- an accepted request keeps the agreement
@@ -108,14 +104,14 @@ module _ (compile : Compiler) (holds : Meaning) (laws : Laws compile holds) (tex
         threads = c .threads;
         segments = agree-new (d .segments) (h .segments) (c .segments) _;
         locks = agree-rows holds (d .segments) (d .lockNumbers) (h .locks) (c .locks) _ (products-append-one (d .segments) _ refl);
-        counts = (u, t, one-more (d .segments) _ ∙ ap suc s, k, l);
+        counts = (u, t, length-append-one (d .segments) _ ∙ ap suc s, k, l);
       }
 
   keep-key : (a : ℕ) → Kept (NewKey a)
   unfolding conditions update answer note
   keep-key a e =
       let (u, t, s, k, l) = c .counts in
-      record { threads = c .threads; segments = c .segments; locks = c .locks; counts = (u, t, s, one-more (d .makers) a ∙ ap suc k, l) }
+      record { threads = c .threads; segments = c .segments; locks = c .locks; counts = (u, t, s, length-append-one (d .makers) a ∙ ap suc k, l) }
 
   -- a change of a segment that leaves its products alone
   keep-adjust : (b : ℕ) (f : Segment → Segment) (F : Entry → Entry) → ((g : Segment) → entryOf (f g) ≡ F (entryOf g))
@@ -171,7 +167,7 @@ module _ (compile : Compiler) (holds : Meaning) (laws : Laws compile holds) (tex
       rw (p .taken-by, same (p .thread))
       (agree-change (d .places) (d .threadNumbers) (h .threads) (c .threads) a (placeOf a (d .places)) (p .thread) F (p .low) (p .taken-by))
 
-  keys-agree : (b : ℕ) → b < length (d .segments) → listOf h b ≡ segmentAt d b .keys
+  pub keys-agree : (b : ℕ) → b < length (d .segments) → listOf h b ≡ segmentAt d b .keys
   keys-agree b lt = simp (c .segments b, at-lt (d .segments) b nowhere lt)
 
   keep-call : (a b : ℕ) → Kept (CallSegment a b)
@@ -221,7 +217,7 @@ module _ (compile : Compiler) (holds : Meaning) (laws : Laws compile holds) (tex
 pub request-letter : (x : Call) (q : Request) → decoded x ≡ WellFormed q → x .letter ≡ callOf q (x .text) .letter
 request-letter x q e = ap (λ (y : Call). y .letter) (requests-exactly x q .0 e)
 
-abbrev counted : (ℕ → ℕ) → Event → ℕ → ℕ
+abbrev pub counted : (ℕ → ℕ) → Event → ℕ → ℕ
 counted count e = λ k. cond (counts k e) (suc (count k)) (count k)
 
 all-free : (n i k : ℕ) (t : Thread) → getD (replicate n free) i free ≡ taken k t → ⊥
@@ -230,7 +226,7 @@ all-free (suc n) zero k t e = let z : _≡_ {A = ℕ} 0 1 = cc in omega arith
 all-free (suc n) (suc i) k t e = all-free n i k t e
 
 module _ (compile : Compiler) (holds : Meaning) (laws : Laws compile holds) where
-  step-agrees : (d : State) (h : History) (count : ℕ → ℕ) (x : Call) → Agrees holds d h count
+  pub step-agrees : (d : State) (h : History) (count : ℕ → ℕ) (x : Call) → Agrees holds d h count
       → Agrees holds (step compile d x .state) (advance h (event x (step compile d x .answer))) (counted count (event x (step compile d x .answer)))
   unfolding step advance
   step-agrees d h count x c = by-request (decoded x) refl

@@ -1,7 +1,7 @@
 -- The limits, by an invariant that every accepted call keeps: a call that adds something was not refused by 10, which is its limit, and the
 -- others add nothing. There are always 64 places, so no more threads live; and the frames are bounded place by place. Assumes nothing.
-use mathlib.Core.Path.{_≡_, refl, ap, _∙_}
-use mathlib.Core.Bool.{Bool, false, not}
+use mathlib.Core.Path.{_≡_, refl, _∙_}
+use mathlib.Core.Bool.{false, not}
 use mathlib.Core.List.{List, [], _∷_, _++_, map}
 use mathlib.Core.Option.{Option, none, some}
 use Prim.Native.Nat.{ℕ, zero, suc, _+_, _≤_, zero-le, suc-le-suc}
@@ -12,7 +12,9 @@ use Rattle.product.specs.declared.literal.Key.{Key}
 use Rattle.product.specs.declared.literal.Key.the-variants.{Defined}
 use Rattle.product.specs.Sum.{Sum}
 use Rattle.formula.specs.Outcome.{outcomeOf, sumIn}
+use Rattle.formula.specs.Opening.{textHolds}
 use Rattle.formula.specs.Compiler.{Compiler}
+use Rattle.formula.proofs.Opening.{laws}
 use Rattle.call.specs.declared.request.Request.{Request}
 use Rattle.call.specs.declared.request.Request.the-variants.{NewUser, StartThread, EndThread, NewSegment, NewKey, GiveKey, TakeKey, AddLock, DropLock, CallSegment, ReturnCall, Access}
 use Rattle.call.specs.declared.request.Decoded.{Decoded}
@@ -22,27 +24,18 @@ use Rattle.call.specs.Conditions.{firstRefusal}
 use Rattle.call.proofs.Conditions.{all-fail}
 use Rattle.call.proofs.Truth.{neither}
 use Rattle.model.specs.declared.answer.Refusal.{Refusal}
-use Rattle.model.specs.Lists.{any, keep, orDefault, tailOf}
+use Rattle.model.specs.Lists.{any, orDefault, tailOf}
 use Rattle.model.specs.Limits.{mostUsers, mostThreads, mostSegments, mostDefined, mostListed, mostProducts, mostFrames, mostNumbers, passes}
 use Rattle.model.specs.Threads.{Thread, sameKey}
 use Rattle.model.specs.Model.{State, emptyState, Segment, nowhere, segmentAt, Place, free, taken, isFree, threadIn, nobody, placeFor, placeOf, threadAt, isOf, homeOf, issued, conditions, withPlaces, withSegments, onSegment, onThread, atPlace, pushFrame, popFrame, giveKey, takeKey, guarded, addProducts, dropProducts, update, judged, stepDecoded, step}
 use Rattle.model.specs.Replay.{decoded, stateAfter}
 use Rattle.model.specs.Bounds.{liveIn, Within, BoundsAlways, Bounds}
-use Rattle.model.proofs.Lists.{caseBool}
+use Rattle.model.proofs.Lists.{length-keep, length-append-one}
+use Rattle.model.proofs.Refinement.{follows}
 
 -- ---- laws of lists
 
 module _ {A : Type 0} where
-  length-keep : (p : A → Bool) (xs : List A) → length (keep p xs) ≤ length xs
-  length-keep p [] = zero-le
-  length-keep p (x ∷ xs) =
-      let h : length (keep p xs) ≤ length xs = length-keep p xs in
-      caseBool (p x) (λ e. simp e (suc-le-suc h)) (λ e. simp e (omega arith))
-
-  length-append-one : (xs : List A) (x : A) → length (xs ++ x ∷ []) ≡ suc (length xs)
-  length-append-one [] x = refl
-  length-append-one (y ∷ ys) x = ap suc (length-append-one ys x)
-
   length-tailOf : (xs : List A) → length (tailOf xs) ≤ length xs
   length-tailOf [] = zero-le
   length-tailOf (x ∷ xs) = omega arith
@@ -336,3 +329,10 @@ keep-calls compile d k (x ∷ xs) = keep-calls compile (step compile d x .state)
 
 pub bounds-always : BoundsAlways
 bounds-always compile xs = kept-within (stateAfter compile emptyState xs) (keep-calls compile emptyState kept-empty xs)
+
+pub bounds : Bounds
+bounds =
+    record {
+      model = bounds-always outcomeOf;
+      arrays = λ xs. rw (follows outcomeOf textHolds laws xs .state) (bounds-always outcomeOf xs);
+    }

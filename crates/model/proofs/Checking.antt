@@ -1,15 +1,15 @@
 -- What the model answers to a fitting C or A of a live thread, read from a history that agrees with it. Its conditions before the check fail,
 -- and the check's two locks are the history's. Assumes nothing.
 use mathlib.Core.Path.{_≡_, refl, sym, ap, _∙_}
-use mathlib.Core.Bool.{Bool, true, false, _&&_, not, cond}
-use mathlib.Core.List.{List, []}
+use mathlib.Core.Bool.{Bool, true, false, not, cond}
+use mathlib.Core.List.{List}
 use mathlib.Core.Option.{Option, none, some}
 use Prim.Native.Nat.{ℕ, suc, _<_}
 use native.Mathlib.Omega.{arith}
-use lib.Dec.{eqb, ltb}
+use lib.Dec.{ltb}
 use lib.ListN.{length, getElem?}
 use borrow.Author.Tests.{lt-ltb, ltb-true, ltb-false, le-ltb}
-use Rattle.formula.specs.Compiler.{Compiler, Meaning, Laws}
+use Rattle.formula.specs.Compiler.{Compiler, Meaning}
 use Rattle.call.specs.declared.request.Request.{Request}
 use Rattle.call.specs.declared.request.Request.the-variants.{CallSegment, Access}
 use Rattle.call.specs.Conditions.{firstRefusal}

@@ -1,5 +1,5 @@
 -- The worked examples, by computing. Assumes nothing.
-use mathlib.Core.Path.{_≡_, refl}
+use mathlib.Core.Path.{refl}
 use Rattle.product.specs.Atom.{orderOf, compareAtoms, compareLiterals}
 use Rattle.product.specs.Product.{opens, insert, union, clashes, contradictory, sameProduct}
 use Rattle.product.specs.Sum.{joinEach, joinAll, present, consistent, firsts, narrow, fitsNode}
@@ -15,7 +15,7 @@ use Rattle.journal.proofs.Examples.{examples as journal-examples}
 use Rattle.model.specs.Model.{opening, conditions, update, answer, step}
 use Rattle.model.specs.Cells.{stateOf, store, stepCells}
 use Rattle.model.specs.History.{note, advance}
-use Rattle.model.specs.Examples.{answers, route, Examples}
+use Rattle.model.specs.Examples.{Examples}
 
 pub examples : Examples
 unfolding bytes outcomeOf issuedTo readText readNots readAtom readNumber readDigits listOf products fits fitsNode narrow firsts consistent present sameProduct joinAll joinEach union insert contradictory clashes compareLiterals compareAtoms orderOf keyCode codeOf keyAt literalAt opens decodedOf opening conditions update answer step stateOf store stepCells note advance

@@ -1,6 +1,5 @@
 -- Demand 3: the agreement of model and history, read at the call after the list; the arrays hold the model. Assumes nothing.
 use mathlib.Core.Path.{_≡_, refl, sym, ap, _∙_}
-use mathlib.Core.Logic.{_↔_}
 use mathlib.Core.Bool.{Bool, true, false, _&&_, not, false≢true}
 use mathlib.Core.List.{List, [], _∷_, List·Memᴰ, List·Memᴰ·head, List·Memᴰ·tail}
 use mathlib.Core.Option.{Option, none, some}
@@ -21,12 +20,13 @@ use Rattle.model.specs.Lists.{any, first, isSome}
 use Rattle.model.specs.Operations.{denies, grants}
 use Rattle.model.specs.Threads.{Thread}
 use Rattle.model.specs.Model.{State, emptyState, conditions, judged, stepDecoded, step}
-use Rattle.model.specs.History.{History, Lock, Event, history}
+use Rattle.model.specs.History.{History, Lock, history}
 use Rattle.model.specs.Granting.{Operation, requestOf, threadOf, Fits, hasRoom, lockOpens, granted, Granted, verdict, answerFrom, Grants, GrantingByLaws, Granting}
-use Rattle.model.specs.Replay.{decoded, stateAfter, eventsOf}
+use Rattle.model.specs.Replay.{decoded, stateAfter, eventsOf, reached, answerTo}
 use Rattle.model.proofs.Lists.{caseBool, clash, isSome-first}
 use Rattle.model.proofs.Agreement.{agree}
 use Rattle.model.proofs.Checking.{answers-from}
+use Rattle.model.proofs.Refinement.{refinement-by-laws, follows}
 
 -- ---- the test and the words
 
@@ -109,3 +109,15 @@ on-model compile holds l xs next =
     (λ o t fits live.
     answer-is compile (stateAfter compile emptyState xs) next (requestOf o) (fits .wellFormed)
     ∙ answers-from compile holds (next .text) _ _ _ (agree compile holds l xs) o t live (fits .entry) (fits .handedOut) (fits .numbered) (fits .taken))
+
+-- ---- on the arrays
+
+pub granting-by-laws : GrantingByLaws
+granting-by-laws compile holds l xs next =
+    let f = follows compile holds l xs in
+    let r = refinement-by-laws compile holds l (reached compile xs) (f .sized) next in
+    let last : answerTo compile xs next ≡ step compile (stateAfter compile emptyState xs) next .answer = r .answer ∙ ap (λ (d : State). step compile d next .answer) (f .state) in
+    rw (f .events, last) (on-model compile holds l xs next)
+
+pub granting : Granting
+granting = granting-by-laws outcomeOf textHolds laws

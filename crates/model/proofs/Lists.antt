@@ -1,17 +1,17 @@
 -- Laws of lists: tests over them, what a test keeps, the first that passes, and a list read index by index. Assumes nothing.
 use mathlib.Core.Path.{_≡_, refl, sym, ap, _∙_}
 use mathlib.Core.Logic.{_≢_}
-use mathlib.Core.Bool.{Bool, true, false, _&&_, _||_, not, cond, true≢false, false≢true, or-assoc}
+use mathlib.Core.Bool.{Bool, true, false, _&&_, _||_, cond, true≢false, false≢true, or-assoc}
 use mathlib.Core.List.{List, [], _∷_, _++_, map, append-assoc}
 use mathlib.Core.Option.{Option, none, some}
 use Prim.Native.Nat.{ℕ, zero, suc, _+_, _≤_, _<_, zero-le, suc-le-suc}
 use native.Mathlib.Omega.{arith}
 use native.Mathlib.Nat.{add-zero, add-suc, suc-add, le-of-suc-le-suc, not-suc-le-zero}
 use lib.Dec.{eqb, eqb·suc-suc, eqb·suc-zero, eqb·zero-suc}
-use lib.ListN.{length, getD, set, getElem?}
+use lib.ListN.{length, getD, set, getElem?, length-set}
 use lib.Seq.{getD-set-same, getD-set-other, ext-getD}
-use borrow.Author.Tests.{eqb-true, eqb-false, eq-eqb, ne-eqb}
-use Rattle.model.specs.Lists.{any, keep, keepIf, first, orElse, isSome, indexOf, each, mapOption, put, adjust}
+use borrow.Author.Tests.{eqb-true, eqb-false, eq-eqb}
+use Rattle.model.specs.Lists.{any, keep, first, isSome, indexOf, each, mapOption, put, adjust}
 
 -- every element
 module _ {A : Type 0} where
@@ -92,6 +92,24 @@ module _ {A : Type 0} where
       caseBool (q x)
       (λ e. simp (h .0 e, e, keep-idle p q xs (h .1)))
       (λ e. caseBool (p x) (λ e′. simp (e, e′, keep-idle p q xs (h .1))) (λ e′. simp (e, e′, keep-idle p q xs (h .1))))
+
+  pub keep-same : (p q : A → Bool) → ((x : A) → p x ≡ q x) → (xs : List A) → keep p xs ≡ keep q xs
+  keep-same p q h [] = refl
+  keep-same p q h (x ∷ xs) = simp (h x, keep-same p q h xs)
+
+  pub keep-passes : (p : A → Bool) (xs : List A) → All (λ x. p x ≡ true) (keep p xs)
+  keep-passes p [] = tt
+  keep-passes p (x ∷ xs) = caseBool (p x) (λ e. simp e (refl, keep-passes p xs)) (λ e. simp e (keep-passes p xs))
+
+  pub length-append-one : (xs : List A) (x : A) → length (xs ++ x ∷ []) ≡ suc (length xs)
+  length-append-one [] x = refl
+  length-append-one (y ∷ ys) x = ap suc (length-append-one ys x)
+
+  pub length-keep : (p : A → Bool) (xs : List A) → length (keep p xs) ≤ length xs
+  length-keep p [] = zero-le
+  length-keep p (x ∷ xs) =
+      let h : length (keep p xs) ≤ length xs = length-keep p xs in
+      caseBool (p x) (λ e. simp e (suc-le-suc h)) (λ e. simp e (omega arith))
 
   pub All-map : {P Q : A → Type 0} → ((x : A) → P x → Q x) → (xs : List A) → All P xs → All Q xs
   All-map f [] h = tt
@@ -200,7 +218,40 @@ module _ {A : Type 0} (f : ℕ → A) where
   each-snoc i zero = rw add-zero
   each-snoc i (suc n) = ap (λ (r : List A). f i ∷ r) (each-snoc (suc i) n ∙ rw (suc-add, add-suc))
 
+-- an index later
+pub each-suc : {A : Type 0} (f : ℕ → A) (i n : ℕ) → each f (suc i) n ≡ each (λ j. f (suc j)) i n
+each-suc f i zero = refl
+each-suc {A} f i (suc n) = ap (λ (r : List A). f (suc i) ∷ r) (each-suc f (suc i) n)
+
+-- every element of a list, with what follows it
+pub each-getD : {A B : Type 0} (f : A → B) (d : A) (xs ys : List A) → each (λ i. f (getD (xs ++ ys) i d)) 0 (length xs) ≡ map f xs
+each-getD f d [] ys = refl
+each-getD {B = B} f d (x ∷ xs) ys =
+    ap (λ (r : List B). f x ∷ r) (each-suc (λ i. f (getD (x ∷ (xs ++ ys)) i d)) 0 (length xs) ∙ each-getD f d xs ys)
+
 pub each-same : {A : Type 0} (f g : ℕ → A) (i n : ℕ) → ((j : ℕ) → i ≤ j → j < i + n → f j ≡ g j) → each f i n ≡ each g i n
 each-same f g i zero h = refl
 each-same {A} f g i (suc n) h =
     rw (h i (omega arith) (omega arith)) (ap (λ (r : List A). g i ∷ r) (each-same f g (suc i) n (λ j l u. h j (omega arith) (omega arith))))
+
+-- changed at one index
+pub each-set : {A : Type 0} (f g : ℕ → A) (n s : ℕ) (d : A) → s < n → ((j : ℕ) → (j ≡ s → ⊥) → f j ≡ g j) → each f 0 n ≡ set (each g 0 n) s (f s)
+each-set {A} f g n s d lt h =
+    ext-getD d (each f 0 n) (set (each g 0 n) s (f s)) (length-each f 0 n ∙ sym (length-set (each g 0 n) s (f s) ∙ length-each g 0 n)) same
+  where
+    zero-on : (j : ℕ) → 0 + j ≡ j
+    zero-on j = omega arith
+
+    same : (j : ℕ) → j < length (each f 0 n) → getD (each f 0 n) j d ≡ getD (set (each g 0 n) s (f s)) j d
+    same j l =
+        let low : j < n = omega (arith, length-each f 0 n) in
+        getD-each f 0 n j d low ∙ ap f (zero-on j)
+        ∙ caseBool (eqb j s)
+        (λ e. let p = eqb-true j s e in
+        sym (ap (λ (i : ℕ). getD (set (each g 0 n) s (f s)) i d) p ∙ getD-set-same (each g 0 n) s (f s) d (omega (arith, length-each g 0 n)) ∙ ap f (sym p)))
+        (λ e. h j (eqb-false j s e) ∙ sym (getD-set-other (each g 0 n) s j (f s) d (eqb-false j s e) ∙ getD-each g 0 n j d low ∙ ap g (zero-on j)))
+
+pub map-set : {A B : Type 0} (g : A → B) (xs : List A) (i : ℕ) (x : A) → map g (set xs i x) ≡ set (map g xs) i (g x)
+map-set g [] i x = refl
+map-set g (y ∷ ys) zero x = refl
+map-set {B = B} g (y ∷ ys) (suc i) x = ap (λ (r : List B). g y ∷ r) (map-set g ys i x)

@@ -3,14 +3,14 @@
 -- Assumes nothing.
 use mathlib.Core.Path.{_≡_, refl, sym, ap, _∙_}
 use mathlib.Core.Bool.{Bool, true, false, _&&_, _||_, not, cond}
-use mathlib.Core.List.{List, [], _∷_, _++_, map, append-nil}
+use mathlib.Core.List.{List, [], _∷_, _++_, map, append-nil, List·Memᴰ, List·Memᴰ·head, List·Memᴰ·tail}
 use mathlib.Core.Option.{Option, none, some}
 use Prim.Native.Nat.{ℕ, suc, _<_}
 use native.Mathlib.Omega.{arith}
 use lib.Dec.{eqb}
 use lib.ListN.{length, getD, set}
-use borrow.Author.Tests.{eqb-true, eqb-false, eq-eqb, ne-eqb}
-use Rattle.product.specs.Product.{Product, opens}
+use borrow.Author.Tests.{eqb-true, eqb-false, eq-eqb, ne-eqb, lt-ltb}
+use Rattle.product.specs.Product.{opens}
 use Rattle.product.specs.Sum.{Sum, opensAny}
 use Rattle.formula.specs.Compiler.{Meaning}
 use Rattle.call.proofs.Truth.{and-left, and-right}
@@ -18,6 +18,7 @@ use Rattle.model.specs.Lists.{any, keep, first, mapOption, indexOf}
 use Rattle.model.specs.Threads.{KeySet}
 use Rattle.model.specs.Model.{Segment, Guarded, guarded, opensFor, isOf, hasLock, nowhere, addProducts, dropProducts}
 use Rattle.model.specs.History.{Lock}
+use Rattle.model.specs.Refusing.{rising}
 use Rattle.model.proofs.Lists.{All, concatMap, caseBool, eqb-self, any-map, any-concatMap, any-keep, any-and, from-any, map-append, concatMap-append, keep-append, keep-map, keep-concatMap, keep-keep, keep-idle, first-keep, first-map, first-same, All-map, All-append, All-keep, indexOf-lt, indexOf-passes}
 use Rattle.model.proofs.Segments.{productsAt, products-set}
 
@@ -141,6 +142,25 @@ module _ (holds : Meaning) where
       numbers-same : (o : Option Standing) → mapOption (λ (l : Lock). l .number) (mapOption lockIn o) ≡ mapOption (λ (l : Standing). l .number) o
       numbers-same none = refl
       numbers-same (some l) = refl
+
+  -- ---- numbers
+
+  homed-all : (home : ℕ → ℕ) (numbers : ℕ) (ls : List Standing) → All (Sound home numbers) ls → (l : Lock) → List·Memᴰ l (map lockIn ls) → home (l .number) ≡ l .segment
+  homed-all home numbers (x ∷ xs) s l (List·Memᴰ·head e) = ap (λ (k : Lock). home (k .number)) e ∙ s .0 .homed ∙ ap (λ (k : Lock). k .segment) (sym e)
+  homed-all home numbers (x ∷ xs) s l (List·Memᴰ·tail m) = homed-all home numbers xs (s .1) l m
+
+  -- the ghost map tells a standing lock's segment
+  pub lock-homed : (segments : List Segment) (numbers : ℕ) (locks : List Lock) (c : AgreeLocks segments numbers locks) (l : Lock) → List·Memᴰ l locks
+      → c .home (l .number) ≡ l .segment
+  lock-homed segments numbers locks c l m = homed-all (c .home) numbers (c .standing) (c .sound) l (rw (c .written) at m)
+
+  rising-numbers : (ls : List Standing) → Rising ls → rising (map (λ l. l .number) (map lockIn ls)) ≡ true
+  rising-numbers [] r = refl
+  rising-numbers (x ∷ []) r = refl
+  rising-numbers (x ∷ y ∷ ls) r = let lt = lt-ltb (x .number) (y .number) (r .0 .0) in simp lt (rising-numbers (y ∷ ls) (r .1))
+
+  pub locks-rise : (segments : List Segment) (numbers : ℕ) (locks : List Lock) → AgreeLocks segments numbers locks → rising (map (λ l. l .number) locks) ≡ true
+  locks-rise segments numbers locks c = rw (c .written) (rising-numbers (c .standing) (c .rising))
 
   -- ---- L and D
 

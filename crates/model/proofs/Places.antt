@@ -2,10 +2,10 @@
 -- stands at n's place, and a place that is taken is its number's. So no number stands twice, and to take, change or free a place is one
 -- equation. Assumes nothing.
 use mathlib.Core.Path.{_≡_, refl, sym, ap, _∙_}
-use mathlib.Core.Bool.{Bool, true, false, not, cond, false≢true, true≢false}
+use mathlib.Core.Bool.{Bool, true, false, not, cond, false≢true}
 use mathlib.Core.List.{List, [], _∷_}
 use mathlib.Core.Option.{Option, none, some}
-use Prim.Native.Nat.{ℕ, zero, suc, _%_, _≤_, _<_}
+use Prim.Native.Nat.{ℕ, zero, suc, _%_, _<_}
 use native.Mathlib.Omega.{arith}
 use lib.Dec.{eqb}
 use lib.ListN.{length, getD, set, length-set}
@@ -14,7 +14,7 @@ use borrow.Author.Tests.{eqb-true, eqb-false, eq-eqb, ne-eqb}
 use Rattle.model.specs.Lists.{any, isSome, indexOf, put, strike, adjust, Map, mapOption}
 use Rattle.model.specs.Limits.{mostThreads}
 use Rattle.model.specs.Threads.{Thread}
-use Rattle.model.specs.Model.{Place, free, taken, isFree, isThread, threadIn, placeFor, placeOf, findThread, onThread}
+use Rattle.model.specs.Model.{Place, free, taken, isFree, isThread, threadIn, placeFor, placeOf, findThread}
 use Rattle.model.proofs.Lists.{caseBool, clash, eqb-self, indexOf-lt, indexOf-passes}
 
 -- ---- the place that passes a test

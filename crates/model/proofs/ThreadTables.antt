@@ -1,16 +1,16 @@
 -- A thread's table after S, E, C and R holds the place that the call leaves: each store is read back, and the rows of the other frames stay.
 -- Assumes nothing.
 use mathlib.Core.Path.{_≡_, refl, sym, ap, ap₂, _∙_}
-use mathlib.Core.Bool.{Bool, true, false, cond}
+use mathlib.Core.Bool.{true, false}
 use mathlib.Core.List.{List, [], _∷_}
 use Prim.Native.Nat.{ℕ, zero, suc, _-_, _≤_, _<_, min}
 use native.Mathlib.Omega.{arith}
 use lib.Dec.{eqb}
-use lib.ListN.{length, getD, set, length-set}
+use lib.ListN.{length, set, length-set}
 use lib.Seq.{getD-set-same, getD-set-other}
 use Rattle.model.specs.Lists.{tailOf}
 use Rattle.model.specs.Threads.{Frame, Thread}
-use Rattle.model.specs.Model.{Place, free, taken, onThread, pushFrame, popFrame}
+use Rattle.model.specs.Model.{free, taken, onThread, pushFrame, popFrame}
 use Rattle.model.specs.Cells.{Row, Table, cell, rowAt, frameCount, liveCell, numberCell, userCell, keysOf, frameOf, framesOf, depthOf, placeIn, setCell, startThread, endThread, pushRow, popRow}
 use Rattle.model.proofs.Lists.{caseBool}
 

@@ -9,7 +9,7 @@
 -- threads: [[[u16; 8]; 17]; 64]    row 0: number, user, number of frames, 1 where it is live; rows 1 to 16: the frames, the oldest first, each
 --                                  a copy of its segment's key list
 use mathlib.Core.Path.{_≡_}
-use mathlib.Core.Bool.{Bool, _&&_, not, cond}
+use mathlib.Core.Bool.{Bool, not, cond}
 use mathlib.Core.List.{List, [], _∷_, _++_, map}
 use mathlib.Core.Option.{Option, none, some}
 use Prim.Native.Nat.{ℕ, zero, suc, _+_, _-_, _*_, _/_, _%_, _<_, min}
@@ -36,7 +36,7 @@ use Rattle.model.specs.declared.answer.Answer.{Answer}
 use Rattle.model.specs.declared.answer.Answer.the-variants.{Accepted, Refused}
 use Rattle.model.specs.Lists.{keep, each}
 use Rattle.model.specs.Limits.{mostThreads, mostSegments, mostDefined, mostListed, mostProducts, mostFrames}
-use Rattle.model.specs.Threads.{Frame, Thread}
+use Rattle.model.specs.Threads.{Frame}
 use Rattle.model.specs.Model.{Guarded, Segment, Place, free, taken, State, isFree, placeFor, placeOf, homeOf, issued, conditions, answer}
 
 -- a row of cells, a table of rows, an array of tables

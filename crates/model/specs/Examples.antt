@@ -2,12 +2,12 @@
 -- seventeenth open call; a list of edits in mid-call; and lists of calls after which the premises of `Granting` hold. Proved in
 -- `proofs/Examples.antt`, by computing. Assumes nothing.
 use mathlib.Core.Path.{_≡_}
-use mathlib.Core.Bool.{Bool, true}
+use mathlib.Core.Bool.{true}
 use mathlib.Core.List.{List, [], _∷_, _++_, map}
-use mathlib.Core.Option.{Option, some}
+use mathlib.Core.Option.{some}
 use Prim.Native.Nat.{ℕ}
 use lib.ListN.{replicate, take}
-use Rattle.product.specs.declared.literal.Key.the-variants.{Segment as SegmentKey, Defined}
+use Rattle.product.specs.declared.literal.Key.the-variants.{Segment as SegmentKey}
 use Rattle.formula.specs.Outcome.{outcomeOf}
 use Rattle.formula.specs.Examples.{bytes, Examples as FormulaExamples}
 use Rattle.call.specs.Calls.{Call, callWith}
@@ -18,7 +18,7 @@ use Rattle.model.specs.declared.answer.Answer.{Answer}
 use Rattle.model.specs.declared.answer.Answer.the-variants.{Accepted, Refused}
 use Rattle.model.specs.declared.answer.Refusal.the-variants.{UnknownUser, NoThread, Full, Denied, NotGranted}
 use Rattle.model.specs.Lists.{mapOption}
-use Rattle.model.specs.Threads.{Thread, keySet}
+use Rattle.model.specs.Threads.{keySet}
 use Rattle.model.specs.Granting.{calls, accesses, Fits}
 use Rattle.model.specs.Replay.{events, historyOf}
 

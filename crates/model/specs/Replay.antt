@@ -6,7 +6,7 @@ use Rattle.formula.specs.Compiler.{Compiler}
 use Rattle.call.specs.declared.request.Decoded.{Decoded}
 use Rattle.call.specs.Calls.{Call, decodedOf}
 use Rattle.model.specs.declared.answer.Answer.{Answer}
-use Rattle.model.specs.Model.{State, emptyState, step}
+use Rattle.model.specs.Model.{State, step}
 use Rattle.model.specs.Cells.{Cells, stepCells, emptyCells}
 use Rattle.model.specs.History.{Event, event, History, history}
 

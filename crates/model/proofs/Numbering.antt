@@ -1,0 +1,168 @@
+-- What an accepted call answers, by the agreement of model and history: before it, and for key lists after it. Assumes nothing.
+use mathlib.Core.Path.{_≡_, refl, sym, ap, _∙_}
+use mathlib.Core.Bool.{Bool, true, false, not, false≢true}
+use mathlib.Core.List.{List, [], _∷_, List·Memᴰ}
+use mathlib.Core.Option.{Option, none, some}
+use Prim.Native.Nat.{ℕ, _+_, _<_}
+use native.Mathlib.Omega.{arith}
+use lib.ListN.{length, getD, set, length-set}
+use lib.Seq.{getD-set-same}
+use borrow.Author.Tests.{ltb-true, not-false}
+use Rattle.formula.specs.Outcome.{outcomeOf}
+use Rattle.formula.specs.Opening.{textHolds}
+use Rattle.formula.specs.Compiler.{Compiler, Meaning, Laws}
+use Rattle.formula.proofs.Opening.{laws}
+use Rattle.call.specs.declared.request.Request.{Request}
+use Rattle.call.specs.declared.request.Request.the-variants.{NewUser, StartThread, EndThread, NewSegment, NewKey, GiveKey, TakeKey, AddLock, DropLock, CallSegment, ReturnCall, Access}
+use Rattle.call.specs.declared.request.Decoded.{Decoded}
+use Rattle.call.specs.declared.request.Decoded.the-variants.{WellFormed}
+use Rattle.call.specs.Calls.{Call}
+use Rattle.call.specs.Requests.{callOf}
+use Rattle.call.specs.Conditions.{firstRefusal}
+use Rattle.call.proofs.Conditions.{all-fail}
+use Rattle.model.specs.declared.answer.Refusal.{Refusal}
+use Rattle.model.specs.declared.answer.Answer.{Answer}
+use Rattle.model.specs.declared.answer.Answer.the-variants.{Accepted}
+use Rattle.model.specs.Lists.{keep}
+use Rattle.model.specs.Threads.{Frame, Thread}
+use Rattle.model.specs.Model.{State, emptyState, Segment, nowhere, segmentAt, findThread, threadAt, hasLock, isLock, isOf, homeOf, giveKey, takeKey, dropProducts, newest, conditions, update, answer, judged, stepDecoded, step}
+use Rattle.model.specs.History.{History, Lock, event, advance, history, listOf, acceptedOf}
+use Rattle.model.specs.Replay.{decoded, reached, stateAfter, eventsOf}
+use Rattle.model.specs.Numbering.{handsOut, Numbers, NumberingByLaws, Numbering}
+use Rattle.model.proofs.Lists.{caseBool, indexOf-lt}
+use Rattle.model.proofs.Places.{look}
+use Rattle.model.proofs.Locks.{found, lock-homed, locks-rise}
+use Rattle.model.proofs.Agreement.{Agrees, agree, counted, step-agrees, keys-agree, request-letter}
+use Rattle.model.proofs.Refinement.{refinement-by-laws, follows}
+
+-- what stays and what goes are all
+keep-parts : {A : Type 0} (p : A → Bool) (xs : List A) → length xs ≡ length (keep (λ x. not (p x)) xs) + length (keep p xs)
+keep-parts p [] = refl
+keep-parts p (x ∷ xs) = let h = keep-parts p xs in caseBool (p x) (λ e. simp e (omega arith)) (λ e. simp e (omega arith))
+
+-- an accepted call: no condition held, its answer is the model's, and the state is what it changes
+record Taken (compile : Compiler) (d : State) (next : Call) (q : Request) (n : ℕ) : Type 0 where
+  pub free : firstRefusal (conditions compile d q (next .text)) ≡ none
+  pub number : n ≡ answer compile d q (next .text)
+  pub state : step compile d next .state ≡ update compile d q (next .text)
+
+taken : (compile : Compiler) (d : State) (next : Call) (q : Request) (n : ℕ) → decoded next ≡ WellFormed q → step compile d next .answer ≡ Accepted n
+    → Taken compile d next q n
+unfolding step
+taken compile d next q n e a = by (firstRefusal (conditions compile d q (next .text))) refl (sym (ap (λ (k : Decoded). stepDecoded compile d k (next .text) .answer) e) ∙ a)
+  where
+    by : (o : Option Refusal) → firstRefusal (conditions compile d q (next .text)) ≡ o → judged compile d q (next .text) (firstRefusal (conditions compile d q (next .text))) .answer ≡ Accepted n
+        → Taken compile d next q n
+    by none f h =
+        record {
+          free = f;
+          number = let k : Accepted (answer compile d q (next .text)) ≡ Accepted n = sym (ap (λ (o : Option Refusal). judged compile d q (next .text) o .answer) f) ∙ h in cc;
+          state = ap (λ (k : Decoded). stepDecoded compile d k (next .text) .state) e ∙ ap (λ (o : Option Refusal). judged compile d q (next .text) o .state) f;
+        }
+    by (some r) f h =
+        let k = sym (ap (λ (o : Option Refusal). judged compile d q (next .text) o .answer) f) ∙ h in
+        let z : _≡_ {A = ℕ} 0 1 = cc in absurd (omega arith)
+
+module _ (compile : Compiler) (holds : Meaning) (law : Laws compile holds) (d : State) (h : History) (count : ℕ → ℕ) (c : Agrees holds d h count) (next : Call) where
+  abbrev r : Answer
+  r = step compile d next .answer
+
+  abbrev text : List ℕ
+  text = next .text
+
+  counted-as : (q : Request) → handsOut q ≡ true → answer compile d q text ≡ count (callOf q text .letter)
+  unfolding answer
+  counted-as NewUser e = c .counts .0
+  counted-as (StartThread a) e = c .counts .1
+  counted-as (EndThread a) e = absurd (false≢true e)
+  counted-as (NewSegment a b) e = c .counts .2
+  counted-as (NewKey a) e = c .counts .3
+  counted-as (GiveKey a b k) e = absurd (false≢true e)
+  counted-as (TakeKey a b k) e = absurd (false≢true e)
+  counted-as (AddLock a b o) e = c .counts .4
+  counted-as (DropLock a b) e = absurd (false≢true e)
+  counted-as (CallSegment a b) e = absurd (false≢true e)
+  counted-as (ReturnCall a) e = absurd (false≢true e)
+  counted-as (Access a b o) e = absurd (false≢true e)
+
+  thread-is : (a : ℕ) (t : Thread) → h .threads a ≡ some t → threadAt d a ≡ t
+  thread-is a t e = let f : findThread a (d .places) ≡ some t = sym (look (d .places) (d .threadNumbers) (h .threads) (c .threads) a) ∙ e in simp f
+
+  ended-as : (a n : ℕ) → decoded next ≡ WellFormed (EndThread a) → r ≡ Accepted n → (t : Thread) → h .threads a ≡ some t → n ≡ length (t .frames)
+  unfolding answer
+  ended-as a n e k t live = taken compile d next (EndThread a) n e k .number ∙ ap (λ (x : Thread). length (x .frames)) (thread-is a t live)
+
+  left-as : (a n : ℕ) → decoded next ≡ WellFormed (ReturnCall a) → r ≡ Accepted n → (t : Thread) → h .threads a ≡ some t
+      → (f : Frame) (fs : List Frame) → t .frames ≡ f ∷ fs → n ≡ f .segment
+  unfolding answer
+  left-as a n e k t live f fs w =
+      taken compile d next (ReturnCall a) n e k .number ∙ ap (λ (x : Thread). newest (x .frames)) (thread-is a t live) ∙ ap newest w
+
+  -- the list that the history has after a change of segment b is the changed one
+  listed-as : (b : ℕ) (f : Segment → Segment) → b < length (d .segments) → step compile d next .state .segments ≡ set (d .segments) b (f (segmentAt d b))
+      → listOf (advance h (event next r)) b ≡ f (segmentAt d b) .keys
+  listed-as b f lt w =
+      let d′ = step compile d next .state in
+      let same : length (d′ .segments) ≡ length (d .segments) = ap length w ∙ length-set (d .segments) b _ in
+      keys-agree compile holds law text d′ _ (counted count (event next r)) (step-agrees compile holds law d h count next c) b (omega arith)
+      ∙ ap (λ (gs : List Segment). getD gs b nowhere .keys) w
+      ∙ ap (λ (g : Segment). g .keys) (getD-set-same (d .segments) b (f (segmentAt d b)) nowhere lt)
+
+  given-as : (a b k n : ℕ) → decoded next ≡ WellFormed (GiveKey a b k) → r ≡ Accepted n → n ≡ length (listOf (advance h (event next r)) b)
+  unfolding answer conditions update
+  given-as a b k n e w =
+      let t = taken compile d next (GiveKey a b k) n e w in
+      let lt = ltb-true b (length (d .segments)) (not-false _ (all-fail (conditions compile d (GiveKey a b k) text) (t .free) .1 .0)) in
+      t .number ∙ ap length (sym (listed-as b (giveKey k) lt (ap (λ (s : State). s .segments) (t .state))))
+
+  taken-as : (a b k n : ℕ) → decoded next ≡ WellFormed (TakeKey a b k) → r ≡ Accepted n → n ≡ length (listOf (advance h (event next r)) b)
+  unfolding answer conditions update
+  taken-as a b k n e w =
+      let t = taken compile d next (TakeKey a b k) n e w in
+      let lt = ltb-true b (length (d .segments)) (not-false _ (all-fail (conditions compile d (TakeKey a b k) text) (t .free) .1 .0)) in
+      t .number ∙ ap length (sym (listed-as b (takeKey k) lt (ap (λ (s : State). s .segments) (t .state))))
+
+  dropped-as : (a b n : ℕ) → decoded next ≡ WellFormed (DropLock a b) → r ≡ Accepted n → (l : Lock) → List·Memᴰ l (h .locks) → l .number ≡ b
+      → length (segmentAt d (l .segment) .products) ≡ length (segmentAt (step compile d next .state) (l .segment) .products) + n
+  unfolding answer conditions update
+  dropped-as a b n e w l m same =
+      let t = taken compile d next (DropLock a b) n e w in
+      let there : isLock d b ≡ true = not-false _ (all-fail (conditions compile d (DropLock a b) text) (t .free) .1 .0) in
+      let s : ℕ = homeOf d b in
+      let lt = indexOf-lt (hasLock b) (d .segments) there in
+      let home : l .segment ≡ s =
+      sym (lock-homed holds (d .segments) (d .lockNumbers) (h .locks) (c .locks) l m)
+      ∙ ap (c .locks .home) same ∙ found holds (d .segments) (d .lockNumbers) (h .locks) (c .locks) b there in
+      let after : segmentAt (step compile d next .state) s .products ≡ keep (λ x. not (isOf b x)) (segmentAt d s .products) =
+      ap (λ (y : State). segmentAt y s .products) (t .state)
+      ∙ ap (λ (g : Segment). g .products) (getD-set-same (d .segments) s (dropProducts b (segmentAt d s)) nowhere lt) in
+      rw (home, after, t .number) (keep-parts (isOf b) (segmentAt d s .products))
+
+on-model : (compile : Compiler) (holds : Meaning) → Laws compile holds → (xs : List Call) (next : Call)
+    → let d = stateAfter compile emptyState xs in Numbers (eventsOf compile emptyState xs) d next (step compile d next .answer) (step compile d next .state)
+on-model compile holds law xs next =
+    let d = stateAfter compile emptyState xs in
+    let es = eventsOf compile emptyState xs in
+    let count : ℕ → ℕ = λ k. acceptedOf k es in
+    let c = agree compile holds law xs in
+    record {
+      handedOut = λ q n e w hands.
+          taken compile d next q n e w .number
+          ∙ counted-as compile holds law d (history es) count c next q hands
+          ∙ ap (λ (k : ℕ). acceptedOf k es) (sym (request-letter next q e));
+      ended = ended-as compile holds law d (history es) count c next;
+      given = given-as compile holds law d (history es) count c next;
+      taken = taken-as compile holds law d (history es) count c next;
+      dropped = dropped-as compile holds law d (history es) count c next;
+      left = left-as compile holds law d (history es) count c next;
+      inOrder = locks-rise holds (d .segments) (d .lockNumbers) (history es .locks) (c .locks);
+    }
+
+pub numbering-by-laws : NumberingByLaws
+numbering-by-laws compile holds law xs next =
+    let f = follows compile holds law xs in
+    let r = refinement-by-laws compile holds law (reached compile xs) (f .sized) next in
+    rw (f .events, r .answer, r .state, f .state) (on-model compile holds law xs next)
+
+pub numbering : Numbering
+numbering = numbering-by-laws outcomeOf textHolds laws
