@@ -28,6 +28,7 @@ examples =
       texts = formula-examples;
       twiceAnswers = refl;
       twiceHeld = refl;
+      backAnswers = refl;
       deepAnswers = refl;
       editAnswers = refl;
       callFits = record { wellFormed = refl; numbered = refl; entry = _; handedOut = refl; taken = refl };

@@ -1,6 +1,5 @@
--- Worked examples: document 01's starred trials under 'Trial desks', on the arrays and with the compiler that there is; the sixteenth and the
--- seventeenth open call; a list of edits in mid-call; and lists of calls after which the premises of `Granting` hold. Proved in
--- `proofs/Examples.antt`, by computing. Assumes nothing.
+-- Worked examples: document 01's starred trials under 'Trial desks' (marked *), on the arrays and with the compiler that there is; a few more; and
+-- lists of calls after which the premises of `Granting` hold. Proved in `proofs/Examples.antt`, by computing. Assumes nothing.
 use mathlib.Core.Path.{_≡_}
 use mathlib.Core.Bool.{true}
 use mathlib.Core.List.{List, [], _∷_, _++_, map}
@@ -73,9 +72,15 @@ route =
 abbrev pub twice : List Call
 twice = U ∷ N 0 0 ∷ L 0 0 1 (bytes "U0") ∷ S 0 ∷ C 0 0 ∷ C 0 0 ∷ R 0 ∷ []
 
--- one segment called seventeen times
+-- a sheet that is read by way of segment 0, from inside segment 1, after the return from there, and after the return from segment 0
+abbrev pub back : List Call
+back =
+    U ∷ N 0 0 ∷ N 0 0 ∷ N 0 1 ∷ L 0 0 1 (bytes "U0") ∷ L 0 1 1 (bytes "U0") ∷ L 0 2 2 (bytes "S0") ∷ S 0
+    ∷ C 0 0 ∷ C 0 1 ∷ A 0 2 2 ∷ R 0 ∷ A 0 2 2 ∷ R 0 ∷ A 0 2 2 ∷ []
+
+-- one segment called sixteen times, then once more; then once more without the lock
 abbrev pub deep : List Call
-deep = U ∷ N 0 0 ∷ L 0 0 1 (bytes "U0") ∷ S 0 ∷ replicate 17 (C 0 0)
+deep = U ∷ N 0 0 ∷ L 0 0 1 (bytes "U0") ∷ S 0 ∷ replicate 16 (C 0 0) ++ C 0 0 ∷ D 0 0 ∷ C 0 0 ∷ []
 
 -- a key given, and taken while a call that handed it over is open; a deny lock on that key, dropped; the grant lock dropped; the thread ended
 abbrev pub edits : List Call
@@ -97,8 +102,12 @@ pub record Examples : Type 0 where
   -- * 'Call one segment twice, return once: its S key is held.'
   pub twiceAnswers : answers twice ≡ Accepted 0 ∷ Accepted 0 ∷ Accepted 0 ∷ Accepted 0 ∷ Accepted 0 ∷ Accepted 0 ∷ Accepted 0 ∷ []
   pub twiceHeld : mapOption (λ t. keySet 0 t (SegmentKey 0)) (historyOf outcomeOf twice .threads 0) ≡ some true
-  -- 'The 16th open call is accepted; a 17th that a grant lock and no deny lock opens is 10'
-  pub deepAnswers : answers deep ≡ replicate 20 (Accepted 0) ++ Refused Full ∷ []
+  -- the key of the open call that is left stays, and goes with it
+  pub backAnswers : answers back
+      ≡ Accepted 0 ∷ Accepted 0 ∷ Accepted 1 ∷ Accepted 2 ∷ Accepted 0 ∷ Accepted 1 ∷ Accepted 2 ∷ Accepted 0
+      ∷ Accepted 0 ∷ Accepted 1 ∷ Accepted 2 ∷ Accepted 1 ∷ Accepted 2 ∷ Accepted 0 ∷ Refused NotGranted ∷ []
+  -- 'The 16th open call is accepted; a 17th that a grant lock and no deny lock opens is 10, one without a lock 15.'
+  pub deepAnswers : answers deep ≡ replicate 20 (Accepted 0) ++ Refused Full ∷ Accepted 1 ∷ Refused NotGranted ∷ []
   -- the key stays with the open call that handed it over, so the deny lock opens; then it is gone, and then the grant lock is
   pub editAnswers : answers edits
       ≡ Accepted 0 ∷ Accepted 0 ∷ Accepted 0 ∷ Accepted 2 ∷ Accepted 0 ∷ Accepted 0 ∷ Accepted 0 ∷ Accepted 1 ∷ Accepted 1
