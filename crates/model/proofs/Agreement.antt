@@ -144,7 +144,7 @@ module _ (compile : Compiler) (holds : Meaning) (laws : Laws compile holds) (tex
       record {
         threads = c .threads;
         segments = agree-unseen (d .segments) (h .segments) (c .segments) b (addProducts (d .lockNumbers) o (sumIn x)) (λ g. refl);
-        locks = agree-add holds (d .segments) (d .lockNumbers) (h .locks) (c .locks) b o text (sumIn x) lt (laws .opening (issued d) text _ ps);
+        locks = agree-add holds (d .segments) (d .lockNumbers) (h .locks) (c .locks) b o text (sumIn x) lt (laws .bounds (issued d) text _ ps .filled) (laws .opening (issued d) text _ ps);
         counts = (u, t, length-set (d .segments) b _ ∙ s, k, ap suc l);
       }
 

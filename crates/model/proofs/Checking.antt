@@ -4,10 +4,10 @@ use mathlib.Core.Path.{_≡_, refl, sym, ap, _∙_}
 use mathlib.Core.Bool.{Bool, true, false, not, cond}
 use mathlib.Core.List.{List}
 use mathlib.Core.Option.{Option, none, some}
-use Prim.Native.Nat.{ℕ, suc, _<_}
+use Prim.Native.Nat.{ℕ, suc}
 use native.Mathlib.Omega.{arith}
 use lib.Dec.{ltb}
-use lib.ListN.{length, getElem?}
+use lib.ListN.{length}
 use borrow.Author.Tests.{lt-ltb, ltb-true, ltb-false, le-ltb}
 use Rattle.formula.specs.Compiler.{Compiler, Meaning}
 use Rattle.call.specs.declared.request.Request.{Request}
@@ -21,12 +21,12 @@ use Rattle.model.specs.Lists.{first, isSome, mapOption}
 use Rattle.model.specs.Limits.{mostFrames, passes}
 use Rattle.model.specs.Operations.{denies, grants, takes}
 use Rattle.model.specs.Threads.{Thread, keySet}
-use Rattle.model.specs.Model.{State, Segment, Guarded, nowhere, segmentAt, findThread, threadAt, isSegment, lockOf, opening, conditions, answer, judged}
+use Rattle.model.specs.Model.{State, Guarded, segmentAt, findThread, threadAt, isSegment, lockOf, opening, conditions, answer, judged}
 use Rattle.model.specs.History.{History, Entry, Lock}
 use Rattle.model.specs.Granting.{Operation, calls, accesses, requestOf, threadOf, targetOf, numberOf, isNumbered, hasRoom, lockOpens, verdict, answerFrom}
-use Rattle.model.proofs.Lists.{caseBool, at-lt, at-some-lt, some-inj, some≢none}
+use Rattle.model.proofs.Lists.{caseBool, some-inj, some≢none}
 use Rattle.model.proofs.Places.{look}
-use Rattle.model.proofs.Segments.{entryOf}
+use Rattle.model.proofs.Segments.{entry-low, entry-is}
 use Rattle.model.proofs.Locks.{check-agrees}
 use Rattle.model.proofs.Agreement.{Agrees}
 
@@ -68,20 +68,11 @@ module _ (compile : Compiler) (holds : Meaning) (text : List ℕ) (d : State) (h
     thread-is : threadAt d (threadOf o) ≡ t
     thread-is = simp found
 
-    handed : targetOf o < length (d .segments)
-    handed = by (getElem? (d .segments) (targetOf o)) refl
-      where
-        by : (g : Option Segment) → getElem? (d .segments) (targetOf o) ≡ g → targetOf o < length (d .segments)
-        by none e = absurd (some≢none (sym out ∙ c .segments (targetOf o) ∙ ap (mapOption entryOf) e))
-        by (some g) e = at-some-lt (d .segments) (targetOf o) g e
-
     out-test : isSegment d (targetOf o) ≡ true
-    out-test = lt-ltb (targetOf o) (length (d .segments)) handed
+    out-test = lt-ltb (targetOf o) (length (d .segments)) (entry-low (d .segments) (h .segments) (c .segments) (targetOf o) entry out)
 
     kind-is : segmentAt d (targetOf o) .kind ≡ entry .kind
-    kind-is =
-        ap (λ (e : Entry). e .kind)
-        (some-inj (sym (ap (mapOption entryOf) (at-lt (d .segments) (targetOf o) nowhere handed)) ∙ sym (c .segments (targetOf o)) ∙ out))
+    kind-is = ap (λ (e : Entry). e .kind) (entry-is (d .segments) (h .segments) (c .segments) (targetOf o) entry out)
 
     check : (stands : ℕ → ℕ → Bool)
         → mapOption (λ r. r .lock) (opening d stands (threadOf o) (targetOf o) (numberOf o)) ≡ mapOption (λ l. l .number) (first (lockOpens holds stands o t) (h .locks))

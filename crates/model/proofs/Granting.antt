@@ -1,7 +1,7 @@
 -- Demand 3: the agreement of model and history, read at the call after the list; the arrays hold the model. Assumes nothing.
 use mathlib.Core.Path.{_≡_, refl, sym, ap, _∙_}
-use mathlib.Core.Bool.{Bool, true, false, _&&_, not, false≢true}
-use mathlib.Core.List.{List, [], _∷_, List·Memᴰ, List·Memᴰ·head, List·Memᴰ·tail}
+use mathlib.Core.Bool.{Bool, true, false, _&&_, not}
+use mathlib.Core.List.{List}
 use mathlib.Core.Option.{Option, none, some}
 use borrow.Author.Tests.{not-true}
 use Rattle.formula.specs.Outcome.{outcomeOf}
@@ -23,25 +23,12 @@ use Rattle.model.specs.Model.{State, emptyState, conditions, judged, ste
 use Rattle.model.specs.History.{History, Lock, history}
 use Rattle.model.specs.Granting.{Operation, requestOf, threadOf, Fits, hasRoom, lockOpens, granted, Granted, verdict, answerFrom, Grants, GrantingByLaws, Granting}
 use Rattle.model.specs.Replay.{decoded, stateAfter, eventsOf, reached, answerTo}
-use Rattle.model.proofs.Lists.{caseBool, clash, isSome-first}
+use Rattle.model.proofs.Lists.{caseBool, clash, any-passes, any-found, isSome-first}
 use Rattle.model.proofs.Agreement.{agree}
 use Rattle.model.proofs.Checking.{answers-from}
 use Rattle.model.proofs.Refinement.{refinement-by-laws, follows}
 
 -- ---- the test and the words
-
-module _ {A : Type 0} (p : A → Bool) where
-  -- one that passes is among them
-  passes : (x : A) (xs : List A) → List·Memᴰ x xs → p x ≡ true → any p xs ≡ true
-  passes x (y ∷ ys) (List·Memᴰ·head e) t = simp (sym (ap p e) ∙ t)
-  passes x (y ∷ ys) (List·Memᴰ·tail m) t = caseBool (p y) (λ q. simp q) (λ q. simp q (passes x ys m t))
-
-  found : (xs : List A) → any p xs ≡ true → (x : A) × List·Memᴰ x xs × (p x ≡ true)
-  found [] t = absurd (false≢true t)
-  found (y ∷ ys) t =
-      caseBool (p y)
-      (λ q. (y, List·Memᴰ·head refl, q))
-      (λ q. let (x, m, u) = found ys (rw q at t) in (x, List·Memᴰ·tail m, u))
 
 module _ (holds : Meaning) (h : History) (o : Operation) (t : Thread) where
   abbrev barring : Lock → Bool
@@ -53,10 +40,10 @@ module _ (holds : Meaning) (h : History) (o : Operation) (t : Thread) where
   to-words : granted holds h o t ≡ true → Granted holds h o t
   to-words g =
       let rest = and-right (not (any barring (h .locks))) (any giving (h .locks) && hasRoom o t) g in
-      let (l, m, u) = found giving (h .locks) (and-left (any giving (h .locks)) (hasRoom o t) rest) in
+      let (l, m, u) = any-found giving (h .locks) (and-left (any giving (h .locks)) (hasRoom o t) rest) in
       record {
         undenied = λ k n. caseBool (barring k)
-            (λ q. clash (passes barring k (h .locks) n q) (not-true _ (and-left (not (any barring (h .locks))) (any giving (h .locks) && hasRoom o t) g)))
+            (λ q. clash (any-passes barring k (h .locks) n q) (not-true _ (and-left (not (any barring (h .locks))) (any giving (h .locks) && hasRoom o t) g)))
             (λ q. q);
         lock = l;
         standing = m;
@@ -67,8 +54,8 @@ module _ (holds : Meaning) (h : History) (o : Operation) (t : Thread) where
   from-words : Granted holds h o t → granted holds h o t ≡ true
   from-words g =
       caseBool (any barring (h .locks))
-      (λ q. let (l, m, u) = found barring (h .locks) q in clash u (g .undenied l m))
-      (λ q. simp (q, passes giving (g .lock) (h .locks) (g .standing) (g .opens), g .room))
+      (λ q. let (l, m, u) = any-found barring (h .locks) q in clash u (g .undenied l m))
+      (λ q. simp (q, any-passes giving (g .lock) (h .locks) (g .standing) (g .opens), g .room))
 
   -- the answer accepts where the test says so
   answer-accepts : isAccepted (answerFrom holds h o t) ≡ granted holds h o t

@@ -11,6 +11,7 @@ pub mod SegmentTables
 pub mod Refinement
 pub mod Granting
 pub mod Numbering
+pub mod Mirror
 pub mod Refusing
 pub mod Bounds
 pub mod Examples

@@ -2,7 +2,7 @@
 use mathlib.Core.Path.{_≡_, refl, sym, ap, _∙_}
 use mathlib.Core.Logic.{_≢_}
 use mathlib.Core.Bool.{Bool, true, false, _&&_, _||_, cond, true≢false, false≢true, or-assoc}
-use mathlib.Core.List.{List, [], _∷_, _++_, map, append-assoc}
+use mathlib.Core.List.{List, [], _∷_, _++_, map, append-assoc, List·Memᴰ, List·Memᴰ·head, List·Memᴰ·tail}
 use mathlib.Core.Option.{Option, none, some}
 use Prim.Native.Nat.{ℕ, zero, suc, _+_, _≤_, _<_, zero-le, suc-le-suc}
 use native.Mathlib.Omega.{arith}
@@ -32,6 +32,11 @@ caseBool false t f = f refl
 pub clash {ℓ} : {A : Type ℓ} {b : Bool} → b ≡ true → b ≡ false → A
 clash p q = absurd (true≢false (sym p ∙ q))
 
+pub same-truth : (a b : Bool) → (a ≡ true → b ≡ true) → (b ≡ true → a ≡ true) → a ≡ b
+same-truth true b to from = sym (to refl)
+same-truth false true to from = from refl
+same-truth false false to from = refl
+
 pub eqb-self : (n : ℕ) → eqb n n ≡ true
 eqb-self n = eq-eqb n n refl
 
@@ -39,6 +44,23 @@ module _ {A : Type 0} where
   pub isSome-first : (p : A → Bool) (xs : List A) → isSome (first p xs) ≡ any p xs
   isSome-first p [] = refl
   isSome-first p (x ∷ xs) = caseBool (p x) (λ e. simp e) (λ e. simp e (isSome-first p xs))
+
+  -- one that passes is among them
+  pub any-passes : (p : A → Bool) (x : A) (xs : List A) → List·Memᴰ x xs → p x ≡ true → any p xs ≡ true
+  any-passes p x (y ∷ ys) (List·Memᴰ·head e) t = simp (sym (ap p e) ∙ t)
+  any-passes p x (y ∷ ys) (List·Memᴰ·tail m) t = caseBool (p y) (λ q. simp q) (λ q. simp q (any-passes p x ys m t))
+
+  pub any-found : (p : A → Bool) (xs : List A) → any p xs ≡ true → (x : A) × List·Memᴰ x xs × (p x ≡ true)
+  any-found p [] t = absurd (false≢true t)
+  any-found p (y ∷ ys) t =
+      caseBool (p y)
+      (λ q. (y, List·Memᴰ·head refl, q))
+      (λ q. let (x, m, u) = any-found p ys (rw q at t) in (x, List·Memᴰ·tail m, u))
+
+  pub any-at : (p : A → Bool) (d : A) (xs : List A) (i : ℕ) → p (getD xs i d) ≡ true → p d ≡ false → any p xs ≡ true
+  any-at p d [] i t f = clash t f
+  any-at p d (x ∷ xs) zero t f = simp t
+  any-at p d (x ∷ xs) (suc i) t f = caseBool (p x) (λ e. simp e) (λ e. simp e (any-at p d xs i t f))
 
   pub first-keep : (p q : A → Bool) (xs : List A) → first p (keep q xs) ≡ first (λ x. q x && p x) xs
   first-keep p q [] = refl
@@ -198,6 +220,10 @@ module _ {A : Type 0} where
 
 pub some-inj : {A : Type 0} {x y : A} → _≡_ {A = Option A} (some x) (some y) → x ≡ y
 some-inj e = cc
+
+pub isSome-some : {A : Type 0} (o : Option A) → isSome o ≡ true → (x : A) × (o ≡ some x)
+isSome-some none h = absurd (false≢true h)
+isSome-some (some x) h = (x, refl)
 
 pub some≢none : {A : Type 0} {x : A} → _≡_ {A = Option A} (some x) none → ⊥
 some≢none e = let z : _≡_ {A = ℕ} 0 1 = cc in omega arith

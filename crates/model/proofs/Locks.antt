@@ -5,12 +5,12 @@ use mathlib.Core.Path.{_≡_, refl, sym, ap, _∙_}
 use mathlib.Core.Bool.{Bool, true, false, _&&_, _||_, not, cond}
 use mathlib.Core.List.{List, [], _∷_, _++_, map, append-nil, List·Memᴰ, List·Memᴰ·head, List·Memᴰ·tail}
 use mathlib.Core.Option.{Option, none, some}
-use Prim.Native.Nat.{ℕ, suc, _<_}
+use Prim.Native.Nat.{ℕ, suc, _≤_, _<_}
 use native.Mathlib.Omega.{arith}
 use lib.Dec.{eqb}
 use lib.ListN.{length, getD, set}
 use borrow.Author.Tests.{eqb-true, eqb-false, eq-eqb, ne-eqb, lt-ltb}
-use Rattle.product.specs.Product.{opens}
+use Rattle.product.specs.Product.{Product, opens}
 use Rattle.product.specs.Sum.{Sum, opensAny}
 use Rattle.formula.specs.Compiler.{Meaning}
 use Rattle.call.proofs.Truth.{and-left, and-right}
@@ -19,7 +19,7 @@ use Rattle.model.specs.Threads.{KeySet}
 use Rattle.model.specs.Model.{Segment, Guarded, guarded, opensFor, isOf, hasLock, nowhere, addProducts, dropProducts}
 use Rattle.model.specs.History.{Lock}
 use Rattle.model.specs.Refusing.{rising}
-use Rattle.model.proofs.Lists.{All, concatMap, caseBool, eqb-self, any-map, any-concatMap, any-keep, any-and, from-any, map-append, concatMap-append, keep-append, keep-map, keep-concatMap, keep-keep, keep-idle, first-keep, first-map, first-same, All-map, All-append, All-keep, indexOf-lt, indexOf-passes}
+use Rattle.model.proofs.Lists.{All, concatMap, caseBool, same-truth, eqb-self, any-found, any-passes, any-at, any-same, any-map, any-concatMap, any-keep, any-and, from-any, map-append, concatMap-append, keep-append, keep-map, keep-concatMap, keep-keep, keep-idle, first-keep, first-map, first-same, All-map, All-append, All-keep, indexOf-lt, indexOf-passes}
 use Rattle.model.proofs.Segments.{productsAt, products-set}
 
 -- a standing lock with its products
@@ -42,14 +42,18 @@ isOn s l = eqb (l .segment) s
 abbrev pub stays : ℕ → Standing → Bool
 stays n l = not (eqb (l .number) n)
 
-any-const : (b : Bool) (ps : Sum) → any (λ p. b) ps ≡ true → b ≡ true
-any-const true ps h = refl
-any-const false [] h = h
-any-const false (p ∷ ps) h = any-const false ps h
-
 -- a lock's rows have its number
-row-number : (n : ℕ) (l : Standing) → any (isOf n) (rowsOf l) ≡ true → eqb (l .number) n ≡ true
-row-number n l h = any-const (eqb (l .number) n) (l .products) (sym (any-map (isOf n) (guarded (l .number) (l .operations)) (l .products)) ∙ h)
+any-row : (b : Bool) (p : Product) (ps : Sum) → any (λ q. b) (p ∷ ps) ≡ b
+any-row true p ps = refl
+any-row false p [] = refl
+any-row false p (q ∷ ps) = any-row false q ps
+
+row-number : (n : ℕ) (l : Standing) → 1 ≤ length (l .products) → any (isOf n) (rowsOf l) ≡ eqb (l .number) n
+row-number n l h = any-map (isOf n) (guarded (l .number) (l .operations)) (l .products) ∙ go (l .products) h
+  where
+    go : (ps : Sum) → 1 ≤ length ps → any (λ p. eqb (l .number) n) ps ≡ eqb (l .number) n
+    go [] k = absurd (omega arith)
+    go (p ∷ ps) k = any-row (eqb (l .number) n) p ps
 
 -- so they are dropped together
 keep-rows : (n : ℕ) (l : Standing) → keep (λ r. not (isOf n r)) (rowsOf l) ≡ cond (stays n l) (rowsOf l) []
@@ -98,8 +102,9 @@ rising-add new [] b r = (tt, tt)
 rising-add new (l ∷ ls) b r = (All-append (λ k. l .number < k .number) ls (new ∷ []) (r .0) (b .0, tt), rising-add new ls (b .1) (r .1))
 
 module _ (holds : Meaning) where
-  -- its products open as its text says; its number is handed out, and tells its segment
+  -- its products open as its text says, and there is one; its number is handed out, and tells its segment
   pub record Sound (home : ℕ → ℕ) (numbers : ℕ) (l : Standing) : Type 0 where
+    pub filled : 1 ≤ length (l .products)
     pub opening : (keys : KeySet) → opensAny keys (l .products) ≡ holds keys (l .text)
     pub below : l .number < numbers
     pub homed : home (l .number) ≡ l .segment
@@ -162,6 +167,39 @@ module _ (holds : Meaning) where
   pub locks-rise : (segments : List Segment) (numbers : ℕ) (locks : List Lock) → AgreeLocks segments numbers locks → rising (map (λ l. l .number) locks) ≡ true
   locks-rise segments numbers locks c = rw (c .written) (rising-numbers (c .standing) (c .rising))
 
+  -- ---- where a lock stands
+
+  module _ (segments : List Segment) (numbers : ℕ) (locks : List Lock) (c : AgreeLocks segments numbers locks) (n : ℕ) where
+    -- a segment has its products exactly where the lock is on it
+    rows-of : (s : ℕ) → any (isOf n) (productsAt segments s) ≡ any (λ l. isOn s l && eqb (l .number) n) (c .standing)
+    rows-of s =
+        ap (any (isOf n)) (c .rows s)
+        ∙ any-concatMap (isOf n) rowsOf (keep (isOn s) (c .standing))
+        ∙ any-keep (λ l. any (isOf n) (rowsOf l)) (isOn s) (c .standing)
+        ∙ any-same (λ l. isOn s l && any (isOf n) (rowsOf l)) (λ l. isOn s l && eqb (l .number) n) (c .standing)
+        (All-map (λ l k. ap (λ (b : Bool). isOn s l && b) (row-number n l (k .filled))) (c .standing) (c .sound))
+
+    abbrev numbered : Standing → Bool
+    numbered l = eqb (l .number) n
+
+    pub lock-stands : any (hasLock n) segments ≡ any (λ l. eqb (l .number) n) locks
+    lock-stands =
+        same-truth (any (hasLock n) segments) (any numbered (c .standing)) to from
+        ∙ sym (ap (any (λ (l : Lock). eqb (l .number) n)) (c .written) ∙ any-map (λ (l : Lock). eqb (l .number) n) lockIn (c .standing))
+      where
+        to : any (hasLock n) segments ≡ true → any numbered (c .standing) ≡ true
+        to h =
+            let i = indexOf (hasLock n) segments in
+            let (l, m, t) = any-found (λ l. isOn i l && numbered l) (c .standing) (sym (rows-of i) ∙ indexOf-passes (hasLock n) nowhere segments h) in
+            any-passes numbered l (c .standing) m (and-right (isOn i l) (numbered l) t)
+
+        from : any numbered (c .standing) ≡ true → any (hasLock n) segments ≡ true
+        from h =
+            let (l, m, t) = any-found numbered (c .standing) h in
+            let s = l .segment in
+            let on : (isOn s l && numbered l) ≡ true = simp (eqb-self s, t) in
+            any-at (hasLock n) nowhere segments s (rows-of s ∙ any-passes (λ k. isOn s k && numbered k) l (c .standing) m on) refl
+
   -- ---- L and D
 
   module _ (segments : List Segment) (numbers : ℕ) (locks : List Lock) (c : AgreeLocks segments numbers locks) where
@@ -181,7 +219,7 @@ module _ (holds : Meaning) where
       unfolding home′
       still-sound l k =
           let b = k .below in
-          record { opening = k .opening; below = omega arith; homed = simp (ne-eqb (l .number) numbers (λ p. omega arith)) (k .homed) }
+          record { filled = k .filled; opening = k .opening; below = omega arith; homed = simp (ne-eqb (l .number) numbers (λ p. omega arith)) (k .homed) }
 
       new-rows : (t : ℕ) → cond (eqb t s) (productsAt segments s ++ rowsOf new) (productsAt segments t) ≡ concatMap rowsOf (keep (isOn t) (c .standing ++ new ∷ []))
       unfolding new
@@ -191,11 +229,11 @@ module _ (holds : Meaning) where
           (ap (λ (rs : List Guarded). rs ++ rowsOf new) (ap (productsAt segments) (sym (eqb-true t s e)) ∙ c .rows t)))
           (λ e. simp (e, keep-append, ne-eqb s t (λ p. eqb-false t s e (sym p)), append-nil) (c .rows t))
 
-      pub agree-add : s < length segments → ((keys : KeySet) → opensAny keys ps ≡ holds keys text)
+      pub agree-add : s < length segments → 1 ≤ length ps → ((keys : KeySet) → opensAny keys ps ≡ holds keys text)
           → AgreeLocks (set segments s (addProducts numbers operations ps (getD segments s nowhere))) (suc numbers)
           (locks ++ record { number = numbers; segment = s; operations = operations; text = text } ∷ [])
       unfolding new home′
-      agree-add h law =
+      agree-add h some-product law =
           record {
             standing = c .standing ++ new ∷ [];
             home = home′;
@@ -204,7 +242,7 @@ module _ (holds : Meaning) where
             sound =
                 All-append (Sound home′ (suc numbers)) (c .standing) (new ∷ [])
                 (All-map still-sound (c .standing) (c .sound))
-                (record { opening = law; below = omega arith; homed = simp (eqb-self numbers) }, tt);
+                (record { filled = some-product; opening = law; below = omega arith; homed = simp (eqb-self numbers) }, tt);
             rising = rising-add new (c .standing) (All-map (λ l k. k .below) (c .standing) (c .sound)) (c .rising);
           }
 
@@ -218,7 +256,7 @@ module _ (holds : Meaning) where
           from-any (λ l. isOn place l && any (isOf n) (rowsOf l)) (Sound (c .home) numbers) (c .standing) (c .sound)
           (λ l k t.
           let h = eqb-true (l .segment) place (and-left (isOn place l) (any (isOf n) (rowsOf l)) t) in
-          let m = eqb-true (l .number) n (row-number n l (and-right (isOn place l) (any (isOf n) (rowsOf l)) t)) in
+          let m = eqb-true (l .number) n (sym (row-number n l (k .filled)) ∙ and-right (isOn place l) (any (isOf n) (rowsOf l)) t) in
           ap (c .home) (sym m) ∙ k .homed ∙ h)
           (sym (any-keep (λ l. any (isOf n) (rowsOf l)) (isOn place) (c .standing))
           ∙ sym (any-concatMap (isOf n) rowsOf (keep (isOn place) (c .standing)))

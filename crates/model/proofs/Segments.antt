@@ -10,7 +10,7 @@ use lib.ListN.{length, getD, set, getElem?}
 use Rattle.model.specs.Lists.{put, adjust, Map, mapOption}
 use Rattle.model.specs.Model.{Segment, Guarded, nowhere}
 use Rattle.model.specs.History.{Entry}
-use Rattle.model.proofs.Lists.{caseBool, at-append-one, at-set}
+use Rattle.model.proofs.Lists.{caseBool, at-append-one, at-set, at-lt, at-some-lt, some-inj, some≢none}
 
 abbrev pub entryOf : Segment → Entry
 entryOf g = record { owner = g .owner; kind = g .kind; keys = g .keys }
@@ -19,6 +19,17 @@ abbrev pub AgreeSegments : List Segment → Map Entry → Type 0
 AgreeSegments segments entries = (s : ℕ) → entries s ≡ mapOption entryOf (getElem? segments s)
 
 module _ (segments : List Segment) (entries : Map Entry) (c : AgreeSegments segments entries) where
+  -- a segment that the history has
+  pub entry-low : (s : ℕ) (e : Entry) → entries s ≡ some e → s < length segments
+  entry-low s e h = by (getElem? segments s) refl
+    where
+      by : (o : Option Segment) → getElem? segments s ≡ o → s < length segments
+      by none q = absurd (some≢none (sym h ∙ c s ∙ ap (mapOption entryOf) q))
+      by (some g) q = at-some-lt segments s g q
+
+  pub entry-is : (s : ℕ) (e : Entry) → entries s ≡ some e → entryOf (getD segments s nowhere) ≡ e
+  entry-is s e h = some-inj (sym (ap (mapOption entryOf) (at-lt segments s nowhere (entry-low s e h))) ∙ sym (c s) ∙ h)
+
   -- N
   pub agree-new : (g : Segment) → AgreeSegments (segments ++ g ∷ []) (put entries (length segments) (entryOf g))
   agree-new g s = caseBool (eqb s (length segments)) (λ t. simp (at-append-one, t)) (λ t. simp (at-append-one, t) (c s))

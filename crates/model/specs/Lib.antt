@@ -10,6 +10,7 @@ pub mod Replay
 pub mod Granting
 pub mod Refusing
 pub mod Numbering
+pub mod Mirror
 pub mod Refinement
 pub mod Bounds
 pub mod Examples
