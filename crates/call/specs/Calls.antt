@@ -4,6 +4,7 @@ use mathlib.Core.Bool.{Bool, true, false, cond, _&&_, _||_}
 use mathlib.Core.List.{List, [], _∷_}
 use Prim.Native.Nat.{ℕ}
 use lib.Dec.{eqb, leb}
+use lib.ListN.{length}
 use Rattle.call.specs.declared.request.Request.{Request}
 use Rattle.call.specs.declared.request.Request.the-variants.{NewUser, StartThread, EndThread, NewSegment, NewKey, GiveKey, TakeKey, AddLock, DropLock, CallSegment, ReturnCall, Access}
 use Rattle.call.specs.declared.request.Decoded.{Decoded}
@@ -69,6 +70,9 @@ decodedIn (r ∷ rs) letter a b c n =
 -- a call handed straight to the guard
 unfoldable pub decodedOf : ℕ → ℕ → ℕ → ℕ → ℕ → Decoded
 decodedOf letter a b c n = decodedIn (table a b c) letter a b c n
+
+abbrev pub decoded : Call → Decoded
+decoded x = decodedOf (x .letter) (x .a) (x .b) (x .c) (length (x .text))
 
 abbrev pub isWellFormed : Decoded → Bool
 isWellFormed (WellFormed q) = true

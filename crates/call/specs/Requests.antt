@@ -4,11 +4,10 @@ use mathlib.Core.Path.{_≡_}
 use mathlib.Core.List.{List, []}
 use mathlib.Core.Logic.{_↔_}
 use Prim.Native.Nat.{ℕ}
-use lib.ListN.{length}
 use Rattle.call.specs.declared.request.Request.{Request}
 use Rattle.call.specs.declared.request.Request.the-variants.{NewUser, StartThread, EndThread, NewSegment, NewKey, GiveKey, TakeKey, AddLock, DropLock, CallSegment, ReturnCall, Access}
 use Rattle.call.specs.declared.request.Decoded.the-variants.{WellFormed}
-use Rattle.call.specs.Calls.{Call, callWith, decodedOf}
+use Rattle.call.specs.Calls.{Call, callWith, decoded}
 
 -- the call of a request; t is the text of a lock
 abbrev pub callOf : Request → List ℕ → Call
@@ -27,4 +26,4 @@ callOf (Access a b c) t = callWith 65 a b c []
 
 abbrev pub RequestsExactly : Type 0
 RequestsExactly =
-    (x : Call) (q : Request) → (decodedOf (x .letter) (x .a) (x .b) (x .c) (length (x .text)) ≡ WellFormed q) ↔ (x ≡ callOf q (x .text))
+    (x : Call) (q : Request) → (decoded x ≡ WellFormed q) ↔ (x ≡ callOf q (x .text))

@@ -16,18 +16,19 @@ use Rattle.call.specs.declared.request.Request.{Request}
 use Rattle.call.specs.declared.request.Request.the-variants.{NewUser, StartThread, EndThread, NewSegment, NewKey, GiveKey, TakeKey, AddLock, DropLock, CallSegment, ReturnCall, Access}
 use Rattle.call.specs.declared.request.Decoded.{Decoded}
 use Rattle.call.specs.declared.request.Decoded.the-variants.{WellFormed, Corrupt as NotWellFormed}
-use Rattle.call.specs.Calls.{Call}
+use Rattle.call.specs.Calls.{Call, decoded}
 use Rattle.call.specs.Requests.{callOf}
 use Rattle.call.specs.Conditions.{firstRefusal}
 use Rattle.call.proofs.Conditions.{all-fail}
 use Rattle.call.proofs.Requests.{requests-exactly}
 use Rattle.call.proofs.Truth.{neither}
 use Rattle.model.specs.declared.answer.Refusal.{Refusal}
-use Rattle.model.specs.Lists.{any, adjust, tailOf}
+use Rattle.model.specs.Lists.{adjust, tailOf}
+use Rattle.model.specs.Limits.{mostThreads, passes}
 use Rattle.model.specs.Threads.{Thread}
-use Rattle.model.specs.Model.{State, emptyState, free, taken, Segment, nowhere, segmentAt, isFree, isMalformed, isTooWide, isUnsatisfiable, issued, isLive, isLock, homeOf, placeOf, onThread, pushFrame, popFrame, giveKey, takeKey, addProducts, dropProducts, onSegment, conditions, update, answer, judged, stepDecoded, step}
+use Rattle.model.specs.Model.{State, emptyState, free, taken, Segment, nowhere, segmentAt, liveIn, isMalformed, isTooWide, isUnsatisfiable, issued, isLive, isLock, homeOf, placeOf, onThread, pushFrame, popFrame, giveKey, takeKey, addProducts, dropProducts, onSegment, conditions, update, answer, judged, stepDecoded, step}
 use Rattle.model.specs.History.{History, Entry, Event, event, emptyHistory, withEntries, onFrames, listOf, note, noteAnswer, advance, historyFrom, history, counts, countFrom, acceptedOf}
-use Rattle.model.specs.Replay.{decoded, stateAfter, eventsOf}
+use Rattle.model.specs.Replay.{stateAfter, eventsOf}
 use Rattle.model.proofs.Lists.{at-lt, length-append-one}
 use Rattle.model.proofs.Places.{AgreeThreads, Lives, lives, spare, agree-start, agree-change, agree-end}
 use Rattle.model.proofs.Segments.{AgreeSegments, entryOf, agree-new, agree-adjust, agree-unseen, products-append-one, products-same}
@@ -73,7 +74,7 @@ module _ (compile : Compiler) (holds : Meaning) (laws : Laws compile holds) (tex
   keep-start a e =
       let (u, t, s, k, l) = c .counts in
       let f = all-fail (conditions compile d (StartThread a) text) e in
-      let room : any isFree (d .places) ≡ true = not-false _ (neither (not (any isFree (d .places))) _ (f .1 .0) .0) in
+      let room = neither (passes mostThreads (suc (liveIn (d .places)))) _ (f .1 .0) .0 in
       let p = spare (d .threadNumbers) (d .places) (c .threads .count) room in
       record {
         threads = agree-start (d .places) (d .threadNumbers) (h .threads) (c .threads) _ (record { user = a; frames = [] }) (p .low) (p .is-free);

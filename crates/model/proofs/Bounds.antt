@@ -19,17 +19,17 @@ use Rattle.call.specs.declared.request.Request.{Request}
 use Rattle.call.specs.declared.request.Request.the-variants.{NewUser, StartThread, EndThread, NewSegment, NewKey, GiveKey, TakeKey, AddLock, DropLock, CallSegment, ReturnCall, Access}
 use Rattle.call.specs.declared.request.Decoded.{Decoded}
 use Rattle.call.specs.declared.request.Decoded.the-variants.{WellFormed, Corrupt as NotWellFormed}
-use Rattle.call.specs.Calls.{Call}
+use Rattle.call.specs.Calls.{Call, decoded}
 use Rattle.call.specs.Conditions.{firstRefusal}
 use Rattle.call.proofs.Conditions.{all-fail}
 use Rattle.call.proofs.Truth.{neither}
 use Rattle.model.specs.declared.answer.Refusal.{Refusal}
-use Rattle.model.specs.Lists.{any, orDefault, tailOf}
-use Rattle.model.specs.Limits.{mostUsers, mostThreads, mostSegments, mostDefined, mostListed, mostProducts, mostFrames, mostNumbers, passes}
+use Rattle.model.specs.Lists.{orDefault, tailOf}
+use Rattle.model.specs.Limits.{mostUsers, mostThreads, mostSegments, mostDefined, mostListed, mostStanding, mostFrames, mostNumbers, passes}
 use Rattle.model.specs.Threads.{Thread, sameKey}
-use Rattle.model.specs.Model.{State, emptyState, Segment, nowhere, segmentAt, Place, free, taken, isFree, threadIn, nobody, placeFor, placeOf, threadAt, isOf, homeOf, issued, conditions, withPlaces, withSegments, onSegment, onThread, atPlace, pushFrame, popFrame, giveKey, takeKey, guarded, addProducts, dropProducts, update, judged, stepDecoded, step}
-use Rattle.model.specs.Replay.{decoded, stateAfter}
-use Rattle.model.specs.Bounds.{liveIn, Within, BoundsAlways, Bounds}
+use Rattle.model.specs.Model.{State, emptyState, Segment, nowhere, segmentAt, Place, free, taken, isFree, liveIn, threadIn, nobody, placeFor, placeOf, threadAt, isOfLock, homeOf, issued, conditions, withPlaces, withSegments, onSegment, onThread, atPlace, pushFrame, popFrame, giveKey, takeKey, lockProduct, addProducts, dropProducts, update, judged, stepDecoded, step}
+use Rattle.model.specs.Replay.{stateAfter}
+use Rattle.model.specs.Bounds.{Within, BoundsAlways, Bounds}
 use Rattle.model.proofs.Lists.{length-keep, length-append-one}
 use Rattle.model.proofs.Refinement.{follows}
 
@@ -76,7 +76,7 @@ record PlacesKept (places : List Place) : Type 0 where
 
 record SegmentKept (g : Segment) : Type 0 where
   pub listed : length (g .keys) ≤ mostListed
-  pub products : length (g .products) ≤ mostProducts
+  pub products : length (g .products) ≤ mostStanding
 
 record SegmentsKept (segments : List Segment) : Type 0 where
   pub count : length segments ≤ mostSegments
@@ -154,18 +154,18 @@ take-kept k g h =
     let c : length (g .keys) ≤ mostListed = h .listed in
     record { listed = omega arith; products = h .products }
 
-add-kept : (lock operations : ℕ) (ps : Sum) (g : Segment) → SegmentKept g → length (g .products) + length ps ≤ mostProducts
+add-kept : (lock operations : ℕ) (ps : Sum) (g : Segment) → SegmentKept g → length (g .products) + length ps ≤ mostStanding
     → SegmentKept (addProducts lock operations ps g)
 add-kept lock operations ps g h c =
-    let added = map (guarded lock operations) ps in
+    let added = map (lockProduct lock operations) ps in
     let more : length (g .products ++ added) ≡ length (g .products) + length added = length-append (g .products) added in
-    let same : length added ≡ length ps = length-map ps (guarded lock operations) in
+    let same : length added ≡ length ps = length-map ps (lockProduct lock operations) in
     record { listed = h .listed; products = omega arith }
 
 drop-kept : (n : ℕ) (g : Segment) → SegmentKept g → SegmentKept (dropProducts n g)
 drop-kept n g h =
-    let fewer : length (dropProducts n g .products) ≤ length (g .products) = length-keep (λ r. not (isOf n r)) (g .products) in
-    let c : length (g .products) ≤ mostProducts = h .products in
+    let fewer : length (dropProducts n g .products) ≤ length (g .products) = length-keep (λ r. not (isOfLock n r)) (g .products) in
+    let c : length (g .products) ≤ mostStanding = h .products in
     record { listed = h .listed; products = omega arith }
 
 -- ---- each request
@@ -209,7 +209,7 @@ module _ (compile : Compiler) (d : State) (k : Kept d) (text : List ℕ) where
   unfolding conditions update
   keep-start a e =
       let full = all-fail (conditions compile d (StartThread a) text) e .1 .0 in
-      let numbers = neither (not (any isFree (d .places))) (passes mostNumbers (suc (d .threadNumbers))) full .1 in
+      let numbers = neither (passes mostThreads (suc (liveIn (d .places)))) (passes mostNumbers (suc (d .threadNumbers))) full .1 in
       record {
         users = k .users;
         threadNumbers = not-passed mostNumbers (suc (d .threadNumbers)) numbers;
@@ -262,8 +262,8 @@ module _ (compile : Compiler) (d : State) (k : Kept d) (text : List ℕ) where
       let ps = sumIn (compile (issued d) text) in
       let n = length (segmentAt d b .products) + length ps in
       let full = all-fail (conditions compile d (AddLock a b c) text) e .1 .1 .1 .1 .1 .1 .1 .0 in
-      let (products, numbers) = neither (passes mostProducts n) (passes mostNumbers (suc (d .lockNumbers))) full in
-      let more = add-kept (d .lockNumbers) c ps (segmentAt d b) (k .segments .each b) (not-passed mostProducts n products) in
+      let (products, numbers) = neither (passes mostStanding n) (passes mostNumbers (suc (d .lockNumbers))) full in
+      let more = add-kept (d .lockNumbers) c ps (segmentAt d b) (k .segments .each b) (not-passed mostStanding n products) in
       record {
         users = k .users;
         threadNumbers = k .threadNumbers;

@@ -21,9 +21,9 @@ use Rattle.model.specs.Lists.{first, isSome, mapOption}
 use Rattle.model.specs.Limits.{mostFrames, passes}
 use Rattle.model.specs.Operations.{denies, grants, takes}
 use Rattle.model.specs.Threads.{Thread, keySet}
-use Rattle.model.specs.Model.{State, Guarded, segmentAt, findThread, threadAt, isSegment, lockOf, opening, conditions, answer, judged}
+use Rattle.model.specs.Model.{State, LockProduct, segmentAt, findThread, threadAt, isSegment, lockOf, opening, conditions, answer, judged}
 use Rattle.model.specs.History.{History, Entry, Lock}
-use Rattle.model.specs.Granting.{Operation, calls, accesses, requestOf, threadOf, targetOf, numberOf, isNumbered, hasRoom, lockOpens, verdict, answerFrom}
+use Rattle.model.specs.Granting.{Operation, calls, accesses, requestOf, threadOf, targetOf, operationOf, isKnown, hasRoom, lockOpens, verdict, answerFrom}
 use Rattle.model.proofs.Lists.{caseBool, some-inj, some≢none}
 use Rattle.model.proofs.Places.{look}
 use Rattle.model.proofs.Segments.{entry-low, entry-is}
@@ -41,7 +41,7 @@ judged-answer compile d q text none = refl
 judged-answer compile d q text (some r) = refl
 
 -- the check's conditions and the limit, by the two locks that open
-check-answers : (od og : Option Guarded) (ld lg : Option Lock) (room : Bool)
+check-answers : (od og : Option LockProduct) (ld lg : Option Lock) (room : Bool)
     → mapOption (λ r. r .lock) od ≡ mapOption (λ l. l .number) ld → mapOption (λ r. r .lock) og ≡ mapOption (λ l. l .number) lg
     → answered (cond (isSome od) (some (Denied (lockOf od))) (cond (not (isSome og)) (some NotGranted) (cond (not room) (some Full) none))) (lockOf og)
     ≡ verdict ld lg room
@@ -75,14 +75,14 @@ module _ (compile : Compiler) (holds : Meaning) (text : List ℕ) (d : State) (h
     kind-is = ap (λ (e : Entry). e .kind) (entry-is (d .segments) (h .segments) (c .segments) (targetOf o) entry out)
 
     check : (stands : ℕ → ℕ → Bool)
-        → mapOption (λ r. r .lock) (opening d stands (threadOf o) (targetOf o) (numberOf o)) ≡ mapOption (λ l. l .number) (first (lockOpens holds stands o t) (h .locks))
+        → mapOption (λ r. r .lock) (opening d stands (threadOf o) (targetOf o) (operationOf o)) ≡ mapOption (λ l. l .number) (first (lockOpens holds stands o t) (h .locks))
     unfolding opening
     check stands =
-        check-agrees holds (d .segments) (d .lockNumbers) (h .locks) (c .locks) stands (targetOf o) (numberOf o) (keySet (threadOf o) (threadAt d (threadOf o)))
+        check-agrees holds (d .segments) (d .lockNumbers) (h .locks) (c .locks) stands (targetOf o) (operationOf o) (keySet (threadOf o) (threadAt d (threadOf o)))
         ∙ rw thread-is
 
   pub answers-from : (o : Operation) (t : Thread) → h .threads (threadOf o) ≡ some t → (entry : Entry) → h .segments (targetOf o) ≡ some entry
-      → isNumbered o ≡ true → takes (entry .kind) (numberOf o) ≡ true
+      → isKnown o ≡ true → takes (entry .kind) (operationOf o) ≡ true
       → judged compile d (requestOf o) text (firstRefusal (conditions compile d (requestOf o) text)) .answer ≡ answerFrom holds h o t
   unfolding conditions answer
   answers-from (calls a b) t live entry out number fits =

@@ -31,10 +31,10 @@ examples =
       backAnswers = refl;
       deepAnswers = refl;
       editAnswers = refl;
-      callFits = record { wellFormed = refl; numbered = refl; entry = _; handedOut = refl; taken = refl };
+      callFits = record { wellFormed = refl; known = refl; entry = _; handedOut = refl; taken = refl };
       callLive = refl;
-      accessFits = record { wellFormed = refl; numbered = refl; entry = _; handedOut = refl; taken = refl };
+      accessFits = record { wellFormed = refl; known = refl; entry = _; handedOut = refl; taken = refl };
       accessLive = refl;
-      lastFits = record { wellFormed = refl; numbered = refl; entry = _; handedOut = refl; taken = refl };
+      lastFits = record { wellFormed = refl; known = refl; entry = _; handedOut = refl; taken = refl };
       lastLive = refl;
     }

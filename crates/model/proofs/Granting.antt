@@ -11,7 +11,7 @@ use Rattle.formula.proofs.Opening.{laws}
 use Rattle.call.specs.declared.request.Request.{Request}
 use Rattle.call.specs.declared.request.Decoded.{Decoded}
 use Rattle.call.specs.declared.request.Decoded.the-variants.{WellFormed}
-use Rattle.call.specs.Calls.{Call}
+use Rattle.call.specs.Calls.{Call, decoded}
 use Rattle.call.specs.Conditions.{firstRefusal}
 use Rattle.call.proofs.Truth.{and-left, and-right}
 use Rattle.model.specs.declared.answer.Answer.{Answer}
@@ -22,7 +22,7 @@ use Rattle.model.specs.Threads.{Thread}
 use Rattle.model.specs.Model.{State, emptyState, conditions, judged, stepDecoded, step}
 use Rattle.model.specs.History.{History, Lock, history}
 use Rattle.model.specs.Granting.{Operation, requestOf, threadOf, Fits, hasRoom, lockOpens, granted, Granted, verdict, answerFrom, Grants, GrantingByLaws, Granting}
-use Rattle.model.specs.Replay.{decoded, stateAfter, eventsOf, reached, answerTo}
+use Rattle.model.specs.Replay.{stateAfter, eventsOf, reached, answerTo}
 use Rattle.model.proofs.Lists.{caseBool, clash, any-passes, any-found, isSome-first}
 use Rattle.model.proofs.Agreement.{agree}
 use Rattle.model.proofs.Checking.{answers-from}
@@ -95,7 +95,7 @@ on-model compile holds l xs next =
     grants-from holds _ next _
     (λ o t fits live.
     answer-is compile (stateAfter compile emptyState xs) next (requestOf o) (fits .wellFormed)
-    ∙ answers-from compile holds (next .text) _ _ _ (agree compile holds l xs) o t live (fits .entry) (fits .handedOut) (fits .numbered) (fits .taken))
+    ∙ answers-from compile holds (next .text) _ _ _ (agree compile holds l xs) o t live (fits .entry) (fits .handedOut) (fits .known) (fits .taken))
 
 -- ---- on the arrays
 

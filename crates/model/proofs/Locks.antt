@@ -14,11 +14,10 @@ use Rattle.product.specs.Product.{Product, opens}
 use Rattle.product.specs.Sum.{Sum, opensAny}
 use Rattle.formula.specs.Compiler.{Meaning}
 use Rattle.call.proofs.Truth.{and-left, and-right}
-use Rattle.model.specs.Lists.{any, keep, first, mapOption, indexOf}
+use Rattle.model.specs.Lists.{any, keep, first, mapOption, indexOf, rising}
 use Rattle.model.specs.Threads.{KeySet}
-use Rattle.model.specs.Model.{Segment, Guarded, guarded, opensFor, isOf, hasLock, nowhere, addProducts, dropProducts}
+use Rattle.model.specs.Model.{Segment, LockProduct, lockProduct, opensFor, isOfLock, hasLock, nowhere, addProducts, dropProducts}
 use Rattle.model.specs.History.{Lock}
-use Rattle.model.specs.Refusing.{rising}
 use Rattle.model.proofs.Lists.{All, concatMap, caseBool, same-truth, eqb-self, any-found, any-passes, any-at, any-same, any-map, any-concatMap, any-keep, any-and, from-any, map-append, concatMap-append, keep-append, keep-map, keep-concatMap, keep-keep, keep-idle, first-keep, first-map, first-same, All-map, All-append, All-keep, indexOf-lt, indexOf-passes}
 use Rattle.model.proofs.Segments.{productsAt, products-set}
 
@@ -33,8 +32,8 @@ pub record Standing : Type 0 where
 abbrev pub lockIn : Standing → Lock
 lockIn l = record { number = l .number; segment = l .segment; operations = l .operations; text = l .text }
 
-abbrev pub rowsOf : Standing → List Guarded
-rowsOf l = map (guarded (l .number) (l .operations)) (l .products)
+abbrev pub rowsOf : Standing → List LockProduct
+rowsOf l = map (lockProduct (l .number) (l .operations)) (l .products)
 
 abbrev pub isOn : ℕ → Standing → Bool
 isOn s l = eqb (l .segment) s
@@ -48,32 +47,32 @@ any-row true p ps = refl
 any-row false p [] = refl
 any-row false p (q ∷ ps) = any-row false q ps
 
-row-number : (n : ℕ) (l : Standing) → 1 ≤ length (l .products) → any (isOf n) (rowsOf l) ≡ eqb (l .number) n
-row-number n l h = any-map (isOf n) (guarded (l .number) (l .operations)) (l .products) ∙ go (l .products) h
+row-number : (n : ℕ) (l : Standing) → 1 ≤ length (l .products) → any (isOfLock n) (rowsOf l) ≡ eqb (l .number) n
+row-number n l h = any-map (isOfLock n) (lockProduct (l .number) (l .operations)) (l .products) ∙ go (l .products) h
   where
     go : (ps : Sum) → 1 ≤ length ps → any (λ p. eqb (l .number) n) ps ≡ eqb (l .number) n
     go [] k = absurd (omega arith)
     go (p ∷ ps) k = any-row (eqb (l .number) n) p ps
 
 -- so they are dropped together
-keep-rows : (n : ℕ) (l : Standing) → keep (λ r. not (isOf n r)) (rowsOf l) ≡ cond (stays n l) (rowsOf l) []
+keep-rows : (n : ℕ) (l : Standing) → keep (λ r. not (isOfLock n r)) (rowsOf l) ≡ cond (stays n l) (rowsOf l) []
 keep-rows n l = caseBool (eqb (l .number) n) (λ e. simp e (none-stay e (l .products))) (λ e. simp e (all-stay e (l .products)))
   where
-    none-stay : eqb (l .number) n ≡ true → (ps : Sum) → keep (λ r. not (isOf n r)) (map (guarded (l .number) (l .operations)) ps) ≡ []
+    none-stay : eqb (l .number) n ≡ true → (ps : Sum) → keep (λ r. not (isOfLock n r)) (map (lockProduct (l .number) (l .operations)) ps) ≡ []
     none-stay e [] = refl
     none-stay e (p ∷ ps) = simp e (none-stay e ps)
 
-    all-stay : eqb (l .number) n ≡ false → (ps : Sum) → keep (λ r. not (isOf n r)) (map (guarded (l .number) (l .operations)) ps) ≡ map (guarded (l .number) (l .operations)) ps
+    all-stay : eqb (l .number) n ≡ false → (ps : Sum) → keep (λ r. not (isOfLock n r)) (map (lockProduct (l .number) (l .operations)) ps) ≡ map (lockProduct (l .number) (l .operations)) ps
     all-stay e [] = refl
-    all-stay e (p ∷ ps) = simp e (ap (λ (rs : List Guarded). guarded (l .number) (l .operations) p ∷ rs) (all-stay e ps))
+    all-stay e (p ∷ ps) = simp e (ap (λ (rs : List LockProduct). lockProduct (l .number) (l .operations) p ∷ rs) (all-stay e ps))
 
 -- the lock of the first row that passes is the first lock with a row that does
-first-rows : (p : Guarded → Bool) (n o : ℕ) (ps : Sum) (rest : List Guarded)
-    → mapOption (λ r. r .lock) (first p (map (guarded n o) ps ++ rest)) ≡ cond (any p (map (guarded n o) ps)) (some n) (mapOption (λ r. r .lock) (first p rest))
+first-rows : (p : LockProduct → Bool) (n o : ℕ) (ps : Sum) (rest : List LockProduct)
+    → mapOption (λ r. r .lock) (first p (map (lockProduct n o) ps ++ rest)) ≡ cond (any p (map (lockProduct n o) ps)) (some n) (mapOption (λ r. r .lock) (first p rest))
 first-rows p n o [] rest = refl
-first-rows p n o (x ∷ ps) rest = caseBool (p (guarded n o x)) (λ e. simp e) (λ e. simp e (first-rows p n o ps rest))
+first-rows p n o (x ∷ ps) rest = caseBool (p (lockProduct n o x)) (λ e. simp e) (λ e. simp e (first-rows p n o ps rest))
 
-first-lock : (p : Guarded → Bool) (ls : List Standing)
+first-lock : (p : LockProduct → Bool) (ls : List Standing)
     → mapOption (λ r. r .lock) (first p (concatMap rowsOf ls)) ≡ mapOption (λ l. l .number) (first (λ l. any p (rowsOf l)) ls)
 first-lock p [] = refl
 first-lock p (l ∷ ls) =
@@ -123,7 +122,7 @@ module _ (holds : Meaning) where
       → (isOn s l && any (opensFor stands n keys) (rowsOf l)) ≡ (isOn s l && (stands (l .operations) n && holds keys (l .text)))
   lock-opens home numbers stands s n keys l c =
       ap (λ (b : Bool). isOn s l && b)
-      (any-map (opensFor stands n keys) (guarded (l .number) (l .operations)) (l .products)
+      (any-map (opensFor stands n keys) (lockProduct (l .number) (l .operations)) (l .products)
       ∙ any-and (stands (l .operations) n) (opens keys) (l .products)
       ∙ ap (λ (b : Bool). stands (l .operations) n && b) (sym (opens-any keys (l .products)) ∙ c .opening keys))
 
@@ -135,7 +134,7 @@ module _ (holds : Meaning) where
   check-agrees segments numbers locks c stands s n keys =
       let p = opensFor stands n keys in
       let q : Lock → Bool = λ l. eqb (l .segment) s && (stands (l .operations) n && holds keys (l .text)) in
-      ap (λ (rs : List Guarded). mapOption (λ (r : Guarded). r .lock) (first p rs)) (c .rows s)
+      ap (λ (rs : List LockProduct). mapOption (λ (r : LockProduct). r .lock) (first p rs)) (c .rows s)
       ∙ first-lock p (keep (isOn s) (c .standing))
       ∙ ap (mapOption (λ (l : Standing). l .number))
       (first-keep (λ l. any p (rowsOf l)) (isOn s) (c .standing)
@@ -171,12 +170,12 @@ module _ (holds : Meaning) where
 
   module _ (segments : List Segment) (numbers : ℕ) (locks : List Lock) (c : AgreeLocks segments numbers locks) (n : ℕ) where
     -- a segment has its products exactly where the lock is on it
-    rows-of : (s : ℕ) → any (isOf n) (productsAt segments s) ≡ any (λ l. isOn s l && eqb (l .number) n) (c .standing)
+    rows-of : (s : ℕ) → any (isOfLock n) (productsAt segments s) ≡ any (λ l. isOn s l && eqb (l .number) n) (c .standing)
     rows-of s =
-        ap (any (isOf n)) (c .rows s)
-        ∙ any-concatMap (isOf n) rowsOf (keep (isOn s) (c .standing))
-        ∙ any-keep (λ l. any (isOf n) (rowsOf l)) (isOn s) (c .standing)
-        ∙ any-same (λ l. isOn s l && any (isOf n) (rowsOf l)) (λ l. isOn s l && eqb (l .number) n) (c .standing)
+        ap (any (isOfLock n)) (c .rows s)
+        ∙ any-concatMap (isOfLock n) rowsOf (keep (isOn s) (c .standing))
+        ∙ any-keep (λ l. any (isOfLock n) (rowsOf l)) (isOn s) (c .standing)
+        ∙ any-same (λ l. isOn s l && any (isOfLock n) (rowsOf l)) (λ l. isOn s l && eqb (l .number) n) (c .standing)
         (All-map (λ l k. ap (λ (b : Bool). isOn s l && b) (row-number n l (k .filled))) (c .standing) (c .sound))
 
     abbrev numbered : Standing → Bool
@@ -226,7 +225,7 @@ module _ (holds : Meaning) where
       new-rows t =
           caseBool (eqb t s)
           (λ e. simp (e, keep-append, eq-eqb s t (sym (eqb-true t s e)), concatMap-append, append-nil)
-          (ap (λ (rs : List Guarded). rs ++ rowsOf new) (ap (productsAt segments) (sym (eqb-true t s e)) ∙ c .rows t)))
+          (ap (λ (rs : List LockProduct). rs ++ rowsOf new) (ap (productsAt segments) (sym (eqb-true t s e)) ∙ c .rows t)))
           (λ e. simp (e, keep-append, ne-eqb s t (λ p. eqb-false t s e (sym p)), append-nil) (c .rows t))
 
       pub agree-add : s < length segments → 1 ≤ length ps → ((keys : KeySet) → opensAny keys ps ≡ holds keys text)
@@ -253,22 +252,22 @@ module _ (holds : Meaning) where
       -- the lock is on the segment where it is found
       pub found : c .home n ≡ place
       found =
-          from-any (λ l. isOn place l && any (isOf n) (rowsOf l)) (Sound (c .home) numbers) (c .standing) (c .sound)
+          from-any (λ l. isOn place l && any (isOfLock n) (rowsOf l)) (Sound (c .home) numbers) (c .standing) (c .sound)
           (λ l k t.
-          let h = eqb-true (l .segment) place (and-left (isOn place l) (any (isOf n) (rowsOf l)) t) in
-          let m = eqb-true (l .number) n (sym (row-number n l (k .filled)) ∙ and-right (isOn place l) (any (isOf n) (rowsOf l)) t) in
+          let h = eqb-true (l .segment) place (and-left (isOn place l) (any (isOfLock n) (rowsOf l)) t) in
+          let m = eqb-true (l .number) n (sym (row-number n l (k .filled)) ∙ and-right (isOn place l) (any (isOfLock n) (rowsOf l)) t) in
           ap (c .home) (sym m) ∙ k .homed ∙ h)
-          (sym (any-keep (λ l. any (isOf n) (rowsOf l)) (isOn place) (c .standing))
-          ∙ sym (any-concatMap (isOf n) rowsOf (keep (isOn place) (c .standing)))
-          ∙ ap (any (isOf n)) (sym (c .rows place))
+          (sym (any-keep (λ l. any (isOfLock n) (rowsOf l)) (isOn place) (c .standing))
+          ∙ sym (any-concatMap (isOfLock n) rowsOf (keep (isOn place) (c .standing)))
+          ∙ ap (any (isOfLock n)) (sym (c .rows place))
           ∙ indexOf-passes (hasLock n) nowhere segments there)
 
       dropped-rows : (t : ℕ) → cond (eqb t place) (dropProducts n (getD segments place nowhere) .products) (productsAt segments t) ≡ concatMap rowsOf (keep (isOn t) (keep (stays n) (c .standing)))
       dropped-rows t =
           caseBool (eqb t place)
           (λ e. simp e
-          (ap (keep (λ (r : Guarded). not (isOf n r))) (ap (productsAt segments) (sym (eqb-true t place e)) ∙ c .rows t)
-          ∙ keep-concatMap (λ r. not (isOf n r)) (stays n) rowsOf (keep-rows n) (keep (isOn t) (c .standing))
+          (ap (keep (λ (r : LockProduct). not (isOfLock n r))) (ap (productsAt segments) (sym (eqb-true t place e)) ∙ c .rows t)
+          ∙ keep-concatMap (λ r. not (isOfLock n r)) (stays n) rowsOf (keep-rows n) (keep (isOn t) (c .standing))
           ∙ ap (concatMap rowsOf) (keep-keep (stays n) (isOn t) (c .standing))))
           (λ e. simp e
           (c .rows t

@@ -16,7 +16,7 @@ use Rattle.call.specs.declared.request.Request.{Request}
 use Rattle.call.specs.declared.request.Request.the-variants.{NewUser, StartThread, EndThread, NewSegment, NewKey, GiveKey, TakeKey, AddLock, DropLock, CallSegment, ReturnCall, Access}
 use Rattle.call.specs.declared.request.Decoded.{Decoded}
 use Rattle.call.specs.declared.request.Decoded.the-variants.{WellFormed}
-use Rattle.call.specs.Calls.{Call}
+use Rattle.call.specs.Calls.{Call, decoded}
 use Rattle.call.specs.Requests.{callOf}
 use Rattle.call.specs.Conditions.{firstRefusal}
 use Rattle.call.proofs.Conditions.{all-fail}
@@ -25,9 +25,9 @@ use Rattle.model.specs.declared.answer.Answer.{Answer}
 use Rattle.model.specs.declared.answer.Answer.the-variants.{Accepted}
 use Rattle.model.specs.Lists.{keep}
 use Rattle.model.specs.Threads.{Frame, Thread}
-use Rattle.model.specs.Model.{State, emptyState, Segment, nowhere, segmentAt, findThread, threadAt, hasLock, isLock, isOf, homeOf, giveKey, takeKey, dropProducts, newest, conditions, update, answer, judged, stepDecoded, step}
+use Rattle.model.specs.Model.{State, emptyState, Segment, nowhere, segmentAt, findThread, threadAt, hasLock, isLock, isOfLock, homeOf, giveKey, takeKey, dropProducts, newest, conditions, update, answer, judged, stepDecoded, step}
 use Rattle.model.specs.History.{History, Lock, event, advance, history, listOf, acceptedOf}
-use Rattle.model.specs.Replay.{decoded, reached, stateAfter, eventsOf}
+use Rattle.model.specs.Replay.{reached, stateAfter, eventsOf}
 use Rattle.model.specs.Numbering.{handsOut, Numbers, NumberingByLaws, Numbering}
 use Rattle.model.proofs.Lists.{caseBool, indexOf-lt}
 use Rattle.model.proofs.Places.{look}
@@ -133,10 +133,10 @@ module _ (compile : Compiler) (holds : Meaning) (law : Laws compile holds) (d : 
       let home : l .segment ≡ s =
       sym (lock-homed holds (d .segments) (d .lockNumbers) (h .locks) (c .locks) l m)
       ∙ ap (c .locks .home) same ∙ found holds (d .segments) (d .lockNumbers) (h .locks) (c .locks) b there in
-      let after : segmentAt (step compile d next .state) s .products ≡ keep (λ x. not (isOf b x)) (segmentAt d s .products) =
+      let after : segmentAt (step compile d next .state) s .products ≡ keep (λ x. not (isOfLock b x)) (segmentAt d s .products) =
       ap (λ (y : State). segmentAt y s .products) (t .state)
       ∙ ap (λ (g : Segment). g .products) (getD-set-same (d .segments) s (dropProducts b (segmentAt d s)) nowhere lt) in
-      rw (home, after, t .number) (keep-parts (isOf b) (segmentAt d s .products))
+      rw (home, after, t .number) (keep-parts (isOfLock b) (segmentAt d s .products))
 
 on-model : (compile : Compiler) (holds : Meaning) → Laws compile holds → (xs : List Call) (next : Call)
     → let d = stateAfter compile emptyState xs in Numbers (eventsOf compile emptyState xs) d next (step compile d next .answer) (step compile d next .state)
@@ -151,8 +151,8 @@ on-model compile holds law xs next =
           ∙ counted-as compile holds law d (history es) count c next q hands
           ∙ ap (λ (k : ℕ). acceptedOf k es) (sym (request-letter next q e));
       ended = ended-as compile holds law d (history es) count c next;
-      given = given-as compile holds law d (history es) count c next;
-      taken = taken-as compile holds law d (history es) count c next;
+      keyGiven = given-as compile holds law d (history es) count c next;
+      keyTaken = taken-as compile holds law d (history es) count c next;
       dropped = dropped-as compile holds law d (history es) count c next;
       left = left-as compile holds law d (history es) count c next;
       inOrder = locks-rise holds (d .segments) (d .lockNumbers) (history es .locks) (c .locks);

@@ -10,11 +10,12 @@ use native.Mathlib.Omega.{arith}
 use lib.Dec.{eqb}
 use lib.ListN.{length, getD, set, length-set}
 use lib.Seq.{getD-set-same, getD-set-other}
-use borrow.Author.Tests.{eqb-true, eqb-false, eq-eqb, ne-eqb}
+use borrow.Author.Tests.{eqb-true, eqb-false, eq-eqb, ne-eqb, ltb-false}
+use Rattle.call.proofs.Truth.{neither}
 use Rattle.model.specs.Lists.{any, isSome, indexOf, put, strike, adjust, Map, mapOption}
-use Rattle.model.specs.Limits.{mostThreads}
+use Rattle.model.specs.Limits.{mostThreads, passes}
 use Rattle.model.specs.Threads.{Thread}
-use Rattle.model.specs.Model.{Place, free, taken, isFree, isThread, threadIn, placeFor, placeOf, findThread}
+use Rattle.model.specs.Model.{Place, free, taken, isFree, liveIn, isThread, threadIn, placeFor, placeOf, findThread}
 use Rattle.model.proofs.Lists.{caseBool, clash, eqb-self, indexOf-lt, indexOf-passes}
 
 -- ---- the place that passes a test
@@ -93,8 +94,20 @@ pub record Spare (n : ℕ) (places : List Place) : Type 0 where
   pub is-free : getD places (placeFor n isFree places) free ≡ free
   pub low : placeFor n isFree places < length places
 
-pub spare : (n : ℕ) (places : List Place) → length places ≡ mostThreads → any isFree places ≡ true → Spare n places
-spare n places l h =
+-- where no place is free, all of them are taken
+none-free : (places : List Place) → any isFree places ≡ false → liveIn places ≡ length places
+none-free [] h = refl
+none-free (x ∷ xs) h = let (here, there) = neither (isFree x) (any isFree xs) h in simp here (ap suc (none-free xs there))
+
+some-free : (places : List Place) → length places ≡ mostThreads → passes mostThreads (suc (liveIn places)) ≡ false → any isFree places ≡ true
+some-free places l h =
+    caseBool (any isFree places)
+    (λ e. e)
+    (λ e. let n = none-free places e in let m = ltb-false mostThreads (suc (liveIn places)) h in absurd (omega arith))
+
+pub spare : (n : ℕ) (places : List Place) → length places ≡ mostThreads → passes mostThreads (suc (liveIn places)) ≡ false → Spare n places
+spare n places l room =
+    let h = some-free places l room in
     caseBool (isFree (getD places (n % mostThreads) free))
     (λ e. let lt : n % mostThreads < length places = omega arith in record { is-free = simp e (really _ e); low = simp e lt })
     (λ e. record { is-free = simp e (really _ (indexOf-passes isFree free places h)); low = simp e (indexOf-lt isFree places h) })

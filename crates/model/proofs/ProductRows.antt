@@ -14,8 +14,8 @@ use Rattle.product.specs.Product.{Product, All as Each, no-more, and-more}
 use Rattle.product.specs.Sum.{Sum, mostLiterals}
 use Rattle.formula.specs.Compiler.{Kept}
 use Rattle.model.specs.Lists.{keep, each}
-use Rattle.model.specs.Model.{Guarded, guarded, isOf}
-use Rattle.model.specs.Cells.{Row, Table, cell, rowAt, head, isUsed, usedRows, literalCode, literalOf, guardedOf, endRows, storeRows, productRow, addRows, dropRows}
+use Rattle.model.specs.Model.{LockProduct, lockProduct, isOfLock}
+use Rattle.model.specs.Cells.{Row, Table, cell, rowAt, head, isUsed, usedRows, literalCell, literalIn, productIn, endRows, storeRows, productRow, addRows, dropRows}
 use Rattle.model.proofs.Lists.{All, caseBool, All-append, All-keep, length-keep, each-suc, each-getD}
 
 abbrev pub Used : Row → Type 0
@@ -72,39 +72,39 @@ used-productRow lock operations p h =
 
 -- every literal is read back from its code
 abbrev pub Readable : Product → Type 0
-Readable p = Each (λ x. literalOf (literalCode x) ≡ x) p
+Readable p = Each (λ x. literalIn (literalCell x) ≡ x) p
 
-codes-read : (p : Product) → Readable p → map literalOf (map literalCode p) ≡ p
+codes-read : (p : Product) → Readable p → map literalIn (map literalCell p) ≡ p
 codes-read [] no-more = refl
 codes-read (x ∷ p) (and-more e r) = ap₂ (λ (y : Literal) (q : Product). y ∷ q) e (codes-read p r)
 
 literals-read : (first : ℕ) (p : Product) (rest : Row) → Readable p
-    → each (λ i. literalOf (cell (first ∷ map literalCode p ++ rest) i)) 1 (length p) ≡ p
+    → each (λ i. literalIn (cell (first ∷ map literalCell p ++ rest) i)) 1 (length p) ≡ p
 literals-read first p rest h =
-    each-suc (λ i. literalOf (cell (first ∷ map literalCode p ++ rest) i)) 0 (length p)
-    ∙ ap (each (λ i. literalOf (cell (map literalCode p ++ rest) i)) 0) (sym (length-map p literalCode))
-    ∙ each-getD literalOf 0 (map literalCode p) rest
+    each-suc (λ i. literalIn (cell (first ∷ map literalCell p ++ rest) i)) 0 (length p)
+    ∙ ap (each (λ i. literalIn (cell (map literalCell p ++ rest) i)) 0) (sym (length-map p literalCell))
+    ∙ each-getD literalIn 0 (map literalCell p) rest
     ∙ codes-read p h
 
 product-read : (lock operations : ℕ) (p : Product) → length p ≤ mostLiterals → operations < 16 → Readable p
-    → guardedOf (productRow lock operations p) ≡ guarded lock operations p
+    → productIn (productRow lock operations p) ≡ lockProduct lock operations p
 product-read lock operations p short low h =
     let first : ℕ = head lock (length p) operations in
     let l : first / 65536 ≡ lock = omega arith in
     let o : first % 16 ≡ operations = omega arith in
     let m : first / 16 ≡ lock * 4096 + length p = omega arith in
     let n : first / 16 % 8 ≡ length p = ap (λ (k : ℕ). k % 8) m ∙ omega arith in
-    let f : ℕ → Literal = λ i. literalOf (cell (productRow lock operations p) i) in
+    let f : ℕ → Literal = λ i. literalIn (cell (productRow lock operations p) i) in
     let q : each f 1 (first / 16 % 8) ≡ p = ap (each f 1) n ∙ literals-read first p (replicate (7 - length p) 0) h in
     λ i. record { lock = l i; operations = o i; product = q i }
 
 -- ---- L and D
 
 pub products-read : (lock operations : ℕ) (ps : Sum) → Each Kept ps → operations < 16 → Each Readable ps
-    → map guardedOf (map (productRow lock operations) ps) ≡ map (guarded lock operations) ps
+    → map productIn (map (productRow lock operations) ps) ≡ map (lockProduct lock operations) ps
 products-read lock operations [] no-more low no-more = refl
 products-read lock operations (p ∷ ps) (and-more k ks) low (and-more r rs) =
-    ap₂ (λ (x : Guarded) (xs : List Guarded). x ∷ xs) (product-read lock operations p (k .short) low r) (products-read lock operations ps ks low rs)
+    ap₂ (λ (x : LockProduct) (xs : List LockProduct). x ∷ xs) (product-read lock operations p (k .short) low r) (products-read lock operations ps ks low rs)
 
 products-used : (lock operations : ℕ) (ps : Sum) → 0 < operations → All Used (map (productRow lock operations) ps)
 products-used lock operations [] h = tt
@@ -121,9 +121,9 @@ used-addRows lock operations ps t h fits =
     (omega arith)
     ∙ old
 
-pub used-dropRows : (n : ℕ) (t : Table) → usedRows (dropRows n t) ≡ keep (λ w. not (isOf n (guardedOf w))) (usedRows t)
+pub used-dropRows : (n : ℕ) (t : Table) → usedRows (dropRows n t) ≡ keep (λ w. not (isOfLock n (productIn w))) (usedRows t)
 used-dropRows n t =
-    let stays : Row → Bool = λ w. not (isOf n (guardedOf w)) in
+    let stays : Row → Bool = λ w. not (isOfLock n (productIn w)) in
     let fewer : length (keep stays (usedRows t)) ≤ length (usedRows t) = length-keep stays (usedRows t) in
     let few : length (usedRows t) ≤ length t = length-used t in
     used-storeRows 0 (keep stays (usedRows t)) t (All-keep Used stays (usedRows t) (all-used t)) (omega arith)

@@ -21,19 +21,19 @@ use Rattle.call.specs.declared.request.Request.{Request}
 use Rattle.call.specs.declared.request.Request.the-variants.{NewUser, StartThread, EndThread, NewSegment, NewKey, GiveKey, TakeKey, AddLock, DropLock, CallSegment, ReturnCall, Access}
 use Rattle.call.specs.declared.request.Decoded.{Decoded}
 use Rattle.call.specs.declared.request.Decoded.the-variants.{WellFormed, Corrupt as NotWellFormed}
-use Rattle.call.specs.Calls.{Call}
+use Rattle.call.specs.Calls.{Call, decoded}
 use Rattle.call.specs.Conditions.{firstRefusal}
 use Rattle.call.proofs.Conditions.{all-fail}
 use Rattle.call.proofs.Truth.{and-left, and-right, neither}
 use Rattle.model.specs.declared.answer.Refusal.{Refusal}
 use Rattle.model.specs.declared.answer.Answer.{Answer}
-use Rattle.model.specs.Lists.{any, keep, each, isSome, indexOf}
-use Rattle.model.specs.Limits.{mostThreads, mostSegments, mostProducts, mostFrames, passes}
+use Rattle.model.specs.Lists.{keep, each, isSome, indexOf}
+use Rattle.model.specs.Limits.{mostThreads, mostSegments, mostStanding, mostFrames, passes}
 use Rattle.model.specs.Operations.{execute, read, write, includes}
-use Rattle.model.specs.Model.{State, emptyState, Segment, nowhere, Place, free, taken, isFree, findThread, threadAt, placeFor, placeOf, hasLock, isLock, issued, conditions, withPlaces, withSegments, onSegment, onThread, atPlace, pushFrame, popFrame, giveKey, takeKey, addProducts, dropProducts, update, answer, judged, stepDecoded, step}
-use Rattle.model.specs.Cells.{Row, Table, Cells, Tables, Sized, cell, rowAt, tableAt, segmentCount, definedCode, keyOf, hasKey, keysOf, usedRows, guardedOf, placeIn, depthOf, framesOf, listRow, segmentOf, segmentIn, stateOf, setCell, onTable, countUp, withSegmentTables, startThread, endThread, newSegment, giveCode, takeCode, endRows, addRows, dropRows, pushRow, popRow, atThread, store, judgedCells, stepCellsDecoded, stepCells, zeros, emptyCells}
+use Rattle.model.specs.Model.{State, emptyState, Segment, nowhere, Place, free, taken, isFree, liveIn, findThread, threadAt, placeFor, placeOf, hasLock, isLock, issued, conditions, withPlaces, withSegments, onSegment, onThread, atPlace, pushFrame, popFrame, giveKey, takeKey, addProducts, dropProducts, update, answer, judged, stepDecoded, step}
+use Rattle.model.specs.Cells.{Row, Table, Cells, Tables, Sized, cell, rowAt, tableAt, segmentCount, definedCell, keyIn, hasKey, keysIn, usedRows, productIn, placeIn, depthOf, framesOf, listRow, segmentOf, segmentIn, stateOf, setCell, onTable, countUp, withSegmentTables, startThread, endThread, newSegment, giveCode, takeCode, endRows, addRows, dropRows, pushRow, popRow, atThread, store, judgedCells, stepCellsDecoded, stepCells, zeros, emptyCells}
 use Rattle.model.specs.History.{Event, event}
-use Rattle.model.specs.Replay.{decoded, cellsAfter, eventsIn, stateAfter, eventsOf}
+use Rattle.model.specs.Replay.{cellsAfter, eventsIn, stateAfter, eventsOf}
 use Rattle.model.specs.Refinement.{Follows, RefinementByLaws, Refinement}
 use Rattle.model.proofs.Lists.{caseBool, map-set, length-each, getD-each, each-same, each-set, each-snoc, indexOf-lt}
 use Rattle.model.proofs.Places.{Lives, lives, spare}
@@ -215,7 +215,7 @@ module _ (d : Cells) (c : Sized d) where
         let r = d .registry in
         let k = cell r 1 in
         let n = uncounted r (c .registry) in
-        let room : any isFree places ≡ true = not-false _ (neither (not (any isFree places)) _ (f .1 .0) .0) in
+        let room = neither (passes mostThreads (suc (liveIn places))) _ (f .1 .0) .0 in
         let i = placeFor k isFree places in
         let low = spare k places length-places room .low in
         let lt : i < 64 = let l = length-places in omega arith in
@@ -313,7 +313,7 @@ module _ (d : Cells) (c : Sized d) where
         let room : suc full ≤ 16 = within 16 (suc full) (f .1 .1 .1 .1 .1 .0) in
         let deep : depthOf (mine a p) < 16 = let q = mine-depth a p in omega arith in
         let own : cell w 0 ≡ b = getD-set-same (rowAt g 1) 0 b 0 (let q = segment-shaped b lt .cells 1 (omega arith) in omega arith) in
-        let keys : keysOf w ≡ getD segments b nowhere .keys = ap (λ (x : Segment). x .keys) (sym (segment-is b lt)) in
+        let keys : keysIn w ≡ getD segments b nowhere .keys = ap (λ (x : Segment). x .keys) (sym (segment-is b lt)) in
         let x = thread-stored a p (pushRow w) (onThread (pushFrame b (getD segments b nowhere .keys)))
         (push-place w (mine a p) (s .rows) (s .cells 0 (omega arith)) deep
         ∙ ap₂ (λ (n : ℕ) (ks : List Key). onThread (pushFrame n ks) (placeIn (mine a p))) own keys)
@@ -399,9 +399,9 @@ module _ (d : Cells) (c : Sized d) where
         let made : k < length (take (min (cell (d .registry) 3) 1024) (d .makers)) = ltb-true k _ (not-false _ (f .1 .1 .0)) in
         let few : k < 1024 = let l = length-take (min (cell (d .registry) 3) 1024) (d .makers) in omega arith in
         let keys : length (getD segments b nowhere .keys) ≡ length (keep hasKey (listRow b g)) =
-        ap (λ (x : Segment). length (x .keys)) (segment-is b lt) ∙ length-map (keep hasKey (listRow b g)) keyOf in
+        ap (λ (x : Segment). length (x .keys)) (segment-is b lt) ∙ length-map (keep hasKey (listRow b g)) keyIn in
         let room : suc (length (getD segments b nowhere .keys)) ≤ 8 = within 8 _ (f .1 .1 .1 .1 .1 .0) in
-        let x = list-stored b lt (giveCode b (definedCode k)) (giveKey k) (give-table b k g (tableAt (d .locks) b) (omega arith) few (sh .rows) (sh .cells 1 (omega arith)))
+        let x = list-stored b lt (giveCode b (definedCell k)) (giveKey k) (give-table b k g (tableAt (d .locks) b) (omega arith) few (sh .rows) (sh .cells 1 (omega arith)))
         (relisted b lt _ (give-sizes b k g (sh .cells 1 (omega arith)) (omega arith))) in
         record { state = x .0; sized = x .1 }
 
@@ -412,7 +412,7 @@ module _ (d : Cells) (c : Sized d) where
         let lt = handed b (f .1 .0) in
         let g = tableAt (d .segments) b in
         let sh = segment-shaped b lt in
-        let x = list-stored b lt (takeCode b (definedCode k)) (takeKey k) (take-table b k g (tableAt (d .locks) b) (omega arith) (sh .rows) (sh .cells 1 (omega arith)))
+        let x = list-stored b lt (takeCode b (definedCell k)) (takeKey k) (take-table b k g (tableAt (d .locks) b) (omega arith) (sh .rows) (sh .cells 1 (omega arith)))
         (relisted b lt _ (take-sizes b k g (sh .cells 1 (omega arith)))) in
         record { state = x .0; sized = x .1 }
 
@@ -466,7 +466,7 @@ module _ (d : Cells) (c : Sized d) where
         let had : length (getD segments b nowhere .products) ≡ length (segmentOf b g t .products) = ap (λ (y : Segment). length (y .products)) (segment-is b lt) in
         let fits : length (getD segments b nowhere .products) + length ps ≤ 8 =
         within 8 _ (neither (passes 8 (length (getD segments b nowhere .products) + length ps)) _ (f .1 .1 .1 .1 .1 .1 .1 .0) .0) in
-        let rows : length (usedRows t) ≡ length (segmentOf b g t .products) = sym (length-map (usedRows t) guardedOf) in
+        let rows : length (usedRows t) ≡ length (segmentOf b g t .products) = sym (length-map (usedRows t) productIn) in
         let makers : length (take (min (cell r 3) 1024) (d .makers)) ≤ 1024 = let l = length-take (min (cell r 3) 1024) (d .makers) in omega arith in
         let handed-out : length segments ≤ 64 = let l = length-segments in omega arith in
         record {
@@ -541,7 +541,7 @@ zeros-tables n k =
 
 empty-sized : Sized emptyCells
 empty-sized =
-    record { registry = refl; makers = refl; segments = zeros-tables mostSegments 2; locks = zeros-tables mostSegments mostProducts; threads = zeros-tables mostThreads (suc mostFrames) }
+    record { registry = refl; makers = refl; segments = zeros-tables mostSegments 2; locks = zeros-tables mostSegments mostStanding; threads = zeros-tables mostThreads (suc mostFrames) }
 
 empty-state : stateOf emptyCells ≡ emptyState
 unfolding stateOf

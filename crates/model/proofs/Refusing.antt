@@ -14,7 +14,7 @@ use Rattle.call.specs.declared.request.Request.{Request}
 use Rattle.call.specs.declared.request.Request.the-variants.{NewUser, StartThread, EndThread, NewSegment, NewKey, GiveKey, TakeKey, AddLock, DropLock, CallSegment, ReturnCall, Access}
 use Rattle.call.specs.declared.request.Decoded.{Decoded}
 use Rattle.call.specs.declared.request.Decoded.the-variants.{WellFormed, Corrupt as NotWellFormed}
-use Rattle.call.specs.Calls.{Call}
+use Rattle.call.specs.Calls.{Call, decoded}
 use Rattle.call.specs.Conditions.{Condition, firstRefusal}
 use Rattle.call.proofs.Conditions.{first-later, all-fail, none-first}
 use Rattle.call.proofs.Truth.{and-left, and-right, neither}
@@ -22,11 +22,10 @@ use Rattle.model.specs.declared.answer.Refusal.{Refusal}
 use Rattle.model.specs.declared.answer.Refusal.the-variants.{Corrupt}
 use Rattle.model.specs.declared.answer.Answer.the-variants.{Refused}
 use Rattle.model.specs.Answers.{refusalNumber, isAccepted}
-use Rattle.model.specs.Lists.{any}
+use Rattle.model.specs.Lists.{any, rising}
 use Rattle.model.specs.Model.{State, conditions}
 use Rattle.model.specs.Cells.{Cells, stateOf, judgedCells, stepCellsDecoded, stepCells}
-use Rattle.model.specs.Replay.{decoded}
-use Rattle.model.specs.Refusing.{someHolds, FirstHolds, rank, ranks, rising, Refusing, InOrder}
+use Rattle.model.specs.Refusing.{someHolds, FirstHolds, rank, ranks, Refusing, InOrder}
 use Rattle.model.proofs.Lists.{caseBool, clash}
 
 -- ---- the first condition that holds
@@ -43,21 +42,21 @@ first-holds : (r : Refusal) (cs : List (Condition Refusal)) → firstRefusal cs 
 first-holds r [] h = let z : _≡_ {A = ℕ} 0 1 = cc in absurd (omega arith)
 first-holds r (c ∷ cs) h =
     caseBool (c .holds)
-    (λ t. record { earlier = []; condition = c; later = cs; split = refl; none = refl; holds = t; refusal = Option·some-inj .0 (rw t at h) })
+    (λ t. record { earlier = []; condition = c; later = cs; split = refl; noneEarlier = refl; holds = t; refusal = Option·some-inj .0 (rw t at h) })
     (λ f. let k = first-holds r cs (rw f at h) in
     record {
       earlier = c ∷ k .earlier;
       condition = k .condition;
       later = k .later;
       split = ap (λ (l : List (Condition Refusal)). c ∷ l) (k .split);
-      none = simp f (k .none);
+      noneEarlier = simp f (k .noneEarlier);
       holds = k .holds;
       refusal = k .refusal;
     })
 
 first-refuses : (r : Refusal) (cs : List (Condition Refusal)) → FirstHolds r cs → firstRefusal cs ≡ some r
 first-refuses r cs k =
-    ap firstRefusal (k .split) ∙ first-later (k .earlier) (k .condition ∷ k .later) (none-refuses (k .earlier) (k .none)) ∙ rw (k .holds, k .refusal)
+    ap firstRefusal (k .split) ∙ first-later (k .earlier) (k .condition ∷ k .later) (none-refuses (k .earlier) (k .noneEarlier)) ∙ rw (k .holds, k .refusal)
 
 -- a refusal is one of those in the list: what is false of them all is false of it
 refusal-in : (p : Refusal → Bool) (r : Refusal) (cs : List (Condition Refusal)) → any (λ c. p (c .refusal)) cs ≡ false → firstRefusal cs ≡ some r

@@ -8,7 +8,7 @@ use native.Mathlib.Nat.{le-of-suc-le-suc, not-suc-le-zero}
 use lib.Dec.{eqb, eqb·suc-suc, eqb·suc-zero, eqb·zero-suc}
 use lib.ListN.{length, getD, set, getElem?}
 use Rattle.model.specs.Lists.{put, adjust, Map, mapOption}
-use Rattle.model.specs.Model.{Segment, Guarded, nowhere}
+use Rattle.model.specs.Model.{Segment, LockProduct, nowhere}
 use Rattle.model.specs.History.{Entry}
 use Rattle.model.proofs.Lists.{caseBool, at-append-one, at-set, at-lt, at-some-lt, some-inj, some≢none}
 
@@ -62,7 +62,7 @@ module _ (segments : List Segment) (entries : Map Entry) (c : AgreeSegments segm
 
 -- ---- the products of a segment's standing locks
 
-abbrev pub productsAt : List Segment → ℕ → List Guarded
+abbrev pub productsAt : List Segment → ℕ → List LockProduct
 productsAt segments s = getD segments s nowhere .products
 
 pub products-append-one : (segments : List Segment) (g : Segment) → g .products ≡ [] → (s : ℕ) → productsAt (segments ++ g ∷ []) s ≡ productsAt segments s

@@ -11,7 +11,7 @@ use lib.Seq.{getD-set-same, getD-set-other}
 use Rattle.model.specs.Lists.{tailOf}
 use Rattle.model.specs.Threads.{Frame, Thread}
 use Rattle.model.specs.Model.{free, taken, onThread, pushFrame, popFrame}
-use Rattle.model.specs.Cells.{Row, Table, cell, rowAt, frameCount, liveCell, numberCell, userCell, keysOf, frameOf, framesOf, depthOf, placeIn, setCell, startThread, endThread, pushRow, popRow}
+use Rattle.model.specs.Cells.{Row, Table, cell, rowAt, frameCount, liveCell, numberCell, userCell, keysIn, frameOf, framesOf, depthOf, placeIn, setCell, startThread, endThread, pushRow, popRow}
 use Rattle.model.proofs.Lists.{caseBool}
 
 -- ---- frames
@@ -90,7 +90,7 @@ same-change f frames t h =
 
 -- C
 pub push-place : (w : Row) (t : Table) → length t ≡ 17 → length (rowAt t 0) ≡ 8 → depthOf t < 16
-    → placeIn (pushRow w t) ≡ onThread (pushFrame (cell w 0) (keysOf w)) (placeIn t)
+    → placeIn (pushRow w t) ≡ onThread (pushFrame (cell w 0) (keysIn w)) (placeIn t)
 push-place w t h l room =
     let n : ℕ = depthOf t in
     let t₁ : Table = set t (suc n) w in
@@ -101,7 +101,7 @@ push-place w t h l room =
     let frames : List Frame = frameOf w ∷ framesOf t n in
     recounted t t₁ (suc n) frames (omega arith) (getD-set-other t (suc n) 0 w [] (λ p. omega arith)) l (omega arith)
     (ap₂ (λ (f : Frame) (fs : List Frame). f ∷ fs) (ap frameOf new) (frames-same t₂ t n old))
-    ∙ same-change (pushFrame (cell w 0) (keysOf w)) frames t (λ u. refl)
+    ∙ same-change (pushFrame (cell w 0) (keysIn w)) frames t (λ u. refl)
 
 -- R
 pub pop-place : (t : Table) → length t ≡ 17 → length (rowAt t 0) ≡ 8 → placeIn (popRow t) ≡ onThread popFrame (placeIn t)

@@ -2,33 +2,28 @@
 -- key lists, products, frames and makers could be of any length, and so of the state in the arrays too (`Refinement`). Proved in
 -- `proofs/Bounds.antt`. Assumes nothing.
 use mathlib.Core.List.{List}
-use mathlib.Core.Bool.{not}
 use mathlib.Core.Path.{_≡_}
 use Prim.Native.Nat.{ℕ, _≤_}
 use lib.ListN.{length, getD}
 use Rattle.formula.specs.Outcome.{outcomeOf}
 use Rattle.formula.specs.Compiler.{Compiler}
 use Rattle.call.specs.Calls.{Call}
-use Rattle.model.specs.Lists.{keep}
-use Rattle.model.specs.Limits.{mostUsers, mostThreads, mostSegments, mostDefined, mostListed, mostProducts, mostFrames, mostNumbers}
 use Rattle.model.specs.Threads.{Thread}
-use Rattle.model.specs.Model.{State, emptyState, Place, free, taken, isFree, segmentAt}
+use Rattle.model.specs.Model.{State, emptyState, free, taken, liveIn, segmentAt}
 use Rattle.model.specs.Cells.{stateOf}
 use Rattle.model.specs.Replay.{stateAfter, reached}
 
-abbrev pub liveIn : List Place → ℕ
-liveIn places = length (keep (λ p. not (isFree p)) places)
-
+-- the numbers are written out, so that `Limits` is checked too
 pub record Within (d : State) : Type 0 where
-  pub users : d .users ≤ mostUsers
-  pub threads : liveIn (d .places) ≤ mostThreads
-  pub segments : length (d .segments) ≤ mostSegments
-  pub defined : length (d .makers) ≤ mostDefined
-  pub listed : (s : ℕ) → length (segmentAt d s .keys) ≤ mostListed
-  pub products : (s : ℕ) → length (segmentAt d s .products) ≤ mostProducts
-  pub frames : (i k : ℕ) (t : Thread) → getD (d .places) i free ≡ taken k t → length (t .frames) ≤ mostFrames
-  pub threadNumbers : d .threadNumbers ≤ mostNumbers
-  pub lockNumbers : d .lockNumbers ≤ mostNumbers
+  pub users : d .users ≤ 32
+  pub threads : liveIn (d .places) ≤ 64
+  pub segments : length (d .segments) ≤ 64
+  pub defined : length (d .makers) ≤ 1024
+  pub listed : (s : ℕ) → length (segmentAt d s .keys) ≤ 8
+  pub products : (s : ℕ) → length (segmentAt d s .products) ≤ 8
+  pub frames : (i k : ℕ) (t : Thread) → getD (d .places) i free ≡ taken k t → length (t .frames) ≤ 16
+  pub threadNumbers : d .threadNumbers ≤ 65536
+  pub lockNumbers : d .lockNumbers ≤ 65536
 
 -- for every compiler
 abbrev pub BoundsAlways : Type 0

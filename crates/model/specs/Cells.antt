@@ -1,4 +1,4 @@
--- The state in the arrays that the host lends: their layout, the state that any numbers are, and what each accepted call stores. Conditions and
+-- The state in the arrays that the host lends: their layout, the state that they hold, whatever numbers are in them, and what each accepted call stores. Conditions and
 -- answers are those of the state that the arrays hold, so that the table of refusals stands once, in the model. Assumes nothing.
 --
 -- registry: [u32; 8]               users, threads, segments, defined keys and locks handed out
@@ -28,16 +28,16 @@ use Rattle.call.specs.declared.request.Request.{Request}
 use Rattle.call.specs.declared.request.Request.the-variants.{NewUser, StartThread, EndThread, NewSegment, NewKey, GiveKey, TakeKey, AddLock, DropLock, CallSegment, ReturnCall, Access}
 use Rattle.call.specs.declared.request.Decoded.{Decoded}
 use Rattle.call.specs.declared.request.Decoded.the-variants.{WellFormed, Corrupt as NotWellFormed}
-use Rattle.call.specs.Calls.{Call, decodedOf}
+use Rattle.call.specs.Calls.{Call, decoded}
 use Rattle.call.specs.Conditions.{firstRefusal}
 use Rattle.model.specs.declared.answer.Refusal.{Refusal}
 use Rattle.model.specs.declared.answer.Refusal.the-variants.{Corrupt}
 use Rattle.model.specs.declared.answer.Answer.{Answer}
 use Rattle.model.specs.declared.answer.Answer.the-variants.{Accepted, Refused}
 use Rattle.model.specs.Lists.{keep, each}
-use Rattle.model.specs.Limits.{mostThreads, mostSegments, mostDefined, mostListed, mostProducts, mostFrames}
+use Rattle.model.specs.Limits.{mostThreads, mostSegments, mostDefined, mostListed, mostStanding, mostFrames}
 use Rattle.model.specs.Threads.{Frame}
-use Rattle.model.specs.Model.{Guarded, Segment, Place, free, taken, State, isFree, placeFor, placeOf, homeOf, issued, conditions, answer}
+use Rattle.model.specs.Model.{LockProduct, Segment, Place, free, taken, State, isFree, placeFor, placeOf, homeOf, issued, conditions, answer}
 
 -- a row of cells, a table of rows, an array of tables
 abbrev pub Row : Type 0
@@ -105,29 +105,30 @@ liveCell = 3
 abbrev pub noKey : ℕ
 noKey = 65535
 
-abbrev pub definedCode : ℕ → ℕ
-definedCode k = mostSegments + k
+abbrev pub definedCell : ℕ → ℕ
+definedCell k = mostSegments + k
 
-abbrev pub keyOf : ℕ → Key
-keyOf x = cond (ltb x mostSegments) (SegmentKey x) (Defined (x - mostSegments))
+abbrev pub keyIn : ℕ → Key
+keyIn x = cond (ltb x mostSegments) (SegmentKey x) (Defined (x - mostSegments))
 
 abbrev pub hasKey : ℕ → Bool
 hasKey x = not (eqb x noKey)
 
-abbrev pub keysOf : Row → List Key
-keysOf w = map keyOf (keep hasKey w)
+abbrev pub keysIn : Row → List Key
+keysIn w = map keyIn (keep hasKey w)
 
 -- a list that is written is closed up
 abbrev pub keyRow : List ℕ → Row
 keyRow xs = xs ++ replicate (mostListed - length xs) noKey
 
--- ---- literals: a key of a list as there, and 32,768 more where it is barred; U n and R n from 131,072 and 262,144 on, and 65,536 more
+-- ---- literals: S n and D n have the code that they have in a key list, so that the check compares cells, and 32,768 more where they are barred, which
+-- no code of a list reaches; U n is 131,072 and R n is 262,144 more than n, and 65,536 more than that where they are barred
 
-abbrev pub keyCode : Key → ℕ
-keyCode (User n) = 131072 + n
-keyCode (ThreadKey n) = 262144 + n
-keyCode (SegmentKey n) = n
-keyCode (Defined n) = definedCode n
+abbrev pub keyCell : Key → ℕ
+keyCell (User n) = 131072 + n
+keyCell (ThreadKey n) = 262144 + n
+keyCell (SegmentKey n) = n
+keyCell (Defined n) = definedCell n
 
 abbrev pub barredBy : Key → ℕ
 barredBy (User n) = 65536
@@ -135,17 +136,17 @@ barredBy (ThreadKey n) = 65536
 barredBy (SegmentKey n) = 32768
 barredBy (Defined n) = 32768
 
-abbrev pub literalCode : Literal → ℕ
-literalCode (Plain k) = keyCode k
-literalCode (Barred k) = keyCode k + barredBy k
+abbrev pub literalCell : Literal → ℕ
+literalCell (Plain k) = keyCell k
+literalCell (Barred k) = keyCell k + barredBy k
 
 abbrev pub signed : Bool → Key → Literal
 signed plain k = cond plain (Plain k) (Barred k)
 
 -- what any number stands for
-abbrev pub literalOf : ℕ → Literal
-literalOf x =
-    cond (ltb x 65536) (signed (ltb x 32768) (keyOf (x % 32768)))
+abbrev pub literalIn : ℕ → Literal
+literalIn x =
+    cond (ltb x 65536) (signed (ltb x 32768) (keyIn (x % 32768)))
     (signed (eqb (x / 65536 % 2) 0) (cond (ltb x 262144) (User (x % 65536)) (ThreadKey (x % 65536))))
 
 -- ---- product rows
@@ -161,10 +162,10 @@ abbrev pub usedRows : Table → Table
 usedRows [] = []
 usedRows (w ∷ t) = let rest = usedRows t in cond (isUsed w) (w ∷ rest) []
 
--- ---- the state that the arrays hold; a count is read as no more than its limit
+-- ---- the state that the arrays hold; a count of frames, segments or defined keys is read as no more than its limit
 
 abbrev pub frameOf : Row → Frame
-frameOf w = record { segment = cell w 0; keys = keysOf w }
+frameOf w = record { segment = cell w 0; keys = keysIn w }
 
 -- the oldest n frames, the newest of them first
 abbrev pub framesOf : Table → ℕ → List Frame
@@ -179,12 +180,12 @@ placeIn t =
     let w = rowAt t 0 in
     cond (eqb (cell w liveCell) 0) free (taken (cell w numberCell) (record { user = cell w userCell; frames = framesOf t (depthOf t) }))
 
-abbrev pub guardedOf : Row → Guarded
-guardedOf w =
+abbrev pub productIn : Row → LockProduct
+productIn w =
     record {
       lock = cell w 0 / 65536;
       operations = cell w 0 % 16;
-      product = each (λ i. literalOf (cell w i)) 1 (cell w 0 / 16 % 8);
+      product = each (λ i. literalIn (cell w i)) 1 (cell w 0 / 16 % 8);
     }
 
 -- segment s's key list in its table: its own S key, whatever number stands in that cell, then the rest of row 1
@@ -197,8 +198,8 @@ segmentOf s g t =
     record {
       owner = cell (rowAt g 0) ownerCell;
       kind = cell (rowAt g 0) kindCell;
-      keys = keysOf (listRow s g);
-      products = map guardedOf (usedRows t);
+      keys = keysIn (listRow s g);
+      products = map productIn (usedRows t);
     }
 
 abbrev pub segmentIn : Cells → ℕ → Segment
@@ -217,7 +218,7 @@ stateOf d =
 
 -- ---- what an accepted call stores
 
--- a cell of a row of a table, a row, a table
+-- a cell of a table, and a table
 abbrev pub setCell : Table → ℕ → ℕ → ℕ → Table
 setCell t i j x = set t i (set (rowAt t i) j x)
 
@@ -246,7 +247,7 @@ giveCode s x g = set g 1 (keyRow (keep hasKey (listRow s g) ++ x ∷ []))
 abbrev pub takeCode : ℕ → ℕ → Table → Table
 takeCode s x g = set g 1 (keyRow (keep (λ y. not (eqb x y)) (keep hasKey (listRow s g))))
 
--- L and D: rows from row n on, and the end of the rows after them, where there is a row left
+-- L and D: rows from row n on, and the end of the rows after them; eight rows need none, and beyond the last row nothing is stored
 abbrev pub endRows : Table → ℕ → Table
 endRows t n = setCell t n 0 0
 
@@ -254,13 +255,13 @@ abbrev pub storeRows : ℕ → Table → Table → Table
 storeRows n ws t = endRows (sets t n ws) (n + length ws)
 
 abbrev pub productRow : ℕ → ℕ → Product → Row
-productRow lock operations p = head lock (length p) operations ∷ map literalCode p ++ replicate (7 - length p) 0
+productRow lock operations p = head lock (length p) operations ∷ map literalCell p ++ replicate (7 - length p) 0
 
 abbrev pub addRows : ℕ → ℕ → Sum → Table → Table
 addRows lock operations ps t = storeRows (length (usedRows t)) (map (productRow lock operations) ps) t
 
 abbrev pub dropRows : ℕ → Table → Table
-dropRows lock t = storeRows 0 (keep (λ w. not (eqb (guardedOf w .lock) lock)) (usedRows t)) t
+dropRows lock t = storeRows 0 (keep (λ w. not (eqb (productIn w .lock) lock)) (usedRows t)) t
 
 -- C and R
 abbrev pub pushRow : Row → Table → Table
@@ -316,8 +317,8 @@ module _ (compile : Compiler) where
         locks = d .locks;
         threads = d .threads;
       }
-  store d (GiveKey a b c) text = withSegmentTables d (onTable (d .segments) b (giveCode b (definedCode c)))
-  store d (TakeKey a b c) text = withSegmentTables d (onTable (d .segments) b (takeCode b (definedCode c)))
+  store d (GiveKey a b c) text = withSegmentTables d (onTable (d .segments) b (giveCode b (definedCell c)))
+  store d (TakeKey a b c) text = withSegmentTables d (onTable (d .segments) b (takeCode b (definedCell c)))
   store d (AddLock a b c) text =
       let ps = sumIn (compile (issued (stateOf d)) text) in
       record {
@@ -350,7 +351,7 @@ module _ (compile : Compiler) where
   stepCellsDecoded d (WellFormed q) text = judgedCells d q text (firstRefusal (conditions compile (stateOf d) q text))
 
   unfoldable pub stepCells : Cells → Call → record { cells : Cells; answer : Answer }
-  stepCells d x = stepCellsDecoded d (decodedOf (x .letter) (x .a) (x .b) (x .c) (length (x .text))) (x .text)
+  stepCells d x = stepCellsDecoded d (decoded x) (x .text)
 
 -- ---- the arrays' sizes, and the empty state: every cell is 0
 
@@ -364,7 +365,7 @@ pub record Sized (d : Cells) : Type 0 where
   pub registry : length (d .registry) ≡ 8
   pub makers : length (d .makers) ≡ mostDefined
   pub segments : Tables mostSegments 2 (d .segments)
-  pub locks : Tables mostSegments mostProducts (d .locks)
+  pub locks : Tables mostSegments mostStanding (d .locks)
   pub threads : Tables mostThreads (suc mostFrames) (d .threads)
 
 abbrev pub zeros : ℕ → ℕ → List Table
@@ -376,6 +377,6 @@ emptyCells =
       registry = replicate 8 0;
       makers = replicate mostDefined 0;
       segments = zeros mostSegments 2;
-      locks = zeros mostSegments mostProducts;
+      locks = zeros mostSegments mostStanding;
       threads = zeros mostThreads (suc mostFrames);
     }

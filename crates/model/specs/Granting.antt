@@ -17,7 +17,7 @@ use Rattle.formula.specs.Compiler.{Compiler, Meaning, Laws}
 use Rattle.call.specs.declared.request.Request.{Request}
 use Rattle.call.specs.declared.request.Request.the-variants.{CallSegment, Access}
 use Rattle.call.specs.declared.request.Decoded.the-variants.{WellFormed}
-use Rattle.call.specs.Calls.{Call}
+use Rattle.call.specs.Calls.{Call, decoded}
 use Rattle.model.specs.declared.answer.Refusal.the-variants.{Full, Denied, NotGranted}
 use Rattle.model.specs.declared.answer.Answer.{Answer}
 use Rattle.model.specs.declared.answer.Answer.the-variants.{Accepted, Refused}
@@ -27,7 +27,7 @@ use Rattle.model.specs.Limits.{mostFrames}
 use Rattle.model.specs.Operations.{execute, denies, grants, takes, isAccess}
 use Rattle.model.specs.Threads.{Thread, keySet}
 use Rattle.model.specs.History.{History, Entry, Lock}
-use Rattle.model.specs.Replay.{decoded, historyOf, answerTo}
+use Rattle.model.specs.Replay.{historyOf, answerTo}
 
 -- what a C or an A asks for: thread a, segment b, and an A's operation c
 pub data Operation : Type 0 where
@@ -47,21 +47,21 @@ targetOf (calls a b) = b
 targetOf (accesses a b c) = b
 
 -- 'A C's operation is execute, an A's is its c.'
-abbrev pub numberOf : Operation → ℕ
-numberOf (calls a b) = execute
-numberOf (accesses a b c) = c
+abbrev pub operationOf : Operation → ℕ
+operationOf (calls a b) = execute
+operationOf (accesses a b c) = c
 
-abbrev pub isNumbered : Operation → Bool
-isNumbered (calls a b) = true
-isNumbered (accesses a b c) = isAccess c
+abbrev pub isKnown : Operation → Bool
+isKnown (calls a b) = true
+isKnown (accesses a b c) = isAccess c
 
 -- 'An operation fits when its call isn't 18, an A's c is 2 or 4, and its segment is handed out and takes it.'
 pub record Fits (h : History) (next : Call) (o : Operation) : Type 0 where
   pub wellFormed : decoded next ≡ WellFormed (requestOf o)
-  pub numbered : isNumbered o ≡ true
+  pub known : isKnown o ≡ true
   pub entry : Entry
   pub handedOut : h .segments (targetOf o) ≡ some entry
-  pub taken : takes (entry .kind) (numberOf o) ≡ true
+  pub taken : takes (entry .kind) (operationOf o) ≡ true
 
 -- 'for a C, fewer than sixteen of the run's calls are open'
 abbrev pub hasRoom : Operation → Thread → Bool
@@ -70,10 +70,11 @@ hasRoom (accesses a b c) t = true
 
 module _ (holds : Meaning) where
   -- 'A standing lock stands for it when the lock has that segment and its operations include that number', as a deny lock or as a grant lock.
-  -- 'It opens when its formula holds for the run's key set.'
+  -- 'It opens when its formula holds for the run's key set.' What a text holds for is the formula that it spells: `HoldsSpelt` and `OpeningLaw` of
+  -- crates/formula, `formula` of `Mirror`.
   abbrev pub lockOpens : (ℕ → ℕ → Bool) → Operation → Thread → Lock → Bool
   lockOpens stands o t l =
-      eqb (l .segment) (targetOf o) && (stands (l .operations) (numberOf o) && holds (keySet (threadOf o) t) (l .text))
+      eqb (l .segment) (targetOf o) && (stands (l .operations) (operationOf o) && holds (keySet (threadOf o) t) (l .text))
 
   -- no deny lock opens, some grant lock does, and there is room
   abbrev pub granted : History → Operation → Thread → Bool

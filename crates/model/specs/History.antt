@@ -5,14 +5,13 @@ use mathlib.Core.List.{List, [], _∷_, _++_}
 use mathlib.Core.Option.{none}
 use Prim.Native.Nat.{ℕ, suc}
 use lib.Dec.{eqb}
-use lib.ListN.{length}
 use Rattle.product.specs.declared.literal.Key.{Key}
 use Rattle.product.specs.declared.literal.Key.the-variants.{Segment as SegmentKey, Defined}
 use Rattle.call.specs.declared.request.Request.{Request}
 use Rattle.call.specs.declared.request.Request.the-variants.{NewUser, StartThread, EndThread, NewSegment, NewKey, GiveKey, TakeKey, AddLock, DropLock, CallSegment, ReturnCall, Access}
 use Rattle.call.specs.declared.request.Decoded.{Decoded}
 use Rattle.call.specs.declared.request.Decoded.the-variants.{WellFormed, Corrupt as NotWellFormed}
-use Rattle.call.specs.Calls.{Call, decodedOf}
+use Rattle.call.specs.Calls.{Call, decoded}
 use Rattle.model.specs.declared.answer.Answer.{Answer}
 use Rattle.model.specs.declared.answer.Answer.the-variants.{Accepted, Refused}
 use Rattle.model.specs.Answers.{isAccepted}
@@ -98,7 +97,7 @@ event x r = record { call = x; answer = r }
 unfoldable pub advance : History → Event → History
 advance h e =
     let x = e .call in
-    noteAnswer h (decodedOf (x .letter) (x .a) (x .b) (x .c) (length (x .text))) (x .text) (e .answer)
+    noteAnswer h (decoded x) (x .text) (e .answer)
 
 abbrev pub historyFrom : History → List Event → History
 historyFrom h [] = h

@@ -22,8 +22,8 @@ abbrev pub mostListed : ℕ
 mostListed = 8
 
 -- products in all standing locks of a segment
-abbrev pub mostProducts : ℕ
-mostProducts = 8
+abbrev pub mostStanding : ℕ
+mostStanding = 8
 
 -- frames of a thread (open calls of a run)
 abbrev pub mostFrames : ℕ

@@ -1,9 +1,9 @@
 -- Lists, optional values and maps from numbers, as the definitions use them. Assumes nothing.
-use mathlib.Core.Bool.{Bool, true, false, _||_, cond}
+use mathlib.Core.Bool.{Bool, true, false, _&&_, _||_, cond}
 use mathlib.Core.List.{List, [], _∷_}
 use mathlib.Core.Option.{Option, none, some}
 use Prim.Native.Nat.{ℕ, zero, suc}
-use lib.Dec.{eqb}
+use lib.Dec.{eqb, ltb}
 
 module _ {ℓ} {A : Type ℓ} where
   abbrev pub any : (A → Bool) → List A → Bool
@@ -54,6 +54,12 @@ module _ {ℓ κ} {A : Type ℓ} {B : Type κ} where
   abbrev pub orDefault : B → (A → B) → Option A → B
   orDefault d f none = d
   orDefault d f (some x) = f x
+
+-- each number is above the one before it
+abbrev pub rising : List ℕ → Bool
+rising [] = true
+rising (m ∷ []) = true
+rising (m ∷ n ∷ ns) = ltb m n && rising (n ∷ ns)
 
 -- maps from numbers
 

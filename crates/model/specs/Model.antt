@@ -18,21 +18,21 @@ use Rattle.call.specs.declared.request.Request.{Request}
 use Rattle.call.specs.declared.request.Request.the-variants.{NewUser, StartThread, EndThread, NewSegment, NewKey, GiveKey, TakeKey, AddLock, DropLock, CallSegment, ReturnCall, Access}
 use Rattle.call.specs.declared.request.Decoded.{Decoded}
 use Rattle.call.specs.declared.request.Decoded.the-variants.{WellFormed, Corrupt as NotWellFormed}
-use Rattle.call.specs.Calls.{Call, decodedOf}
+use Rattle.call.specs.Calls.{Call, decoded}
 use Rattle.call.specs.Conditions.{Condition, when, firstRefusal}
 use Rattle.model.specs.declared.answer.Refusal.{Refusal}
 use Rattle.model.specs.declared.answer.Refusal.the-variants.{UnknownUser, NoThread, NoSegment, NoKey, NoLock, NotOwner, Unfit, AlreadyPresent, NotPresent, Full, Malformed, TooWide, Unsatisfiable, Denied, NotGranted, Corrupt}
 use Rattle.model.specs.declared.answer.Answer.{Answer}
 use Rattle.model.specs.declared.answer.Answer.the-variants.{Accepted, Refused}
 use Rattle.model.specs.Lists.{any, keep, first, indexOf, isSome, orDefault, tailOf}
-use Rattle.model.specs.Limits.{mostUsers, mostThreads, mostSegments, mostDefined, mostListed, mostProducts, mostFrames, mostNumbers, passes}
+use Rattle.model.specs.Limits.{mostUsers, mostThreads, mostSegments, mostDefined, mostListed, mostStanding, mostFrames, mostNumbers, passes}
 use Rattle.model.specs.Operations.{execute, denies, grants, sheet, takes, isAccess, takesSet}
 use Rattle.model.specs.Threads.{Frame, Thread, sameKey, isIn, KeySet, keySet}
 
--- ---- the state
+-- ---- the state; in what follows d is one
 
 -- a product of a standing lock, with the lock's number and operations
-pub record Guarded : Type 0 where
+pub record LockProduct : Type 0 where
   pub lock : ℕ
   pub operations : ℕ
   pub product : Product
@@ -43,7 +43,7 @@ pub record Segment : Type 0 where
   pub owner : ℕ
   pub kind : ℕ
   pub keys : List Key
-  pub products : List Guarded
+  pub products : List LockProduct
 
 -- a place for a live thread: free, or taken by the thread with that number
 pub data Place : Type 0 where
@@ -94,11 +94,15 @@ abbrev pub isFree : Place → Bool
 isFree free = true
 isFree (taken k t) = false
 
+-- live threads
+abbrev pub liveIn : List Place → ℕ
+liveIn places = length (keep (λ p. not (isFree p)) places)
+
 abbrev pub isThread : ℕ → Place → Bool
 isThread n free = false
 isThread n (taken k t) = eqb n k
 
--- The place that passes the test, for thread n: the one at n % 64 before all others, then the first. Which it is shows in no answer.
+-- The place that passes the test, for thread n: the one at n % 64 before all others, then the first. No answer depends on which it is.
 abbrev pub placeFor : ℕ → (Place → Bool) → List Place → ℕ
 placeFor n p places = cond (p (getD places (n % mostThreads) free)) (n % mostThreads) (indexOf p places)
 
@@ -121,30 +125,32 @@ nobody = record { user = 0; frames = [] }
 abbrev pub threadAt : State → ℕ → Thread
 threadAt d n = orDefault nobody (λ t. t) (findThread n (d .places))
 
--- lock n is made and not dropped: a standing lock has at least one product. The segment that it is on.
-abbrev pub isOf : ℕ → Guarded → Bool
-isOf n r = eqb (r .lock) n
+-- a product of lock n
+abbrev pub isOfLock : ℕ → LockProduct → Bool
+isOfLock n r = eqb (r .lock) n
 
 abbrev pub hasLock : ℕ → Segment → Bool
-hasLock n g = any (isOf n) (g .products)
+hasLock n g = any (isOfLock n) (g .products)
 
+-- lock n is made and not dropped; a standing lock has at least one product
 abbrev pub isLock : State → ℕ → Bool
 isLock d n = any (hasLock n) (d .segments)
 
+-- the segment that it is on
 abbrev pub homeOf : State → ℕ → ℕ
 homeOf d n = indexOf (hasLock n) (d .segments)
 
 -- ---- the check
 
-abbrev pub opensFor : (ℕ → ℕ → Bool) → ℕ → KeySet → Guarded → Bool
+abbrev pub opensFor : (ℕ → ℕ → Bool) → ℕ → KeySet → LockProduct → Bool
 opensFor stands n keys r = stands (r .operations) n && opens keys (r .product)
 
--- The first product that opens for thread a, of the locks on segment b that stand for operation n as deny locks or as grant locks. It is
--- the lowest such lock's.
-unfoldable pub opening : State → (ℕ → ℕ → Bool) → ℕ → ℕ → ℕ → Option Guarded
+-- The first product that opens for thread a, of the locks on segment b that stand for operation n, as deny locks or as grant locks. It is the
+-- lowest such lock's, since products are in the order of lock numbers (`inOrder` of `Numbering`).
+unfoldable pub opening : State → (ℕ → ℕ → Bool) → ℕ → ℕ → ℕ → Option LockProduct
 opening d stands a b n = first (opensFor stands n (keySet a (threadAt d a))) (segmentAt d b .products)
 
-abbrev pub lockOf : Option Guarded → ℕ
+abbrev pub lockOf : Option LockProduct → ℕ
 lockOf o = orDefault 0 (λ r. r .lock) o
 
 -- ---- the table of refusals
@@ -185,7 +191,7 @@ module _ (compile : Compiler) where
       ∷ []
   conditions d (StartThread a) text =
       unless (isUser d a) UnknownUser
-      ∷ when (not (any isFree (d .places)) || passes mostNumbers (suc (d .threadNumbers))) Full
+      ∷ when (passes mostThreads (suc (liveIn (d .places))) || passes mostNumbers (suc (d .threadNumbers))) Full
       ∷ []
   conditions d (EndThread a) text =
       unless (isLive d a) NoThread
@@ -222,7 +228,7 @@ module _ (compile : Compiler) where
       ∷ when (isMalformed (compile (issued d) text)) Malformed
       ∷ when (isTooWide (compile (issued d) text)) TooWide
       ∷ when (isUnsatisfiable (compile (issued d) text)) Unsatisfiable
-      ∷ when (passes mostProducts (length (segmentAt d b .products) + length (sumIn (compile (issued d) text))) || passes mostNumbers (suc (d .lockNumbers))) Full
+      ∷ when (passes mostStanding (length (segmentAt d b .products) + length (sumIn (compile (issued d) text))) || passes mostNumbers (suc (d .lockNumbers))) Full
       ∷ []
   conditions d (DropLock a b) text =
       unless (isUser d a) UnknownUser
@@ -291,17 +297,17 @@ giveKey k g = withKeys g (g .keys ++ Defined k ∷ [])
 abbrev pub takeKey : ℕ → Segment → Segment
 takeKey k g = withKeys g (keep (λ j. not (sameKey (Defined k) j)) (g .keys))
 
-abbrev pub withProducts : Segment → List Guarded → Segment
+abbrev pub withProducts : Segment → List LockProduct → Segment
 withProducts g products = record { owner = g .owner; kind = g .kind; keys = g .keys; products = products }
 
-abbrev pub guarded : ℕ → ℕ → Product → Guarded
-guarded lock operations p = record { lock = lock; operations = operations; product = p }
+abbrev pub lockProduct : ℕ → ℕ → Product → LockProduct
+lockProduct lock operations p = record { lock = lock; operations = operations; product = p }
 
 abbrev pub addProducts : ℕ → ℕ → Sum → Segment → Segment
-addProducts lock operations ps g = withProducts g (g .products ++ map (guarded lock operations) ps)
+addProducts lock operations ps g = withProducts g (g .products ++ map (lockProduct lock operations) ps)
 
 abbrev pub dropProducts : ℕ → Segment → Segment
-dropProducts n g = withProducts g (keep (λ r. not (isOf n r)) (g .products))
+dropProducts n g = withProducts g (keep (λ r. not (isOfLock n r)) (g .products))
 
 module _ (compile : Compiler) where
   unfoldable pub update : State → Request → List ℕ → State
@@ -363,7 +369,7 @@ module _ (compile : Compiler) where
   answer d (GiveKey a b c) text = length (giveKey c (segmentAt d b) .keys)
   answer d (TakeKey a b c) text = length (takeKey c (segmentAt d b) .keys)
   answer d (AddLock a b c) text = d .lockNumbers
-  answer d (DropLock a b) text = length (keep (isOf b) (segmentAt d (homeOf d b) .products))
+  answer d (DropLock a b) text = length (keep (isOfLock b) (segmentAt d (homeOf d b) .products))
   answer d (CallSegment a b) text = lockOf (opening d grants a b execute)
   answer d (ReturnCall a) text = newest (threadAt d a .frames)
   answer d (Access a b c) text = lockOf (opening d grants a b c)
@@ -380,4 +386,4 @@ module _ (compile : Compiler) where
   stepDecoded d (WellFormed q) text = judged d q text (firstRefusal (conditions compile d q text))
 
   unfoldable pub step : State → Call → record { state : State; answer : Answer }
-  step d x = stepDecoded d (decodedOf (x .letter) (x .a) (x .b) (x .c) (length (x .text))) (x .text)
+  step d x = stepDecoded d (decoded x) (x .text)

@@ -12,15 +12,15 @@ use Rattle.formula.specs.Compiler.{Compiler, Meaning, Laws}
 use Rattle.call.specs.declared.request.Request.{Request}
 use Rattle.call.specs.declared.request.Request.the-variants.{NewUser, StartThread, EndThread, NewSegment, NewKey, GiveKey, TakeKey, AddLock, DropLock, CallSegment, ReturnCall, Access}
 use Rattle.call.specs.declared.request.Decoded.the-variants.{WellFormed}
-use Rattle.call.specs.Calls.{Call}
+use Rattle.call.specs.Calls.{Call, decoded}
 use Rattle.model.specs.declared.answer.Answer.{Answer}
 use Rattle.model.specs.declared.answer.Answer.the-variants.{Accepted}
+use Rattle.model.specs.Lists.{rising}
 use Rattle.model.specs.Threads.{Frame, Thread}
 use Rattle.model.specs.Model.{State, segmentAt}
 use Rattle.model.specs.Cells.{stateOf, stepCells}
 use Rattle.model.specs.History.{Event, Lock, event, advance, history, listOf, acceptedOf}
-use Rattle.model.specs.Refusing.{rising}
-use Rattle.model.specs.Replay.{decoded, reached, events}
+use Rattle.model.specs.Replay.{reached, events}
 
 -- a letter that hands out numbers: U, S, N, K, L
 abbrev pub handsOut : Request → Bool
@@ -44,8 +44,8 @@ pub record Numbers (es : List Event) (d : State) (next : Call) (r : Answer) (d�
   pub ended : (a n : ℕ) → decoded next ≡ WellFormed (EndThread a) → r ≡ Accepted n
       → (t : Thread) → history es .threads a ≡ some t → n ≡ length (t .frames)
   -- G and T: keys now in the list
-  pub given : (a b c n : ℕ) → decoded next ≡ WellFormed (GiveKey a b c) → r ≡ Accepted n → n ≡ length (listOf (advance (history es) (event next r)) b)
-  pub taken : (a b c n : ℕ) → decoded next ≡ WellFormed (TakeKey a b c) → r ≡ Accepted n → n ≡ length (listOf (advance (history es) (event next r)) b)
+  pub keyGiven : (a b c n : ℕ) → decoded next ≡ WellFormed (GiveKey a b c) → r ≡ Accepted n → n ≡ length (listOf (advance (history es) (event next r)) b)
+  pub keyTaken : (a b c n : ℕ) → decoded next ≡ WellFormed (TakeKey a b c) → r ≡ Accepted n → n ≡ length (listOf (advance (history es) (event next r)) b)
   -- D: products removed, from the segment of the lock
   pub dropped : (a b n : ℕ) → decoded next ≡ WellFormed (DropLock a b) → r ≡ Accepted n → (l : Lock) → List·Memᴰ l (history es .locks) → l .number ≡ b
       → length (segmentAt d (l .segment) .products) ≡ length (segmentAt d′ (l .segment) .products) + n

@@ -16,7 +16,7 @@ write = 4
 abbrev pub deny : ℕ
 deny = 8
 
--- a set of operations is the sum of their numbers
+-- a set of operations is the sum of their numbers; n is one of them
 abbrev pub includes : ℕ → ℕ → Bool
 includes operations n = eqb (operations / n % 2) 1
 
@@ -42,9 +42,13 @@ takes kind n = cond (eqb kind code) (eqb n execute) (eqb n read || eqb n write)
 abbrev pub isAccess : ℕ → Bool
 isAccess n = eqb n read || eqb n write
 
+-- an operation of the set is one that the segment takes
+abbrev pub takesIn : ℕ → ℕ → ℕ → Bool
+takesIn kind operations n = not (includes operations n) || takes kind n
+
 -- a lock's set: with 1, 2 or 4, no bits above 8, and no operation that the segment doesn't take
 abbrev pub takesSet : ℕ → ℕ → Bool
 takesSet kind operations =
     ltb operations 16
     && ((includes operations execute || includes operations read || includes operations write)
-    && cond (eqb kind code) (not (includes operations read || includes operations write)) (not (includes operations execute)))
+    && (takesIn kind operations execute && takesIn kind operations read && takesIn kind operations write))

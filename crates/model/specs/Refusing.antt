@@ -2,24 +2,23 @@
 -- with the desk and every lent byte unchanged. Accepted is all the rest.' Over the arrays, whatever numbers are in them, and over every
 -- compiler. Proved in `proofs/Refusing.antt`. Assumes nothing.
 use mathlib.Core.Path.{_≡_}
-use mathlib.Core.Bool.{Bool, true, false, _&&_, cond}
-use mathlib.Core.List.{List, [], _∷_, _++_, map, List·Memᴰ}
+use mathlib.Core.Bool.{Bool, true, false, cond}
+use mathlib.Core.List.{List, _∷_, _++_, map, List·Memᴰ}
 use mathlib.Core.Logic.{_↔_}
 use Prim.Native.Nat.{ℕ, _≤_}
-use lib.Dec.{eqb, ltb}
+use lib.Dec.{eqb}
 use Rattle.formula.specs.Compiler.{Compiler}
 use Rattle.call.specs.declared.request.Request.{Request}
 use Rattle.call.specs.declared.request.Decoded.the-variants.{WellFormed, Corrupt as NotWellFormed}
-use Rattle.call.specs.Calls.{Call}
+use Rattle.call.specs.Calls.{Call, decoded}
 use Rattle.call.specs.Conditions.{Condition}
 use Rattle.model.specs.declared.answer.Refusal.{Refusal}
 use Rattle.model.specs.declared.answer.Refusal.the-variants.{Corrupt}
 use Rattle.model.specs.declared.answer.Answer.the-variants.{Refused}
 use Rattle.model.specs.Answers.{refusalNumber, isAccepted}
-use Rattle.model.specs.Lists.{any}
+use Rattle.model.specs.Lists.{any, rising}
 use Rattle.model.specs.Model.{State, conditions}
 use Rattle.model.specs.Cells.{Cells, stateOf, stepCells}
-use Rattle.model.specs.Replay.{decoded}
 
 abbrev pub someHolds : List (Condition Refusal) → Bool
 someHolds cs = any (λ c. c .holds) cs
@@ -30,7 +29,7 @@ pub record FirstHolds (r : Refusal) (cs : List (Condition Refusal)) : Type 0 whe
   pub condition : Condition Refusal
   pub later : List (Condition Refusal)
   pub split : cs ≡ earlier ++ condition ∷ later
-  pub none : someHolds earlier ≡ false
+  pub noneEarlier : someHolds earlier ≡ false
   pub holds : condition .holds ≡ true
   pub refusal : condition .refusal ≡ r
 
@@ -57,12 +56,6 @@ Refusing = (compile : Compiler) (d : Cells) (x : Call) → Refuses compile d x
 
 abbrev pub ranks : List (Condition Refusal) → List ℕ
 ranks cs = map (λ c. rank (c .refusal)) cs
-
--- each number is above the one before it
-abbrev pub rising : List ℕ → Bool
-rising [] = true
-rising (m ∷ []) = true
-rising (m ∷ n ∷ ns) = ltb m n && rising (n ∷ ns)
 
 abbrev pub InOrder : Type 0
 InOrder = (compile : Compiler) (d : State) (q : Request) (text : List ℕ) → rising (ranks (conditions compile d q text)) ≡ true

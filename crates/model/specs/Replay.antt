@@ -1,17 +1,12 @@
 -- Lists of calls: each gets what the one before it left, in the arrays and in the model, and each call stands with its answer in a list of
 -- events. Assumes nothing.
 use mathlib.Core.List.{List, [], _∷_}
-use lib.ListN.{length}
 use Rattle.formula.specs.Compiler.{Compiler}
-use Rattle.call.specs.declared.request.Decoded.{Decoded}
-use Rattle.call.specs.Calls.{Call, decodedOf}
+use Rattle.call.specs.Calls.{Call}
 use Rattle.model.specs.declared.answer.Answer.{Answer}
 use Rattle.model.specs.Model.{State, step}
 use Rattle.model.specs.Cells.{Cells, stepCells, emptyCells}
 use Rattle.model.specs.History.{Event, event, History, history}
-
-abbrev pub decoded : Call → Decoded
-decoded x = decodedOf (x .letter) (x .a) (x .b) (x .c) (length (x .text))
 
 module _ (compile : Compiler) where
   abbrev pub cellsAfter : Cells → List Call → Cells
