@@ -21,16 +21,18 @@ pub examples : Examples
 unfolding bytes outcomeOf issuedTo readText readNots readAtom readNumber readDigits listOf products fits fitsNode narrow firsts consistent present sameProduct joinAll joinEach union insert contradictory clashes compareLiterals compareAtoms orderOf keyCode codeOf keyAt literalAt opens decodedOf opening conditions update answer step stateOf store stepCells note advance
 examples =
     record {
-      routeAnswers = refl;
-      emptyAnswers = refl;
+      routeHappens = refl;
+      nobodyHappens = refl;
       emptyReadable = journal-examples .empty-readable;
       emptyRecords = journal-examples .empty-has-none;
-      texts = formula-examples;
-      twiceAnswers = refl;
+      textsCompile = formula-examples;
+      textsHappen = refl;
+      twiceHappens = refl;
       twiceHeld = refl;
-      backAnswers = refl;
-      deepAnswers = refl;
-      editAnswers = refl;
+      twiceStored = refl;
+      backHappens = refl;
+      deepHappens = refl;
+      editsHappen = refl;
       callFits = record { wellFormed = refl; known = refl; entry = _; handedOut = refl; taken = refl };
       callLive = refl;
       accessFits = record { wellFormed = refl; known = refl; entry = _; handedOut = refl; taken = refl };

@@ -15,3 +15,4 @@ pub mod Mirror
 pub mod Refusing
 pub mod Bounds
 pub mod Examples
+pub mod Trials

@@ -2,121 +2,173 @@
 -- lists of calls after which the premises of `Granting` hold. Proved in `proofs/Examples.antt`, by computing. Assumes nothing.
 use mathlib.Core.Path.{_≡_}
 use mathlib.Core.Bool.{true}
-use mathlib.Core.List.{List, [], _∷_, _++_, map}
+use mathlib.Core.List.{List, [], _∷_, _++_}
 use mathlib.Core.Option.{some}
 use Prim.Native.Nat.{ℕ}
 use lib.ListN.{replicate, take}
 use Rattle.product.specs.declared.literal.Key.the-variants.{Segment as SegmentKey}
 use Rattle.formula.specs.Outcome.{outcomeOf}
 use Rattle.formula.specs.Examples.{bytes, Examples as FormulaExamples}
-use Rattle.call.specs.Calls.{Call, callWith}
+use Rattle.call.specs.Calls.{Call}
 use Rattle.journal.specs.declared.file.Verdict.the-variants.{Readable}
 use Rattle.journal.specs.Reading.{verdictOf, recordsOf}
 use Rattle.journal.specs.Examples.{emptyFile}
-use Rattle.model.specs.declared.answer.Answer.{Answer}
-use Rattle.model.specs.declared.answer.Answer.the-variants.{Accepted, Refused}
-use Rattle.model.specs.declared.answer.Refusal.the-variants.{UnknownUser, NoThread, Full, Denied, NotGranted}
+use Rattle.model.specs.declared.answer.Refusal.the-variants.{UnknownUser, NoThread, Full, Malformed, Unsatisfiable, Denied, NotGranted}
 use Rattle.model.specs.Lists.{mapOption}
 use Rattle.model.specs.Threads.{keySet}
+use Rattle.model.specs.Model.{threadAt}
+use Rattle.model.specs.Cells.{stateOf}
+use Rattle.model.specs.History.{Event, History}
 use Rattle.model.specs.Granting.{calls, accesses, Fits}
-use Rattle.model.specs.Replay.{events, historyOf}
+use Rattle.model.specs.Replay.{reached, historyOf}
+use Rattle.model.specs.Letters.{U, S, E, N, K, G, T, L, D, C, R, A, ok, bad, callsOf, Happens}
 
--- document 01's letters
-abbrev pub U : Call
-U = callWith 85 0 0 0 []
-
-abbrev pub S : ℕ → Call
-S a = callWith 83 a 0 0 []
-
-abbrev pub N : ℕ → ℕ → Call
-N a b = callWith 78 a b 0 []
-
-abbrev pub E : ℕ → Call
-E a = callWith 69 a 0 0 []
-
-abbrev pub K : ℕ → Call
-K a = callWith 75 a 0 0 []
-
-abbrev pub G : ℕ → ℕ → ℕ → Call
-G a b c = callWith 71 a b c []
-
-abbrev pub T : ℕ → ℕ → ℕ → Call
-T a b c = callWith 84 a b c []
-
-abbrev pub L : ℕ → ℕ → ℕ → List ℕ → Call
-L a b c text = callWith 76 a b c text
-
-abbrev pub D : ℕ → ℕ → Call
-D a b = callWith 68 a b 0 []
-
-abbrev pub C : ℕ → ℕ → Call
-C a b = callWith 67 a b 0 []
-
-abbrev pub R : ℕ → Call
-R a = callWith 82 a 0 0 []
-
-abbrev pub A : ℕ → ℕ → ℕ → Call
-A a b c = callWith 65 a b c []
-
--- the answers to a list of calls from the empty state
-abbrev pub answers : List Call → List Answer
-answers xs = map (λ e. e .answer) (events outcomeOf xs)
-
--- the sixteen records: the totals, segment 2, may be saved only by way of segments 0 and 1
-abbrev pub route : List Call
+-- * the sixteen records: the totals, segment 2, may be saved only by way of segments 0 and 1
+abbrev pub route : List Event
 route =
-    U ∷ N 0 0 ∷ N 0 0 ∷ N 0 1 ∷ L 0 0 1 (bytes "U0") ∷ L 0 1 1 (bytes "U0") ∷ L 0 2 4 (bytes "S0&S1") ∷ S 0 ∷ S 0
-    ∷ C 0 0 ∷ C 0 1 ∷ C 1 1 ∷ A 0 2 4 ∷ A 1 2 4 ∷ R 0 ∷ A 0 2 4 ∷ []
+    ok U 0
+    ∷ ok (N 0 0) 0
+    ∷ ok (N 0 0) 1
+    ∷ ok (N 0 1) 2
+    ∷ ok (L 0 0 1 (bytes "U0")) 0
+    ∷ ok (L 0 1 1 (bytes "U0")) 1
+    ∷ ok (L 0 2 4 (bytes "S0&S1")) 2
+    ∷ ok (S 0) 0
+    ∷ ok (S 0) 1
+    ∷ ok (C 0 0) 0
+    ∷ ok (C 0 1) 1
+    ∷ ok (C 1 1) 1
+    ∷ ok (A 0 2 4) 2
+    ∷ bad (A 1 2 4) NotGranted
+    ∷ ok (R 0) 1
+    ∷ bad (A 0 2 4) NotGranted
+    ∷ []
 
--- one segment called twice, then returned from once
-abbrev pub twice : List Call
-twice = U ∷ N 0 0 ∷ L 0 0 1 (bytes "U0") ∷ S 0 ∷ C 0 0 ∷ C 0 0 ∷ R 0 ∷ []
+-- * 'Empty desk: S 0 gives 1; R 0 gives 2.'
+abbrev pub nobodyYet : List Event
+nobodyYet = bad (S 0) UnknownUser ∷ bad (R 0) NoThread ∷ []
 
--- a sheet that is read by way of segment 0, from inside segment 1, after the return from there, and after the return from segment 0
-abbrev pub back : List Call
+-- * the texts as locks; D answers how many products each has
+abbrev pub texts : List Event
+texts =
+    ok U 0
+    ∷ ok (N 0 0) 0
+    ∷ ok (K 0) 0
+    ∷ ok (K 0) 1
+    ∷ bad (L 0 0 1 (bytes "D0&!D0")) Unsatisfiable
+    ∷ ok (L 0 0 1 (bytes "(D0&!D0)|D1")) 0
+    ∷ ok (D 0 0) 1
+    ∷ ok (L 0 0 1 (bytes "D0|D0&D1")) 1
+    ∷ ok (D 0 1) 2
+    ∷ ok (L 0 0 1 (bytes "!(D0|D1)")) 2
+    ∷ ok (D 0 2) 1
+    ∷ bad (L 0 0 1 (bytes "D01")) Malformed
+    ∷ ok (K 0) 2
+    ∷ ok (K 0) 3
+    ∷ ok (L 0 0 1 (bytes "(D0|D1)&(D2|D3)")) 3
+    ∷ ok (D 0 3) 4
+    ∷ []
+
+-- * 'Call one segment twice, return once: its S key is held', and a sheet that asks for it can be read
+abbrev pub twice : List Event
+twice =
+    ok U 0
+    ∷ ok (N 0 0) 0
+    ∷ ok (N 0 1) 1
+    ∷ ok (L 0 0 1 (bytes "U0")) 0
+    ∷ ok (L 0 1 2 (bytes "S0")) 1
+    ∷ ok (S 0) 0
+    ∷ ok (C 0 0) 0
+    ∷ ok (C 0 0) 0
+    ∷ ok (R 0) 0
+    ∷ ok (A 0 1 2) 1
+    ∷ ok (R 0) 0
+    ∷ bad (A 0 1 2) NotGranted
+    ∷ []
+
+-- the key of the older open call stays when the newer one returns
+abbrev pub back : List Event
 back =
-    U ∷ N 0 0 ∷ N 0 0 ∷ N 0 1 ∷ L 0 0 1 (bytes "U0") ∷ L 0 1 1 (bytes "U0") ∷ L 0 2 2 (bytes "S0") ∷ S 0
-    ∷ C 0 0 ∷ C 0 1 ∷ A 0 2 2 ∷ R 0 ∷ A 0 2 2 ∷ R 0 ∷ A 0 2 2 ∷ []
+    ok U 0
+    ∷ ok (N 0 0) 0
+    ∷ ok (N 0 0) 1
+    ∷ ok (N 0 1) 2
+    ∷ ok (L 0 0 1 (bytes "U0")) 0
+    ∷ ok (L 0 1 1 (bytes "U0")) 1
+    ∷ ok (L 0 2 2 (bytes "S0")) 2
+    ∷ ok (S 0) 0
+    ∷ ok (C 0 0) 0
+    ∷ ok (C 0 1) 1
+    ∷ ok (A 0 2 2) 2
+    ∷ ok (R 0) 1
+    ∷ ok (A 0 2 2) 2
+    ∷ ok (R 0) 0
+    ∷ bad (A 0 2 2) NotGranted
+    ∷ []
 
--- one segment called sixteen times, then once more; then once more without the lock
-abbrev pub deep : List Call
-deep = U ∷ N 0 0 ∷ L 0 0 1 (bytes "U0") ∷ S 0 ∷ replicate 16 (C 0 0) ++ C 0 0 ∷ D 0 0 ∷ C 0 0 ∷ []
+-- 'The 16th open call is accepted; a 17th that a grant lock and no deny lock opens is 10, one without a lock 15.' Returned from, the place is used
+-- again; and all sixteen are closed at the end.
+abbrev pub deep : List Event
+deep =
+    ok U 0
+    ∷ ok (N 0 0) 0
+    ∷ ok (L 0 0 1 (bytes "U0")) 0
+    ∷ ok (S 0) 0
+    ∷ replicate 16 (ok (C 0 0) 0)
+    ++ bad (C 0 0) Full
+    ∷ ok (R 0) 0
+    ∷ ok (C 0 0) 0
+    ∷ ok (D 0 0) 1
+    ∷ bad (C 0 0) NotGranted
+    ∷ ok (E 0) 16
+    ∷ []
 
--- a key given, and taken while a call that handed it over is open; a deny lock on that key, dropped; the grant lock dropped; the thread ended
-abbrev pub edits : List Call
+-- A key is given, and taken while a call that handed it over is open; so a deny lock on that key opens, until it is dropped. Then the grant lock
+-- is dropped, and then the thread ended.
+abbrev pub edits : List Event
 edits =
-    U ∷ N 0 0 ∷ K 0 ∷ G 0 0 0 ∷ L 0 0 1 (bytes "U0") ∷ S 0 ∷ C 0 0 ∷ T 0 0 0 ∷ L 0 0 9 (bytes "D0")
-    ∷ C 0 0 ∷ D 0 1 ∷ C 0 0 ∷ D 0 0 ∷ C 0 0 ∷ E 0 ∷ []
+    ok U 0
+    ∷ ok (N 0 0) 0
+    ∷ ok (K 0) 0
+    ∷ ok (G 0 0 0) 2
+    ∷ ok (L 0 0 1 (bytes "U0")) 0
+    ∷ ok (S 0) 0
+    ∷ ok (C 0 0) 0
+    ∷ ok (T 0 0 0) 1
+    ∷ ok (L 0 0 9 (bytes "D0")) 1
+    ∷ bad (C 0 0) (Denied 1)
+    ∷ ok (D 0 1) 1
+    ∷ ok (C 0 0) 0
+    ∷ ok (D 0 0) 1
+    ∷ bad (C 0 0) NotGranted
+    ∷ ok (E 0) 2
+    ∷ []
+
+-- the history after the first n events of the route
+abbrev pub before : ℕ → History
+before n = historyOf outcomeOf (callsOf (take n route))
 
 pub record Examples : Type 0 where
-  -- * the sixteen records
-  pub routeAnswers : answers route
-      ≡ Accepted 0 ∷ Accepted 0 ∷ Accepted 1 ∷ Accepted 2 ∷ Accepted 0 ∷ Accepted 1 ∷ Accepted 2 ∷ Accepted 0 ∷ Accepted 1
-      ∷ Accepted 0 ∷ Accepted 1 ∷ Accepted 1 ∷ Accepted 2 ∷ Refused NotGranted ∷ Accepted 1 ∷ Refused NotGranted ∷ []
-  -- * 'Empty desk: S 0 gives 1; R 0 gives 2. File 4B 4C 44 01 00 00 00 (hexadecimal) prints nothing.'
-  pub emptyAnswers : answers (S 0 ∷ R 0 ∷ []) ≡ Refused UnknownUser ∷ Refused NoThread ∷ []
+  pub routeHappens : Happens route
+  pub nobodyHappens : Happens nobodyYet
+  -- * 'File 4B 4C 44 01 00 00 00 (hexadecimal) prints nothing.'
   pub emptyReadable : verdictOf emptyFile ≡ Readable
   pub emptyRecords : recordsOf emptyFile ≡ []
-  -- * the texts
-  pub texts : FormulaExamples
-  -- * 'Call one segment twice, return once: its S key is held.'
-  pub twiceAnswers : answers twice ≡ Accepted 0 ∷ Accepted 0 ∷ Accepted 0 ∷ Accepted 0 ∷ Accepted 0 ∷ Accepted 0 ∷ Accepted 0 ∷ []
-  pub twiceHeld : mapOption (λ t. keySet 0 t (SegmentKey 0)) (historyOf outcomeOf twice .threads 0) ≡ some true
-  -- the key of the open call that is left stays, and goes with it
-  pub backAnswers : answers back
-      ≡ Accepted 0 ∷ Accepted 0 ∷ Accepted 1 ∷ Accepted 2 ∷ Accepted 0 ∷ Accepted 1 ∷ Accepted 2 ∷ Accepted 0
-      ∷ Accepted 0 ∷ Accepted 1 ∷ Accepted 2 ∷ Accepted 1 ∷ Accepted 2 ∷ Accepted 0 ∷ Refused NotGranted ∷ []
-  -- 'The 16th open call is accepted; a 17th that a grant lock and no deny lock opens is 10, one without a lock 15.'
-  pub deepAnswers : answers deep ≡ replicate 20 (Accepted 0) ++ Refused Full ∷ Accepted 1 ∷ Refused NotGranted ∷ []
-  -- the key stays with the open call that handed it over, so the deny lock opens; then it is gone, and then the grant lock is
-  pub editAnswers : answers edits
-      ≡ Accepted 0 ∷ Accepted 0 ∷ Accepted 0 ∷ Accepted 2 ∷ Accepted 0 ∷ Accepted 0 ∷ Accepted 0 ∷ Accepted 1 ∷ Accepted 1
-      ∷ Refused (Denied 1) ∷ Accepted 1 ∷ Accepted 0 ∷ Accepted 1 ∷ Refused NotGranted ∷ Accepted 2 ∷ []
+  -- * the texts, as the compiler has them and as locks
+  pub textsCompile : FormulaExamples
+  pub textsHappen : Happens texts
+  pub twiceHappens : Happens twice
+  -- after the first return the S key is held, by the history and by the arrays
+  pub twiceHeld : mapOption (λ t. keySet 0 t (SegmentKey 0)) (historyOf outcomeOf (callsOf (take 9 twice)) .threads 0) ≡ some true
+  pub twiceStored : keySet 0 (threadAt (stateOf (reached outcomeOf (callsOf (take 9 twice)))) 0) (SegmentKey 0) ≡ true
+  pub backHappens : Happens back
+  pub deepHappens : Happens deep
+  pub editsHappen : Happens edits
   -- the premises of `Granting` hold before the first C of the route, before its first A, which is granted, and before its last, which isn't
-  pub callFits : Fits (historyOf outcomeOf (take 9 route)) (C 0 0) (calls 0 0)
-  pub callLive : historyOf outcomeOf (take 9 route) .threads 0 ≡ some (record { user = 0; frames = [] })
-  pub accessFits : Fits (historyOf outcomeOf (take 12 route)) (A 0 2 4) (accesses 0 2 4)
-  pub accessLive : historyOf outcomeOf (take 12 route) .threads 0
+  pub callFits : Fits (before 9) (C 0 0) (calls 0 0)
+  pub callLive : before 9 .threads 0 ≡ some (record { user = 0; frames = [] })
+  pub accessFits : Fits (before 12) (A 0 2 4) (accesses 0 2 4)
+  pub accessLive : before 12 .threads 0
       ≡ some (record { user = 0; frames = record { segment = 1; keys = SegmentKey 1 ∷ [] } ∷ record { segment = 0; keys = SegmentKey 0 ∷ [] } ∷ [] })
-  pub lastFits : Fits (historyOf outcomeOf (take 15 route)) (A 0 2 4) (accesses 0 2 4)
-  pub lastLive : historyOf outcomeOf (take 15 route) .threads 0 ≡ some (record { user = 0; frames = record { segment = 0; keys = SegmentKey 0 ∷ [] } ∷ [] })
+  pub lastFits : Fits (before 15) (A 0 2 4) (accesses 0 2 4)
+  pub lastLive : before 15 .threads 0 ≡ some (record { user = 0; frames = record { segment = 0; keys = SegmentKey 0 ∷ [] } ∷ [] })

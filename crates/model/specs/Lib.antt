@@ -13,4 +13,7 @@ pub mod Numbering
 pub mod Mirror
 pub mod Refinement
 pub mod Bounds
+pub mod Letters
 pub mod Examples
+pub mod Trials
+pub mod Widths
