@@ -39,10 +39,10 @@ abbrev pub AgreeCounts : State → (ℕ → ℕ) → Type 0
 AgreeCounts d count =
     (d .users ≡ count 85) × (d .threadNumbers ≡ count 83) × (length (d .segments) ≡ count 78) × (length (d .makers) ≡ count 75) × (d .lockNumbers ≡ count 76)
 
-pub record Agrees (holds : Meaning) (d : State) (h : History) (count : ℕ → ℕ) : Type 0 where
+pub record Agrees (compile : Compiler) (d : State) (h : History) (count : ℕ → ℕ) : Type 0 where
   pub threads : AgreeThreads (d .places) (d .threadNumbers) (h .threads)
   pub segments : AgreeSegments (d .segments) (h .segments)
-  pub locks : AgreeLocks holds (d .segments) (d .lockNumbers) (h .locks)
+  pub locks : AgreeLocks compile (d .segments) (d .lockNumbers) (h .locks)
   pub counts : AgreeCounts d count
 
 -- one more accepted call of a letter
@@ -56,12 +56,12 @@ compiled malformed m w u = absurd (true≢false m)
 compiled tooWide m w u = absurd (true≢false w)
 compiled unsatisfiable m w u = absurd (true≢false u)
 
-module _ (compile : Compiler) (holds : Meaning) (laws : Laws compile holds) (text : List ℕ) (d : State) (h : History) (count : ℕ → ℕ) (c : Agrees holds d h count) where
+module _ (compile : Compiler) (holds : Meaning) (laws : Laws compile holds) (text : List ℕ) (d : State) (h : History) (count : ℕ → ℕ) (c : Agrees compile d h count) where
   -- an accepted request keeps the agreement
   abbrev Kept : Request → Type 0
   Kept q =
       firstRefusal (conditions compile d q text) ≡ none
-      → Agrees holds (update compile d q text) (note h q text (answer compile d q text)) (bump (callOf q text .letter) count)
+      → Agrees compile (update compile d q text) (note h q text (answer compile d q text)) (bump (callOf q text .letter) count)
 
   keep-user : Kept NewUser
   unfolding conditions update answer note
@@ -104,7 +104,7 @@ module _ (compile : Compiler) (holds : Meaning) (laws : Laws compile holds) (tex
       record {
         threads = c .threads;
         segments = agree-new (d .segments) (h .segments) (c .segments) _;
-        locks = agree-rows holds (d .segments) (d .lockNumbers) (h .locks) (c .locks) _ (products-append-one (d .segments) _ refl);
+        locks = agree-rows compile (d .segments) (d .lockNumbers) (h .locks) (c .locks) _ (products-append-one (d .segments) _ refl);
         counts = (u, t, length-append-one (d .segments) _ ∙ ap suc s, k, l);
       }
 
@@ -117,12 +117,12 @@ module _ (compile : Compiler) (holds : Meaning) (laws : Laws compile holds) (tex
   -- a change of a segment that leaves its products alone
   keep-adjust : (b : ℕ) (f : Segment → Segment) (F : Entry → Entry) → ((g : Segment) → entryOf (f g) ≡ F (entryOf g))
       → ((g : Segment) → f g .products ≡ g .products) → (letter : ℕ) → AgreeCounts d (bump letter count)
-      → Agrees holds (onSegment d b f) (withEntries h (adjust (h .segments) b F)) (bump letter count)
+      → Agrees compile (onSegment d b f) (withEntries h (adjust (h .segments) b F)) (bump letter count)
   keep-adjust b f F same products letter k =
       record {
         threads = c .threads;
         segments = agree-adjust (d .segments) (h .segments) (c .segments) b f F same;
-        locks = agree-rows holds (d .segments) (d .lockNumbers) (h .locks) (c .locks) _ (products-same (d .segments) b f products);
+        locks = agree-rows compile (d .segments) (d .lockNumbers) (h .locks) (c .locks) _ (products-same (d .segments) b f products);
         counts = (k .0, k .1, length-set (d .segments) b _ ∙ k .2, k .3, k .4);
       }
 
@@ -145,7 +145,7 @@ module _ (compile : Compiler) (holds : Meaning) (laws : Laws compile holds) (tex
       record {
         threads = c .threads;
         segments = agree-unseen (d .segments) (h .segments) (c .segments) b (addProducts (d .lockNumbers) o (sumIn x)) (λ g. refl);
-        locks = agree-add holds (d .segments) (d .lockNumbers) (h .locks) (c .locks) b o text (sumIn x) lt (laws .bounds (issued d) text _ ps .filled) (laws .opening (issued d) text _ ps);
+        locks = agree-add compile (d .segments) (d .lockNumbers) (h .locks) (c .locks) b o text (sumIn x) lt (laws .bounds (issued d) text _ ps .filled) (issued d) ps;
         counts = (u, t, length-set (d .segments) b _ ∙ s, k, ap suc l);
       }
 
@@ -157,7 +157,7 @@ module _ (compile : Compiler) (holds : Meaning) (laws : Laws compile holds) (tex
       record {
         threads = c .threads;
         segments = agree-unseen (d .segments) (h .segments) (c .segments) (homeOf d n) (dropProducts n) (λ g. refl);
-        locks = agree-drop holds (d .segments) (d .lockNumbers) (h .locks) (c .locks) n there;
+        locks = agree-drop compile (d .segments) (d .lockNumbers) (h .locks) (c .locks) n there;
         counts = (u, t, length-set (d .segments) (homeOf d n) _ ∙ s, k, l);
       }
 
@@ -227,27 +227,27 @@ all-free (suc n) zero k t e = let z : _≡_ {A = ℕ} 0 1 = cc in omega arith
 all-free (suc n) (suc i) k t e = all-free n i k t e
 
 module _ (compile : Compiler) (holds : Meaning) (laws : Laws compile holds) where
-  pub step-agrees : (d : State) (h : History) (count : ℕ → ℕ) (x : Call) → Agrees holds d h count
-      → Agrees holds (step compile d x .state) (advance h (event x (step compile d x .answer))) (counted count (event x (step compile d x .answer)))
+  pub step-agrees : (d : State) (h : History) (count : ℕ → ℕ) (x : Call) → Agrees compile d h count
+      → Agrees compile (step compile d x .state) (advance h (event x (step compile d x .answer))) (counted count (event x (step compile d x .answer)))
   unfolding step advance
   step-agrees d h count x c = by-request (decoded x) refl
     where
       by-refusal : (q : Request) → x .letter ≡ callOf q (x .text) .letter → (o : Option Refusal) → firstRefusal (conditions compile d q (x .text)) ≡ o
-          → Agrees holds (judged compile d q (x .text) o .state) (noteAnswer h (WellFormed q) (x .text) (judged compile d q (x .text) o .answer)) (counted count (event x (judged compile d q (x .text) o .answer)))
+          → Agrees compile (judged compile d q (x .text) o .state) (noteAnswer h (WellFormed q) (x .text) (judged compile d q (x .text) o .answer)) (counted count (event x (judged compile d q (x .text) o .answer)))
       by-refusal q l none e = rw l (keep-all compile holds laws (x .text) d h count c q e)
       by-refusal q l (some r) e = c
 
       by-request : (o : Decoded) → decoded x ≡ o
-          → Agrees holds (stepDecoded compile d o (x .text) .state) (noteAnswer h o (x .text) (stepDecoded compile d o (x .text) .answer)) (counted count (event x (stepDecoded compile d o (x .text) .answer)))
+          → Agrees compile (stepDecoded compile d o (x .text) .state) (noteAnswer h o (x .text) (stepDecoded compile d o (x .text) .answer)) (counted count (event x (stepDecoded compile d o (x .text) .answer)))
       by-request NotWellFormed e = c
       by-request (WellFormed q) e = by-refusal q (request-letter x q e) (firstRefusal (conditions compile d q (x .text))) refl
 
-  all-agree : (xs : List Call) (d : State) (h : History) (count : ℕ → ℕ) → Agrees holds d h count
-      → Agrees holds (stateAfter compile d xs) (historyFrom h (eventsOf compile d xs)) (λ k. countFrom k (count k) (eventsOf compile d xs))
+  all-agree : (xs : List Call) (d : State) (h : History) (count : ℕ → ℕ) → Agrees compile d h count
+      → Agrees compile (stateAfter compile d xs) (historyFrom h (eventsOf compile d xs)) (λ k. countFrom k (count k) (eventsOf compile d xs))
   all-agree [] d h count c = c
   all-agree (x ∷ xs) d h count c = all-agree xs _ _ _ (step-agrees d h count x c)
 
-  empty-agrees : Agrees holds emptyState emptyHistory (λ k. 0)
+  empty-agrees : Agrees compile emptyState emptyHistory (λ k. 0)
   empty-agrees =
       record {
         threads = record { count = refl; home = λ n. 0; written = λ n. refl; here = λ i k t e. absurd (none-taken i k t e); below = λ i k t e. absurd (none-taken i k t e) };
@@ -260,5 +260,5 @@ module _ (compile : Compiler) (holds : Meaning) (laws : Laws compile holds) wher
       none-taken i k t e = all-free 64 i k t e
 
   pub agree : (xs : List Call)
-      → Agrees holds (stateAfter compile emptyState xs) (history (eventsOf compile emptyState xs)) (λ k. acceptedOf k (eventsOf compile emptyState xs))
+      → Agrees compile (stateAfter compile emptyState xs) (history (eventsOf compile emptyState xs)) (λ k. acceptedOf k (eventsOf compile emptyState xs))
   agree xs = all-agree xs emptyState emptyHistory (λ k. 0) empty-agrees

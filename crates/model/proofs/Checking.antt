@@ -9,7 +9,7 @@ use native.Mathlib.Omega.{arith}
 use lib.Dec.{ltb}
 use lib.ListN.{length}
 use borrow.Author.Tests.{lt-ltb, ltb-true, ltb-false, le-ltb}
-use Rattle.formula.specs.Compiler.{Compiler, Meaning}
+use Rattle.formula.specs.Compiler.{Compiler, Meaning, Laws}
 use Rattle.call.specs.declared.request.Request.{Request}
 use Rattle.call.specs.declared.request.Request.the-variants.{CallSegment, Access}
 use Rattle.call.specs.Conditions.{firstRefusal}
@@ -60,7 +60,7 @@ under-limit most n =
     (λ e. simp e (let h = ltb-true n most e in le-ltb most (suc n) (omega arith)))
     (λ e. simp e (let h = ltb-false n most e in lt-ltb most (suc n) (omega arith)))
 
-module _ (compile : Compiler) (holds : Meaning) (text : List ℕ) (d : State) (h : History) (count : ℕ → ℕ) (c : Agrees holds d h count) where
+module _ (compile : Compiler) (holds : Meaning) (laws : Laws compile holds) (text : List ℕ) (d : State) (h : History) (count : ℕ → ℕ) (c : Agrees compile d h count) where
   module _ (o : Operation) (t : Thread) (live : h .threads (threadOf o) ≡ some t) (entry : Entry) (out : h .segments (targetOf o) ≡ some entry) where
     pub found : findThread (threadOf o) (d .places) ≡ some t
     found = sym (look (d .places) (d .threadNumbers) (h .threads) (c .threads) (threadOf o)) ∙ live
@@ -78,7 +78,7 @@ module _ (compile : Compiler) (holds : Meaning) (text : List ℕ) (d : State) (h
         → mapOption (λ r. r .lock) (opening d stands (threadOf o) (targetOf o) (operationOf o)) ≡ mapOption (λ l. l .number) (first (lockOpens holds stands o t) (h .locks))
     unfolding opening
     check stands =
-        check-agrees holds (d .segments) (d .lockNumbers) (h .locks) (c .locks) stands (targetOf o) (operationOf o) (keySet (threadOf o) (threadAt d (threadOf o)))
+        check-agrees compile holds laws (d .segments) (d .lockNumbers) (h .locks) (c .locks) stands (targetOf o) (operationOf o) (keySet (threadOf o) (threadAt d (threadOf o)))
         ∙ rw thread-is
 
   pub answers-from : (o : Operation) (t : Thread) → h .threads (threadOf o) ≡ some t → (entry : Entry) → h .segments (targetOf o) ≡ some entry

@@ -95,7 +95,7 @@ on-model compile holds l xs next =
     grants-from holds _ next _
     (λ o t fits live.
     answer-is compile (stateAfter compile emptyState xs) next (requestOf o) (fits .wellFormed)
-    ∙ answers-from compile holds (next .text) _ _ _ (agree compile holds l xs) o t live (fits .entry) (fits .handedOut) (fits .known) (fits .taken))
+    ∙ answers-from compile holds l (next .text) _ _ _ (agree compile holds l xs) o t live (fits .entry) (fits .handedOut) (fits .known) (fits .taken))
 
 -- ---- on the arrays
 

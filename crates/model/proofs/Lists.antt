@@ -1,5 +1,5 @@
 -- Laws of lists: tests over them, what a test keeps, the first that passes, and a list read index by index. Assumes nothing.
-use mathlib.Core.Path.{_≡_, refl, sym, ap, _∙_}
+use mathlib.Core.Path.{_≡_, refl, sym, ap, subst, _∙_}
 use mathlib.Core.Logic.{_≢_}
 use mathlib.Core.Bool.{Bool, true, false, _&&_, _||_, cond, true≢false, false≢true, or-assoc}
 use mathlib.Core.List.{List, [], _∷_, _++_, map, append-assoc, List·Memᴰ, List·Memᴰ·head, List·Memᴰ·tail}
@@ -56,6 +56,10 @@ module _ {A : Type 0} where
       caseBool (p y)
       (λ q. (y, List·Memᴰ·head refl, q))
       (λ q. let (x, m, u) = any-found p ys (rw q at t) in (x, List·Memᴰ·tail m, u))
+
+  pub all-at : (P : A → Type 0) (xs : List A) → All P xs → (x : A) → List·Memᴰ x xs → P x
+  all-at P (y ∷ ys) h x (List·Memᴰ·head e) = subst P (sym e) (h .0)
+  all-at P (y ∷ ys) h x (List·Memᴰ·tail m) = all-at P ys (h .1) x m
 
   pub any-at : (p : A → Bool) (d : A) (xs : List A) (i : ℕ) → p (getD xs i d) ≡ true → p d ≡ false → any p xs ≡ true
   any-at p d [] i t f = clash t f

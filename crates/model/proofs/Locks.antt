@@ -8,17 +8,19 @@ use mathlib.Core.Option.{Option, none, some}
 use Prim.Native.Nat.{ℕ, suc, _≤_, _<_}
 use native.Mathlib.Omega.{arith}
 use lib.Dec.{eqb}
-use lib.ListN.{length, getD, set}
+use lib.ListN.{length, getD, set, length-map}
 use borrow.Author.Tests.{eqb-true, eqb-false, eq-eqb, ne-eqb, lt-ltb}
 use Rattle.product.specs.Product.{Product, opens}
 use Rattle.product.specs.Sum.{Sum, opensAny}
-use Rattle.formula.specs.Compiler.{Meaning}
+use Rattle.formula.specs.declared.text.Issued.{Issued}
+use Rattle.formula.specs.Outcome.{accepted}
+use Rattle.formula.specs.Compiler.{Compiler, Meaning, Laws}
 use Rattle.call.proofs.Truth.{and-left, and-right}
 use Rattle.model.specs.Lists.{any, keep, first, mapOption, indexOf, rising}
 use Rattle.model.specs.Threads.{KeySet}
 use Rattle.model.specs.Model.{Segment, LockProduct, lockProduct, opensFor, isOfLock, hasLock, nowhere, addProducts, dropProducts}
 use Rattle.model.specs.History.{Lock}
-use Rattle.model.proofs.Lists.{All, concatMap, caseBool, same-truth, eqb-self, any-found, any-passes, any-at, any-same, any-map, any-concatMap, any-keep, any-and, from-any, map-append, concatMap-append, keep-append, keep-map, keep-concatMap, keep-keep, keep-idle, first-keep, first-map, first-same, All-map, All-append, All-keep, indexOf-lt, indexOf-passes}
+use Rattle.model.proofs.Lists.{All, concatMap, caseBool, same-truth, eqb-self, any-found, any-passes, any-at, all-at, any-same, any-map, any-concatMap, any-keep, any-and, from-any, map-append, concatMap-append, keep-append, keep-map, keep-concatMap, keep-keep, keep-idle, first-keep, first-map, first-same, All-map, All-append, All-keep, indexOf-lt, indexOf-passes}
 use Rattle.model.proofs.Segments.{productsAt, products-set}
 
 -- a standing lock with its products
@@ -100,11 +102,12 @@ rising-add : (new : Standing) (ls : List Standing) → All (λ l. l .number < ne
 rising-add new [] b r = (tt, tt)
 rising-add new (l ∷ ls) b r = (All-append (λ k. l .number < k .number) ls (new ∷ []) (r .0) (b .0, tt), rising-add new ls (b .1) (r .1))
 
-module _ (holds : Meaning) where
-  -- its products open as its text says, and there is one; its number is handed out, and tells its segment
+module _ (compile : Compiler) where
+  -- its products are what the compiler made of its text, and there is one; its number is handed out, and tells its segment
   pub record Sound (home : ℕ → ℕ) (numbers : ℕ) (l : Standing) : Type 0 where
+    pub issue : Issued
+    pub made : compile issue (l .text) ≡ accepted (l .products)
     pub filled : 1 ≤ length (l .products)
-    pub opening : (keys : KeySet) → opensAny keys (l .products) ≡ holds keys (l .text)
     pub below : l .number < numbers
     pub homed : home (l .number) ≡ l .segment
 
@@ -118,27 +121,27 @@ module _ (holds : Meaning) where
 
   -- ---- the check
 
-  lock-opens : (home : ℕ → ℕ) (numbers : ℕ) (stands : ℕ → ℕ → Bool) (s n : ℕ) (keys : KeySet) (l : Standing) → Sound home numbers l
+  lock-opens : (holds : Meaning) → Laws compile holds → (home : ℕ → ℕ) (numbers : ℕ) (stands : ℕ → ℕ → Bool) (s n : ℕ) (keys : KeySet) (l : Standing) → Sound home numbers l
       → (isOn s l && any (opensFor stands n keys) (rowsOf l)) ≡ (isOn s l && (stands (l .operations) n && holds keys (l .text)))
-  lock-opens home numbers stands s n keys l c =
+  lock-opens holds laws home numbers stands s n keys l c =
       ap (λ (b : Bool). isOn s l && b)
       (any-map (opensFor stands n keys) (lockProduct (l .number) (l .operations)) (l .products)
       ∙ any-and (stands (l .operations) n) (opens keys) (l .products)
-      ∙ ap (λ (b : Bool). stands (l .operations) n && b) (sym (opens-any keys (l .products)) ∙ c .opening keys))
+      ∙ ap (λ (b : Bool). stands (l .operations) n && b) (sym (opens-any keys (l .products)) ∙ laws .opening (c .issue) (l .text) (l .products) (c .made) keys))
 
   -- the lock of the first product that opens is the first standing lock that does
-  pub check-agrees : (segments : List Segment) (numbers : ℕ) (locks : List Lock) → AgreeLocks segments numbers locks
+  pub check-agrees : (holds : Meaning) → Laws compile holds → (segments : List Segment) (numbers : ℕ) (locks : List Lock) → AgreeLocks segments numbers locks
       → (stands : ℕ → ℕ → Bool) (s n : ℕ) (keys : KeySet)
       → mapOption (λ r. r .lock) (first (opensFor stands n keys) (productsAt segments s))
       ≡ mapOption (λ l. l .number) (first (λ (l : Lock). eqb (l .segment) s && (stands (l .operations) n && holds keys (l .text))) locks)
-  check-agrees segments numbers locks c stands s n keys =
+  check-agrees holds laws segments numbers locks c stands s n keys =
       let p = opensFor stands n keys in
       let q : Lock → Bool = λ l. eqb (l .segment) s && (stands (l .operations) n && holds keys (l .text)) in
       ap (λ (rs : List LockProduct). mapOption (λ (r : LockProduct). r .lock) (first p rs)) (c .rows s)
       ∙ first-lock p (keep (isOn s) (c .standing))
       ∙ ap (mapOption (λ (l : Standing). l .number))
       (first-keep (λ l. any p (rowsOf l)) (isOn s) (c .standing)
-      ∙ first-same (λ l. isOn s l && any p (rowsOf l)) (λ l. q (lockIn l)) (c .standing) (All-map (λ l h. lock-opens (c .home) numbers stands s n keys l h) (c .standing) (c .sound)))
+      ∙ first-same (λ l. isOn s l && any p (rowsOf l)) (λ l. q (lockIn l)) (c .standing) (All-map (λ l h. lock-opens holds laws (c .home) numbers stands s n keys l h) (c .standing) (c .sound)))
       ∙ sym (ap (λ (ls : List Lock). mapOption (λ (l : Lock). l .number) (first q ls)) (c .written)
       ∙ ap (mapOption (λ (l : Lock). l .number)) (first-map q lockIn (c .standing))
       ∙ numbers-same (first (λ l. q (lockIn l)) (c .standing)))
@@ -199,6 +202,54 @@ module _ (holds : Meaning) where
             let on : (isOn s l && numbered l) ≡ true = simp (eqb-self s, t) in
             any-at (hasLock n) nowhere segments s (rows-of s ∙ any-passes (λ k. isOn s k && numbered k) l (c .standing) m on) refl
 
+  -- ---- the products of one standing lock
+
+  -- of locks in the order of their numbers one has the number
+  single : (n : ℕ) (ls : List Standing) → Rising ls → (l : Lock) → List·Memᴰ l (map lockIn ls) → l .number ≡ n
+      → (x : Standing) × (lockIn x ≡ l) × List·Memᴰ x ls × (keep (λ y. eqb (y .number) n) ls ≡ x ∷ [])
+  single n (x ∷ xs) r l (List·Memᴰ·head e) h =
+      let m : x .number ≡ n = ap (λ (k : Lock). k .number) (sym e) ∙ h in
+      let here : eqb (x .number) n ≡ true = eq-eqb (x .number) n m in
+      (x, sym e, List·Memᴰ·head refl, simp here (ap (λ (ys : List Standing). x ∷ ys) (above xs (r .0) m)))
+    where
+      above : (ys : List Standing) → All (λ k. x .number < k .number) ys → x .number ≡ n → keep (λ y. eqb (y .number) n) ys ≡ []
+      above [] a m = refl
+      above (y ∷ ys) a m = let lt = a .0 in simp (ne-eqb (y .number) n (λ p. omega arith)) (above ys (a .1) m)
+  single n (x ∷ xs) r l (List·Memᴰ·tail i) h =
+      let (y, e, m, k) = single n xs (r .1) l i h in
+      let lt : x .number < y .number = all-at (λ z. x .number < z .number) xs (r .0) y m in
+      let q : y .number ≡ n = ap (λ (z : Lock). z .number) e ∙ h in
+      (y, e, List·Memᴰ·tail m, simp (ne-eqb (x .number) n (λ p. omega arith)) k)
+
+  own-rows : (n : ℕ) (l : Standing) → keep (isOfLock n) (rowsOf l) ≡ cond (eqb (l .number) n) (rowsOf l) []
+  own-rows n l = go (l .products)
+    where
+      go : (ps : Sum) → keep (isOfLock n) (map (lockProduct (l .number) (l .operations)) ps) ≡ cond (eqb (l .number) n) (map (lockProduct (l .number) (l .operations)) ps) []
+      go [] = caseBool (eqb (l .number) n) (λ e. simp e) (λ e. simp e)
+      go (p ∷ ps) = let h = go ps in caseBool (eqb (l .number) n) (λ e. simp e (ap (λ (rs : List LockProduct). lockProduct (l .number) (l .operations) p ∷ rs) (rw e at h))) (λ e. simp e (rw e at h))
+
+  -- what a standing lock has on its segment is what the compiler made of its text
+  pub lock-products : (segments : List Segment) (numbers : ℕ) (locks : List Lock) (c : AgreeLocks segments numbers locks) (l : Lock) → List·Memᴰ l locks
+      → (i : Issued) × (ps : Sum) × (compile i (l .text) ≡ accepted ps) × (length (keep (isOfLock (l .number)) (productsAt segments (l .segment))) ≡ length ps)
+  lock-products segments numbers locks c l m =
+      let n = l .number in
+      let s = l .segment in
+      let (x, e, i, k) = single n (c .standing) (c .rising) l (rw (c .written) at m) refl in
+      let sound = all-at (Sound (c .home) numbers) (c .standing) (c .sound) x i in
+      let on : isOn s x ≡ true = eq-eqb (x .segment) s (ap (λ (z : Lock). z .segment) e) in
+      let rows : keep (isOfLock n) (productsAt segments s) ≡ rowsOf x ++ [] =
+      ap (keep (isOfLock n)) (c .rows s)
+      ∙ keep-concatMap (isOfLock n) (λ y. eqb (y .number) n) rowsOf (own-rows n) (keep (isOn s) (c .standing))
+      ∙ ap (concatMap rowsOf) (keep-keep (λ y. eqb (y .number) n) (isOn s) (c .standing) ∙ ap (keep (isOn s)) k ∙ one on) in (
+        sound .issue,
+        x .products,
+        ap (λ (z : Lock). compile (sound .issue) (z .text)) (sym e) ∙ sound .made,
+        ap length rows ∙ ap length (append-nil (rowsOf x)) ∙ length-map (x .products) (lockProduct (x .number) (x .operations)),
+      )
+    where
+      one : {x : Standing} → isOn (l .segment) x ≡ true → keep (isOn (l .segment)) (x ∷ []) ≡ x ∷ []
+      one h = simp h
+
   -- ---- L and D
 
   module _ (segments : List Segment) (numbers : ℕ) (locks : List Lock) (c : AgreeLocks segments numbers locks) where
@@ -218,7 +269,7 @@ module _ (holds : Meaning) where
       unfolding home′
       still-sound l k =
           let b = k .below in
-          record { filled = k .filled; opening = k .opening; below = omega arith; homed = simp (ne-eqb (l .number) numbers (λ p. omega arith)) (k .homed) }
+          record { issue = k .issue; made = k .made; filled = k .filled; below = omega arith; homed = simp (ne-eqb (l .number) numbers (λ p. omega arith)) (k .homed) }
 
       new-rows : (t : ℕ) → cond (eqb t s) (productsAt segments s ++ rowsOf new) (productsAt segments t) ≡ concatMap rowsOf (keep (isOn t) (c .standing ++ new ∷ []))
       unfolding new
@@ -228,11 +279,11 @@ module _ (holds : Meaning) where
           (ap (λ (rs : List LockProduct). rs ++ rowsOf new) (ap (productsAt segments) (sym (eqb-true t s e)) ∙ c .rows t)))
           (λ e. simp (e, keep-append, ne-eqb s t (λ p. eqb-false t s e (sym p)), append-nil) (c .rows t))
 
-      pub agree-add : s < length segments → 1 ≤ length ps → ((keys : KeySet) → opensAny keys ps ≡ holds keys text)
+      pub agree-add : s < length segments → 1 ≤ length ps → (i : Issued) → compile i text ≡ accepted ps
           → AgreeLocks (set segments s (addProducts numbers operations ps (getD segments s nowhere))) (suc numbers)
           (locks ++ record { number = numbers; segment = s; operations = operations; text = text } ∷ [])
       unfolding new home′
-      agree-add h some-product law =
+      agree-add h some-product i m =
           record {
             standing = c .standing ++ new ∷ [];
             home = home′;
@@ -241,7 +292,7 @@ module _ (holds : Meaning) where
             sound =
                 All-append (Sound home′ (suc numbers)) (c .standing) (new ∷ [])
                 (All-map still-sound (c .standing) (c .sound))
-                (record { filled = some-product; opening = law; below = omega arith; homed = simp (eqb-self numbers) }, tt);
+                (record { issue = i; made = m; filled = some-product; below = omega arith; homed = simp (eqb-self numbers) }, tt);
             rising = rising-add new (c .standing) (All-map (λ l k. k .below) (c .standing) (c .sound)) (c .rising);
           }
 

@@ -1,14 +1,16 @@
 -- What an accepted call answers, by the agreement of model and history: before it, and for key lists after it. Assumes nothing.
-use mathlib.Core.Path.{_≡_, refl, sym, ap, _∙_}
-use mathlib.Core.Bool.{Bool, true, false, not, false≢true}
-use mathlib.Core.List.{List, [], _∷_, List·Memᴰ}
+use mathlib.Core.Path.{_≡_, refl, sym, ap, ap₂, _∙_}
+use mathlib.Core.Bool.{true, false, false≢true}
+use mathlib.Core.List.{List, _∷_, List·Memᴰ}
 use mathlib.Core.Option.{Option, none, some}
-use Prim.Native.Nat.{ℕ, _+_, _<_}
+use Prim.Native.Nat.{ℕ, _<_}
 use native.Mathlib.Omega.{arith}
 use lib.ListN.{length, getD, set, length-set}
 use lib.Seq.{getD-set-same}
 use borrow.Author.Tests.{ltb-true, not-false}
-use Rattle.formula.specs.Outcome.{outcomeOf}
+use Rattle.product.specs.Sum.{Sum}
+use Rattle.formula.specs.declared.text.Issued.{Issued}
+use Rattle.formula.specs.Outcome.{accepted, outcomeOf}
 use Rattle.formula.specs.Opening.{textHolds}
 use Rattle.formula.specs.Compiler.{Compiler, Meaning, Laws}
 use Rattle.formula.proofs.Opening.{laws}
@@ -25,20 +27,14 @@ use Rattle.model.specs.declared.answer.Answer.{Answer}
 use Rattle.model.specs.declared.answer.Answer.the-variants.{Accepted}
 use Rattle.model.specs.Lists.{keep}
 use Rattle.model.specs.Threads.{Frame, Thread}
-use Rattle.model.specs.Model.{State, emptyState, Segment, nowhere, segmentAt, findThread, threadAt, hasLock, isLock, isOfLock, homeOf, giveKey, takeKey, dropProducts, newest, conditions, update, answer, judged, stepDecoded, step}
+use Rattle.model.specs.Model.{State, emptyState, Segment, nowhere, segmentAt, findThread, threadAt, isLock, isOfLock, homeOf, giveKey, takeKey, newest, conditions, update, answer, judged, stepDecoded, step}
 use Rattle.model.specs.History.{History, Lock, event, advance, history, listOf, acceptedOf}
-use Rattle.model.specs.Replay.{reached, stateAfter, eventsOf}
+use Rattle.model.specs.Replay.{reached, stateAfter, eventsOf, answerTo}
 use Rattle.model.specs.Numbering.{handsOut, Numbers, NumberingByLaws, Numbering}
-use Rattle.model.proofs.Lists.{caseBool, indexOf-lt}
 use Rattle.model.proofs.Places.{look}
-use Rattle.model.proofs.Locks.{found, lock-homed, locks-rise}
+use Rattle.model.proofs.Locks.{found, lock-homed, lock-products, locks-rise}
 use Rattle.model.proofs.Agreement.{Agrees, agree, counted, step-agrees, keys-agree, request-letter}
 use Rattle.model.proofs.Refinement.{refinement-by-laws, follows}
-
--- what stays and what goes are all
-keep-parts : {A : Type 0} (p : A → Bool) (xs : List A) → length xs ≡ length (keep (λ x. not (p x)) xs) + length (keep p xs)
-keep-parts p [] = refl
-keep-parts p (x ∷ xs) = let h = keep-parts p xs in caseBool (p x) (λ e. simp e (omega arith)) (λ e. simp e (omega arith))
 
 -- an accepted call: no condition held, its answer is the model's, and the state is what it changes
 record Taken (compile : Compiler) (d : State) (next : Call) (q : Request) (n : ℕ) : Type 0 where
@@ -63,7 +59,7 @@ taken compile d next q n e a = by (firstRefusal (conditions compile d q (next .t
         let k = sym (ap (λ (o : Option Refusal). judged compile d q (next .text) o .answer) f) ∙ h in
         let z : _≡_ {A = ℕ} 0 1 = cc in absurd (omega arith)
 
-module _ (compile : Compiler) (holds : Meaning) (law : Laws compile holds) (d : State) (h : History) (count : ℕ → ℕ) (c : Agrees holds d h count) (next : Call) where
+module _ (compile : Compiler) (holds : Meaning) (law : Laws compile holds) (d : State) (h : History) (count : ℕ → ℕ) (c : Agrees compile d h count) (next : Call) where
   abbrev r : Answer
   r = step compile d next .answer
 
@@ -123,23 +119,19 @@ module _ (compile : Compiler) (holds : Meaning) (law : Laws compile holds) (d : 
       t .number ∙ ap length (sym (listed-as b (takeKey k) lt (ap (λ (s : State). s .segments) (t .state))))
 
   dropped-as : (a b n : ℕ) → decoded next ≡ WellFormed (DropLock a b) → r ≡ Accepted n → (l : Lock) → List·Memᴰ l (h .locks) → l .number ≡ b
-      → length (segmentAt d (l .segment) .products) ≡ length (segmentAt (step compile d next .state) (l .segment) .products) + n
-  unfolding answer conditions update
+      → (i : Issued) × (ps : Sum) × (compile i (l .text) ≡ accepted ps) × (n ≡ length ps)
+  unfolding answer conditions
   dropped-as a b n e w l m same =
       let t = taken compile d next (DropLock a b) n e w in
       let there : isLock d b ≡ true = not-false _ (all-fail (conditions compile d (DropLock a b) text) (t .free) .1 .0) in
-      let s : ℕ = homeOf d b in
-      let lt = indexOf-lt (hasLock b) (d .segments) there in
-      let home : l .segment ≡ s =
-      sym (lock-homed holds (d .segments) (d .lockNumbers) (h .locks) (c .locks) l m)
-      ∙ ap (c .locks .home) same ∙ found holds (d .segments) (d .lockNumbers) (h .locks) (c .locks) b there in
-      let after : segmentAt (step compile d next .state) s .products ≡ keep (λ x. not (isOfLock b x)) (segmentAt d s .products) =
-      ap (λ (y : State). segmentAt y s .products) (t .state)
-      ∙ ap (λ (g : Segment). g .products) (getD-set-same (d .segments) s (dropProducts b (segmentAt d s)) nowhere lt) in
-      rw (home, after, t .number) (keep-parts (isOfLock b) (segmentAt d s .products))
+      let home : homeOf d b ≡ l .segment =
+      sym (found compile (d .segments) (d .lockNumbers) (h .locks) (c .locks) b there)
+      ∙ ap (c .locks .home) (sym same) ∙ lock-homed compile (d .segments) (d .lockNumbers) (h .locks) (c .locks) l m in
+      let (i, ps, made, count) = lock-products compile (d .segments) (d .lockNumbers) (h .locks) (c .locks) l m in
+      (i, ps, made, t .number ∙ ap₂ (λ (k s : ℕ). length (keep (isOfLock k) (segmentAt d s .products))) (sym same) home ∙ count)
 
 on-model : (compile : Compiler) (holds : Meaning) → Laws compile holds → (xs : List Call) (next : Call)
-    → let d = stateAfter compile emptyState xs in Numbers (eventsOf compile emptyState xs) d next (step compile d next .answer) (step compile d next .state)
+    → Numbers compile (eventsOf compile emptyState xs) next (step compile (stateAfter compile emptyState xs) next .answer)
 on-model compile holds law xs next =
     let d = stateAfter compile emptyState xs in
     let es = eventsOf compile emptyState xs in
@@ -155,14 +147,15 @@ on-model compile holds law xs next =
       keyTaken = taken-as compile holds law d (history es) count c next;
       dropped = dropped-as compile holds law d (history es) count c next;
       left = left-as compile holds law d (history es) count c next;
-      inOrder = locks-rise holds (d .segments) (d .lockNumbers) (history es .locks) (c .locks);
+      inOrder = locks-rise compile (d .segments) (d .lockNumbers) (history es .locks) (c .locks);
     }
 
 pub numbering-by-laws : NumberingByLaws
 numbering-by-laws compile holds law xs next =
     let f = follows compile holds law xs in
     let r = refinement-by-laws compile holds law (reached compile xs) (f .sized) next in
-    rw (f .events, r .answer, r .state, f .state) (on-model compile holds law xs next)
+    let last : answerTo compile xs next ≡ step compile (stateAfter compile emptyState xs) next .answer = r .answer ∙ ap (λ (d : State). step compile d next .answer) (f .state) in
+    rw (f .events, last) (on-model compile holds law xs next)
 
 pub numbering : Numbering
 numbering = numbering-by-laws outcomeOf textHolds laws

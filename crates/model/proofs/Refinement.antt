@@ -53,7 +53,7 @@ state-path u t l m g p = λ i. record { users = u i; threadNumbers = t i; lockNu
 -- ---- sizes
 
 -- k rows of 8 cells
-record Shaped (k : ℕ) (t : Table) : Type 0 where
+pub record Shaped (k : ℕ) (t : Table) : Type 0 where
   pub rows : length t ≡ k
   pub cells : (j : ℕ) → j < k → length (rowAt t j) ≡ 8
 
@@ -111,10 +111,10 @@ module _ (d : Cells) (c : Sized d) where
   abbrev places : List Place
   places = map placeIn (d .threads)
 
-  abbrev count : ℕ
+  abbrev pub count : ℕ
   count = min (cell (d .registry) segmentCount) mostSegments
 
-  abbrev segments : List Segment
+  abbrev pub segments : List Segment
   segments = each (segmentIn d) 0 count
 
   length-places : length places ≡ mostThreads
@@ -155,13 +155,13 @@ module _ (d : Cells) (c : Sized d) where
   length-segments : length segments ≡ count
   length-segments = length-each (segmentIn d) 0 count
 
-  segment-is : (s : ℕ) → s < count → getD segments s nowhere ≡ segmentIn d s
+  pub segment-is : (s : ℕ) → s < count → getD segments s nowhere ≡ segmentIn d s
   segment-is s lt = let e : 0 + s ≡ s = omega arith in getD-each (segmentIn d) 0 count s nowhere lt ∙ ap (segmentIn d) e
 
-  handed : (s : ℕ) → not (ltb s (length segments)) ≡ false → s < count
+  pub handed : (s : ℕ) → not (ltb s (length segments)) ≡ false → s < count
   handed s h = let l = length-segments in let lt = ltb-true s (length segments) (not-false _ h) in omega arith
 
-  segment-shaped : (s : ℕ) → s < count → Shaped 2 (tableAt (d .segments) s)
+  pub segment-shaped : (s : ℕ) → s < count → Shaped 2 (tableAt (d .segments) s)
   segment-shaped s lt = shaped 64 2 (d .segments) (c .segments) s (omega arith)
 
   locks-shaped : (s : ℕ) → s < count → Shaped 8 (tableAt (d .locks) s)

@@ -63,7 +63,7 @@ set-first : (w : Row) (s : ℕ) → length w ≡ 8 → set w 0 s ≡ s ∷ tailO
 set-first [] s e = absurd (omega arith)
 set-first (x ∷ w) s e = refl
 
-kept-list : (s : ℕ) (g : Table) → s < mostSegments → length (rowAt g 1) ≡ 8 → keep hasKey (listRow s g) ≡ s ∷ keep hasKey (tailOf (rowAt g 1))
+pub kept-list : (s : ℕ) (g : Table) → s < mostSegments → length (rowAt g 1) ≡ 8 → keep hasKey (listRow s g) ≡ s ∷ keep hasKey (tailOf (rowAt g 1))
 kept-list s g low eight = ap (keep hasKey) (set-first (rowAt g 1) s eight) ∙ simp (hasKey-below s (omega arith))
 
 -- a key list that begins with s and is stored closed up is read back

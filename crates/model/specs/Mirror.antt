@@ -1,39 +1,63 @@
 -- The state is what the history says: after any list of calls from the empty state, whatever the table of refusals asks of users, threads,
--- segments, key lists, defined keys and locks, the history of calls and answers tells. (It does not tell a defined key's maker, nor how many
--- products a lock has.) Proved in `proofs/Mirror.antt`. Assumes nothing.
+-- segments, key lists, defined keys and locks, the list of calls and answers tells. And the text of each standing lock spells a formula, which is
+-- what the text holds for. Proved in `proofs/Mirror.antt`. Assumes nothing.
 use mathlib.Core.Path.{_≡_}
-use mathlib.Core.List.{List, List·Memᴰ}
+use mathlib.Core.Bool.{Bool, cond}
+use mathlib.Core.List.{List, [], _∷_, List·Memᴰ}
 use mathlib.Core.Option.{some}
 use Prim.Native.Nat.{ℕ}
-use lib.Dec.{eqb, ltb}
+use lib.Dec.{eqb}
+use Rattle.product.specs.declared.literal.Key.{Key}
+use Rattle.product.specs.declared.literal.Key.the-variants.{Segment as SegmentKey}
+use Rattle.product.specs.Atom.{Atom}
+use Rattle.formula.specs.declared.text.Issued.{Issued}
+use Rattle.formula.specs.Tree.{ors, Tree, holds}
+use Rattle.formula.specs.Text.{Text}
 use Rattle.formula.specs.Outcome.{outcomeOf}
+use Rattle.formula.specs.Opening.{textHolds}
 use Rattle.formula.specs.Compiler.{Compiler, Meaning, Laws}
 use Rattle.call.specs.Calls.{Call}
 use Rattle.model.specs.Lists.{any, isSome}
 use Rattle.model.specs.Threads.{Thread}
-use Rattle.model.specs.Model.{State, isUser, isLive, threadAt, isSegment, segmentAt, isKey, isLock, homeOf}
+use Rattle.model.specs.Model.{State, issued, isLive, threadAt, isSegment, segmentAt, isLock, homeOf}
 use Rattle.model.specs.Cells.{stateOf}
-use Rattle.model.specs.History.{Event, Entry, Lock, history, acceptedOf}
-use Rattle.model.specs.Replay.{reached, events}
+use Rattle.model.specs.History.{Event, Entry, Lock, history, counts, acceptedOf}
+use Rattle.model.specs.Replay.{reached, events, historyOf}
+
+-- field a of each accepted K, in order
+abbrev pub makersOf : List Event → List ℕ
+makersOf [] = []
+makersOf (e ∷ es) = let rest = makersOf es in cond (counts 75 e) (e .call .a ∷ rest) rest
 
 pub record Mirrors (es : List Event) (d : State) : Type 0 where
-  -- handed out are the numbers below the count of accepted U, and K
-  pub user : (u : ℕ) → isUser d u ≡ ltb u (acceptedOf 85 es)
-  pub key : (k : ℕ) → isKey d k ≡ ltb k (acceptedOf 75 es)
+  -- handed out are as many users, thread numbers, segments, defined keys and lock numbers as U, S, N, K and L were accepted
+  pub handedOut : issued d ≡ record { users = acceptedOf 85 es; threads = acceptedOf 83 es; segments = acceptedOf 78 es; defined = acceptedOf 75 es }
+  pub lockNumbers : d .lockNumbers ≡ acceptedOf 76 es
+  -- each defined key's maker
+  pub makers : d .makers ≡ makersOf es
   -- live threads, with their user and frames
   pub live : (n : ℕ) → isLive d n ≡ isSome (history es .threads n)
   pub thread : (n : ℕ) (t : Thread) → history es .threads n ≡ some t → threadAt d n ≡ t
-  -- segments, with their owner, kind and key list
+  -- segments, with their owner, kind and key list, which starts with its own S key
   pub segment : (s : ℕ) → isSegment d s ≡ isSome (history es .segments s)
   pub owner : (s : ℕ) (e : Entry) → history es .segments s ≡ some e → segmentAt d s .owner ≡ e .owner
   pub kind : (s : ℕ) (e : Entry) → history es .segments s ≡ some e → segmentAt d s .kind ≡ e .kind
   pub keys : (s : ℕ) (e : Entry) → history es .segments s ≡ some e → segmentAt d s .keys ≡ e .keys
+  pub own : (s : ℕ) (e : Entry) → history es .segments s ≡ some e → (rest : List Key) × (e .keys ≡ SegmentKey s ∷ rest)
   -- standing locks, with their segment
   pub lock : (n : ℕ) → isLock d n ≡ any (λ l. eqb (l .number) n) (history es .locks)
   pub home : (l : Lock) → List·Memᴰ l (history es .locks) → homeOf d (l .number) ≡ l .segment
 
 abbrev pub MirrorByLaws : Type 0
-MirrorByLaws = (compile : Compiler) (holds : Meaning) → Laws compile holds → (xs : List Call) → Mirrors (events compile xs) (stateOf (reached compile xs))
+MirrorByLaws = (compile : Compiler) (meaning : Meaning) → Laws compile meaning → (xs : List Call) → Mirrors (events compile xs) (stateOf (reached compile xs))
 
-abbrev pub Mirror : Type 0
-Mirror = (xs : List Call) → Mirrors (events outcomeOf xs) (stateOf (reached outcomeOf xs))
+-- a text of the grammar, under the keys that were handed out when it was compiled, and the formula that it spells
+pub record Spelt (s : List ℕ) : Type 0 where
+  pub issue : Issued
+  pub tree : Tree ors
+  pub text : Text issue s tree
+  pub meaning : (ρ : Atom → Bool) → textHolds ρ s ≡ holds ρ tree
+
+pub record Mirror : Type 0 where
+  pub state : (xs : List Call) → Mirrors (events outcomeOf xs) (stateOf (reached outcomeOf xs))
+  pub formula : (xs : List Call) (l : Lock) → List·Memᴰ l (historyOf outcomeOf xs .locks) → Spelt (l .text)

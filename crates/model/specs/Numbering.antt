@@ -1,13 +1,14 @@
 -- Document 01, 'The history': 'The number that an accepted U, S, N, K or L answers is the count of that letter's accepted calls earlier in the
--- list.' And what E, G, T and R answer, from the history; of D, the products that are gone. What C and A answer is in `Granting`. Proved in
--- `proofs/Numbering.antt`. Assumes nothing.
+-- list.' And what E, G, T, D and R answer. What C and A answer is in `Granting`. Proved in `proofs/Numbering.antt`. Assumes nothing.
 use mathlib.Core.Path.{_≡_}
 use mathlib.Core.Bool.{Bool, true, false}
 use mathlib.Core.List.{List, _∷_, map, List·Memᴰ}
 use mathlib.Core.Option.{some}
-use Prim.Native.Nat.{ℕ, _+_}
+use Prim.Native.Nat.{ℕ}
 use lib.ListN.{length}
-use Rattle.formula.specs.Outcome.{outcomeOf}
+use Rattle.product.specs.Sum.{Sum}
+use Rattle.formula.specs.declared.text.Issued.{Issued}
+use Rattle.formula.specs.Outcome.{accepted, outcomeOf}
 use Rattle.formula.specs.Compiler.{Compiler, Meaning, Laws}
 use Rattle.call.specs.declared.request.Request.{Request}
 use Rattle.call.specs.declared.request.Request.the-variants.{NewUser, StartThread, EndThread, NewSegment, NewKey, GiveKey, TakeKey, AddLock, DropLock, CallSegment, ReturnCall, Access}
@@ -17,10 +18,8 @@ use Rattle.model.specs.declared.answer.Answer.{Answer}
 use Rattle.model.specs.declared.answer.Answer.the-variants.{Accepted}
 use Rattle.model.specs.Lists.{rising}
 use Rattle.model.specs.Threads.{Frame, Thread}
-use Rattle.model.specs.Model.{State, segmentAt}
-use Rattle.model.specs.Cells.{stateOf, stepCells}
 use Rattle.model.specs.History.{Event, Lock, event, advance, history, listOf, acceptedOf}
-use Rattle.model.specs.Replay.{reached, events}
+use Rattle.model.specs.Replay.{events, answerTo}
 
 -- a letter that hands out numbers: U, S, N, K, L
 abbrev pub handsOut : Request → Bool
@@ -37,8 +36,9 @@ handsOut (CallSegment a b) = false
 handsOut (ReturnCall a) = false
 handsOut (Access a b c) = false
 
--- what the events before the next call say of its answer r; d and d′ are the states before and after it
-pub record Numbers (es : List Event) (d : State) (next : Call) (r : Answer) (d′ : State) : Type 0 where
+-- What the events before the next call say of its answer r. Where it is accepted, the history has the thread, frame or lock that it names: that is
+-- `Mirror` with `Refusing`.
+pub record Numbers (compile : Compiler) (es : List Event) (next : Call) (r : Answer) : Type 0 where
   pub handedOut : (q : Request) (n : ℕ) → decoded next ≡ WellFormed q → r ≡ Accepted n → handsOut q ≡ true → n ≡ acceptedOf (next .letter) es
   -- E: open calls closed
   pub ended : (a n : ℕ) → decoded next ≡ WellFormed (EndThread a) → r ≡ Accepted n
@@ -46,9 +46,9 @@ pub record Numbers (es : List Event) (d : State) (next : Call) (r : Answer) (d�
   -- G and T: keys now in the list
   pub keyGiven : (a b c n : ℕ) → decoded next ≡ WellFormed (GiveKey a b c) → r ≡ Accepted n → n ≡ length (listOf (advance (history es) (event next r)) b)
   pub keyTaken : (a b c n : ℕ) → decoded next ≡ WellFormed (TakeKey a b c) → r ≡ Accepted n → n ≡ length (listOf (advance (history es) (event next r)) b)
-  -- D: products removed, from the segment of the lock
+  -- D: products removed, those that the compiler made of the lock's text
   pub dropped : (a b n : ℕ) → decoded next ≡ WellFormed (DropLock a b) → r ≡ Accepted n → (l : Lock) → List·Memᴰ l (history es .locks) → l .number ≡ b
-      → length (segmentAt d (l .segment) .products) ≡ length (segmentAt d′ (l .segment) .products) + n
+      → (i : Issued) × (ps : Sum) × (compile i (l .text) ≡ accepted ps) × (n ≡ length ps)
   -- R: the segment left
   pub left : (a n : ℕ) → decoded next ≡ WellFormed (ReturnCall a) → r ≡ Accepted n → (t : Thread) → history es .threads a ≡ some t
       → (f : Frame) (fs : List Frame) → t .frames ≡ f ∷ fs → n ≡ f .segment
@@ -58,9 +58,7 @@ pub record Numbers (es : List Event) (d : State) (next : Call) (r : Answer) (d�
 abbrev pub NumberingByLaws : Type 0
 NumberingByLaws =
     (compile : Compiler) (holds : Meaning) → Laws compile holds → (xs : List Call) (next : Call)
-    → let d = reached compile xs in let x = stepCells compile d next in Numbers (events compile xs) (stateOf d) next (x .answer) (stateOf (x .cells))
+    → Numbers compile (events compile xs) next (answerTo compile xs next)
 
 abbrev pub Numbering : Type 0
-Numbering =
-    (xs : List Call) (next : Call)
-    → let d = reached outcomeOf xs in let x = stepCells outcomeOf d next in Numbers (events outcomeOf xs) (stateOf d) next (x .answer) (stateOf (x .cells))
+Numbering = (xs : List Call) (next : Call) → Numbers outcomeOf (events outcomeOf xs) next (answerTo outcomeOf xs next)

@@ -7,7 +7,7 @@ use Rattle.formula.specs.Outcome.{outcomeOf}
 use Rattle.formula.specs.Compiler.{Compiler, Meaning, Laws}
 use Rattle.call.specs.Calls.{Call}
 use Rattle.model.specs.declared.answer.Answer.the-variants.{Accepted}
-use Rattle.model.specs.Cells.{Row, Cells, Sized, cell, rowAt, tableAt, stepCells}
+use Rattle.model.specs.Cells.{Cells, Sized, cell, rowAt, tableAt, stepCells}
 
 abbrev pub word : ℕ
 word = 65536
