@@ -4,9 +4,9 @@ use mathlib.Core.Path.{_≡_, refl, _∙_}
 use mathlib.Core.Bool.{false, not}
 use mathlib.Core.List.{List, [], _∷_, _++_, map}
 use mathlib.Core.Option.{Option, none, some}
-use Prim.Native.Nat.{ℕ, zero, suc, _+_, _≤_, zero-le, suc-le-suc}
+use Prim.Native.Nat.{ℕ, suc, _+_, _≤_, zero-le, suc-le-suc}
 use native.Mathlib.Omega.{arith}
-use lib.ListN.{length, getD, set, replicate, length-append, length-set, length-map, length-replicate}
+use lib.ListN.{length, getD, set, length-append, length-set, length-map, length-replicate}
 use borrow.Author.Tests.{ltb-false}
 use Rattle.product.specs.declared.literal.Key.{Key}
 use Rattle.product.specs.declared.literal.Key.the-variants.{Defined}
@@ -30,7 +30,7 @@ use Rattle.model.specs.Threads.{Thread, sameKey}
 use Rattle.model.specs.Model.{State, emptyState, Segment, nowhere, segmentAt, Place, free, taken, isFree, liveIn, threadIn, nobody, placeFor, placeOf, threadAt, isOfLock, homeOf, issued, conditions, withPlaces, withSegments, onSegment, onThread, atPlace, pushFrame, popFrame, giveKey, takeKey, lockProduct, addProducts, dropProducts, update, judged, stepDecoded, step}
 use Rattle.model.specs.Replay.{stateAfter}
 use Rattle.model.specs.Bounds.{Within, BoundsAlways, Bounds}
-use Rattle.model.proofs.Lists.{length-keep, length-append-one}
+use Rattle.model.proofs.Lists.{length-keep, length-append-one, Everywhere, everywhere-set, everywhere-append-one, everywhere-replicate}
 use Rattle.model.proofs.Refinement.{follows}
 
 -- ---- laws of lists
@@ -39,28 +39,6 @@ module _ {A : Type 0} where
   length-tailOf : (xs : List A) → length (tailOf xs) ≤ length xs
   length-tailOf [] = zero-le
   length-tailOf (x ∷ xs) = omega arith
-
-  -- what holds wherever a list is read, beyond its end as well
-  abbrev Everywhere : (A → Type 0) → A → List A → Type 0
-  Everywhere P d xs = (i : ℕ) → P (getD xs i d)
-
-  everywhere-set : (P : A → Type 0) (d : A) (xs : List A) → Everywhere P d xs → (i : ℕ) (x : A) → P x → Everywhere P d (set xs i x)
-  everywhere-set P d [] h i x p j = h j
-  everywhere-set P d (y ∷ ys) h zero x p zero = p
-  everywhere-set P d (y ∷ ys) h zero x p (suc j) = h (suc j)
-  everywhere-set P d (y ∷ ys) h (suc i) x p zero = h zero
-  everywhere-set P d (y ∷ ys) h (suc i) x p (suc j) = everywhere-set P d ys (λ k. h (suc k)) i x p j
-
-  everywhere-append-one : (P : A → Type 0) (d : A) (xs : List A) → Everywhere P d xs → (x : A) → P x → Everywhere P d (xs ++ x ∷ [])
-  everywhere-append-one P d [] h x p zero = p
-  everywhere-append-one P d [] h x p (suc j) = h j
-  everywhere-append-one P d (y ∷ ys) h x p zero = h zero
-  everywhere-append-one P d (y ∷ ys) h x p (suc j) = everywhere-append-one P d ys (λ k. h (suc k)) x p j
-
-  everywhere-replicate : (P : A → Type 0) (d : A) → P d → (n : ℕ) → Everywhere P d (replicate n d)
-  everywhere-replicate P d p zero i = p
-  everywhere-replicate P d p (suc n) zero = p
-  everywhere-replicate P d p (suc n) (suc i) = everywhere-replicate P d p n i
 
 -- ---- the invariant
 

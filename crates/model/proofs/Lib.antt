@@ -9,6 +9,7 @@ pub mod ProductRows
 pub mod ThreadTables
 pub mod SegmentTables
 pub mod Refinement
+pub mod Widths
 pub mod Granting
 pub mod Numbering
 pub mod Mirror

@@ -8,8 +8,8 @@ use Prim.Native.Nat.{ℕ, zero, suc, _+_, _≤_, _<_, zero-le, suc-le-suc}
 use native.Mathlib.Omega.{arith}
 use native.Mathlib.Nat.{add-zero, add-suc, suc-add, le-of-suc-le-suc, not-suc-le-zero}
 use lib.Dec.{eqb, eqb·suc-suc, eqb·suc-zero, eqb·zero-suc}
-use lib.ListN.{length, getD, set, getElem?, length-set}
-use lib.Seq.{getD-set-same, getD-set-other, ext-getD}
+use lib.ListN.{length, getD, set, replicate, getElem?, length-set}
+use lib.Seq.{sets, getD-set-same, getD-set-other, ext-getD}
 use borrow.Author.Tests.{eqb-true, eqb-false, eq-eqb}
 use Rattle.model.specs.Lists.{any, keep, first, isSome, indexOf, each, mapOption, put, adjust}
 
@@ -219,6 +219,42 @@ module _ {A : Type 0} where
   at-some-lt [] i x e = let z : _≡_ {A = ℕ} 0 1 = cc in absurd (omega arith)
   at-some-lt (y ∷ ys) zero x e = suc-le-suc zero-le
   at-some-lt (y ∷ ys) (suc i) x e = suc-le-suc (at-some-lt ys i x e)
+
+module _ {A : Type 0} where
+  -- what holds wherever a list is read, beyond its end as well
+  abbrev pub Everywhere : (A → Type 0) → A → List A → Type 0
+  Everywhere P d xs = (i : ℕ) → P (getD xs i d)
+
+  pub everywhere-set : (P : A → Type 0) (d : A) (xs : List A) → Everywhere P d xs → (i : ℕ) (x : A) → P x → Everywhere P d (set xs i x)
+  everywhere-set P d [] h i x p j = h j
+  everywhere-set P d (y ∷ ys) h zero x p zero = p
+  everywhere-set P d (y ∷ ys) h zero x p (suc j) = h (suc j)
+  everywhere-set P d (y ∷ ys) h (suc i) x p zero = h zero
+  everywhere-set P d (y ∷ ys) h (suc i) x p (suc j) = everywhere-set P d ys (λ k. h (suc k)) i x p j
+
+  pub everywhere-append-one : (P : A → Type 0) (d : A) (xs : List A) → Everywhere P d xs → (x : A) → P x → Everywhere P d (xs ++ x ∷ [])
+  everywhere-append-one P d [] h x p zero = p
+  everywhere-append-one P d [] h x p (suc j) = h j
+  everywhere-append-one P d (y ∷ ys) h x p zero = h zero
+  everywhere-append-one P d (y ∷ ys) h x p (suc j) = everywhere-append-one P d ys (λ k. h (suc k)) x p j
+
+  pub everywhere-replicate : (P : A → Type 0) (d : A) → P d → (n : ℕ) → Everywhere P d (replicate n d)
+  everywhere-replicate P d p zero i = p
+  everywhere-replicate P d p (suc n) zero = p
+  everywhere-replicate P d p (suc n) (suc i) = everywhere-replicate P d p n i
+
+  pub everywhere-sets : (P : A → Type 0) (d : A) (xs : List A) → Everywhere P d xs → (i : ℕ) (ys : List A) → All P ys → Everywhere P d (sets xs i ys)
+  everywhere-sets P d xs h i [] a = h
+  everywhere-sets P d xs h i (y ∷ ys) a = everywhere-sets P d (set xs i y) (everywhere-set P d xs h i y (a .0)) (suc i) ys (a .1)
+
+  pub everywhere-all : (P : A → Type 0) (d : A) → P d → (xs : List A) → All P xs → Everywhere P d xs
+  everywhere-all P d p [] h i = p
+  everywhere-all P d p (x ∷ xs) h zero = h .0
+  everywhere-all P d p (x ∷ xs) h (suc i) = everywhere-all P d p xs (h .1) i
+
+  pub all-everywhere : (P : A → Type 0) (d : A) (xs : List A) → Everywhere P d xs → All P xs
+  all-everywhere P d [] h = tt
+  all-everywhere P d (x ∷ xs) h = (h zero, all-everywhere P d xs (λ i. h (suc i)))
 
 -- optional values
 

@@ -34,7 +34,7 @@ all-used : (t : Table) → All Used (usedRows t)
 all-used [] = tt
 all-used (w ∷ t) = caseBool (isUsed w) (λ e. simp e (refl, all-used t)) (λ e. simp e tt)
 
-length-used : (t : Table) → length (usedRows t) ≤ length t
+pub length-used : (t : Table) → length (usedRows t) ≤ length t
 length-used [] = zero-le
 length-used (w ∷ t) = caseBool (isUsed w) (λ e. simp e (suc-le-suc (length-used t))) (λ e. simp e zero-le)
 

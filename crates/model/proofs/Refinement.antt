@@ -42,7 +42,7 @@ use Rattle.model.proofs.ThreadTables.{length-frames, live-place, start-
 use Rattle.model.proofs.SegmentTables.{new-table, give-table, take-table, add-table, drop-table, give-sizes, take-sizes, add-sizes, drop-sizes, length-addRows, length-dropRows}
 
 -- a limit's test that failed to refuse
-within : (most n : ℕ) → passes most n ≡ false → n ≤ most
+pub within : (most n : ℕ) → passes most n ≡ false → n ≤ most
 within most n h = ltb-false most n h
 
 state-path : {u u′ t t′ l l′ : ℕ} {m m′ : List ℕ} {g g′ : List Segment} {p p′ : List Place} → u ≡ u′ → t ≡ t′ → l ≡ l′ → m ≡ m′ → g ≡ g′ → p ≡ p′
@@ -152,7 +152,7 @@ module _ (d : Cells) (c : Sized d) where
         framesIn (taken k t) = length (t .frames)
 
   -- a segment handed out
-  length-segments : length segments ≡ count
+  pub length-segments : length segments ≡ count
   length-segments = length-each (segmentIn d) 0 count
 
   pub segment-is : (s : ℕ) → s < count → getD segments s nowhere ≡ segmentIn d s
