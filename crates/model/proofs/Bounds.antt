@@ -1,13 +1,12 @@
 -- The limits, by an invariant that every accepted call keeps: a call that adds something was not refused by 10, which is its limit, and the
 -- others add nothing. There are always 64 places, so no more threads live; and the frames are bounded place by place. Assumes nothing.
 use mathlib.Core.Path.{_≡_, refl, _∙_}
-use mathlib.Core.Bool.{false, not}
+use mathlib.Core.Bool.{not}
 use mathlib.Core.List.{List, [], _∷_, _++_, map}
 use mathlib.Core.Option.{Option, none, some}
 use Prim.Native.Nat.{ℕ, suc, _+_, _≤_, zero-le, suc-le-suc}
 use native.Mathlib.Omega.{arith}
 use lib.ListN.{length, getD, set, length-append, length-set, length-map, length-replicate}
-use borrow.Author.Tests.{ltb-false}
 use Rattle.product.specs.declared.literal.Key.{Key}
 use Rattle.product.specs.declared.literal.Key.the-variants.{Defined}
 use Rattle.product.specs.Sum.{Sum}
@@ -31,7 +30,7 @@ use Rattle.model.specs.Model.{State, emptyState, Segment, nowhere, segme
 use Rattle.model.specs.Replay.{stateAfter}
 use Rattle.model.specs.Bounds.{Within, BoundsAlways, Bounds}
 use Rattle.model.proofs.Lists.{length-keep, length-append-one, Everywhere, everywhere-set, everywhere-append-one, everywhere-replicate}
-use Rattle.model.proofs.Refinement.{follows}
+use Rattle.model.proofs.Refinement.{within, follows}
 
 -- ---- laws of lists
 
@@ -148,10 +147,6 @@ drop-kept n g h =
 
 -- ---- each request
 
--- 'accepting would pass a limit' is false
-not-passed : (most n : ℕ) → passes most n ≡ false → n ≤ most
-not-passed most n h = ltb-false most n h
-
 module _ (compile : Compiler) (d : State) (k : Kept d) (text : List ℕ) where
   -- an accepted q keeps the invariant
   abbrev Keeps : Request → Type 0
@@ -175,7 +170,7 @@ module _ (compile : Compiler) (d : State) (k : Kept d) (text : List ℕ) where
   unfolding conditions update
   keep-user e =
       record {
-        users = not-passed mostUsers (suc (d .users)) (all-fail (conditions compile d NewUser text) e .0);
+        users = within mostUsers (suc (d .users)) (all-fail (conditions compile d NewUser text) e .0);
         threadNumbers = k .threadNumbers;
         lockNumbers = k .lockNumbers;
         defined = k .defined;
@@ -190,7 +185,7 @@ module _ (compile : Compiler) (d : State) (k : Kept d) (text : List ℕ) where
       let numbers = neither (passes mostThreads (suc (liveIn (d .places)))) (passes mostNumbers (suc (d .threadNumbers))) full .1 in
       record {
         users = k .users;
-        threadNumbers = not-passed mostNumbers (suc (d .threadNumbers)) numbers;
+        threadNumbers = within mostNumbers (suc (d .threadNumbers)) numbers;
         lockNumbers = k .lockNumbers;
         defined = k .defined;
         segments = k .segments;
@@ -205,7 +200,7 @@ module _ (compile : Compiler) (d : State) (k : Kept d) (text : List ℕ) where
   unfolding conditions update
   keep-segment a b e =
       let full = all-fail (conditions compile d (NewSegment a b) text) e .1 .1 .0 in
-      let room = not-passed mostSegments (suc (length (d .segments))) full in
+      let room = within mostSegments (suc (length (d .segments))) full in
       with-segments _ (segments-add (d .segments) (k .segments) _ (record { listed = suc-le-suc zero-le; products = zero-le }) room)
 
   keep-key : (a : ℕ) → Keeps (NewKey a)
@@ -213,7 +208,7 @@ module _ (compile : Compiler) (d : State) (k : Kept d) (text : List ℕ) where
   keep-key a e =
       let more : length (d .makers ++ a ∷ []) ≡ suc (length (d .makers)) = length-append-one (d .makers) a in
       let full = all-fail (conditions compile d (NewKey a) text) e .1 .0 in
-      let room : suc (length (d .makers)) ≤ mostDefined = not-passed mostDefined (suc (length (d .makers))) full in
+      let room : suc (length (d .makers)) ≤ mostDefined = within mostDefined (suc (length (d .makers))) full in
       record {
         users = k .users;
         threadNumbers = k .threadNumbers;
@@ -227,7 +222,7 @@ module _ (compile : Compiler) (d : State) (k : Kept d) (text : List ℕ) where
   unfolding conditions update
   keep-give a b c e =
       let full = all-fail (conditions compile d (GiveKey a b c) text) e .1 .1 .1 .1 .1 .0 in
-      let room = not-passed mostListed (suc (length (segmentAt d b .keys))) full in
+      let room = within mostListed (suc (length (segmentAt d b .keys))) full in
       on-segment b (giveKey c) (give-kept c (segmentAt d b) (k .segments .each b) room)
 
   keep-take : (a b c : ℕ) → Keeps (TakeKey a b c)
@@ -241,11 +236,11 @@ module _ (compile : Compiler) (d : State) (k : Kept d) (text : List ℕ) where
       let n = length (segmentAt d b .products) + length ps in
       let full = all-fail (conditions compile d (AddLock a b c) text) e .1 .1 .1 .1 .1 .1 .1 .0 in
       let (products, numbers) = neither (passes mostStanding n) (passes mostNumbers (suc (d .lockNumbers))) full in
-      let more = add-kept (d .lockNumbers) c ps (segmentAt d b) (k .segments .each b) (not-passed mostStanding n products) in
+      let more = add-kept (d .lockNumbers) c ps (segmentAt d b) (k .segments .each b) (within mostStanding n products) in
       record {
         users = k .users;
         threadNumbers = k .threadNumbers;
-        lockNumbers = not-passed mostNumbers (suc (d .lockNumbers)) numbers;
+        lockNumbers = within mostNumbers (suc (d .lockNumbers)) numbers;
         defined = k .defined;
         segments = segments-set (d .segments) (k .segments) b _ more;
         places = k .places;
@@ -259,7 +254,7 @@ module _ (compile : Compiler) (d : State) (k : Kept d) (text : List ℕ) where
   unfolding conditions update
   keep-call a b e =
       let full = all-fail (conditions compile d (CallSegment a b) text) e .1 .1 .1 .1 .1 .0 in
-      let room = not-passed mostFrames (suc (length (threadAt d a .frames))) full in
+      let room = within mostFrames (suc (length (threadAt d a .frames))) full in
       let keys = segmentAt d b .keys in
       at-place a (onThread (pushFrame b keys)) (shallow-push b keys (getD (d .places) (placeOf a (d .places)) free) room)
 
