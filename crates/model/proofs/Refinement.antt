@@ -27,10 +27,11 @@ use Rattle.call.proofs.Conditions.{all-fail}
 use Rattle.call.proofs.Truth.{and-left, and-right, neither}
 use Rattle.model.specs.declared.answer.Refusal.{Refusal}
 use Rattle.model.specs.declared.answer.Answer.{Answer}
-use Rattle.model.specs.Lists.{keep, each, isSome, indexOf}
+use Rattle.model.specs.Lists.{keep, each, isSome, indexOf, orDefault}
 use Rattle.model.specs.Limits.{mostThreads, mostSegments, mostStanding, mostFrames, passes}
 use Rattle.model.specs.Operations.{execute, read, write, includes}
-use Rattle.model.specs.Model.{State, emptyState, Segment, nowhere, Place, free, taken, isFree, liveIn, findThread, threadAt, placeFor, placeOf, hasLock, isLock, issued, conditions, withPlaces, withSegments, onSegment, onThread, atPlace, pushFrame, popFrame, giveKey, takeKey, addProducts, dropProducts, update, answer, judged, stepDecoded, step}
+use Rattle.model.specs.Threads.{Thread}
+use Rattle.model.specs.Model.{State, emptyState, Segment, nowhere, Place, free, taken, isFree, liveIn, findThread, nobody, threadAt, placeFor, placeOf, hasLock, isLock, issued, conditions, withPlaces, withSegments, onSegment, onThread, atPlace, pushFrame, popFrame, giveKey, takeKey, addProducts, dropProducts, update, answer, judged, stepDecoded, step}
 use Rattle.model.specs.Cells.{Row, Table, Cells, Tables, Sized, cell, rowAt, tableAt, segmentCount, definedCell, keyIn, hasKey, keysIn, usedRows, productIn, placeIn, depthOf, framesOf, listRow, segmentOf, segmentIn, stateOf, setCell, onTable, countUp, withSegmentTables, startThread, endThread, newSegment, giveCode, takeCode, endRows, addRows, dropRows, pushRow, popRow, atThread, store, judgedCells, stepCellsDecoded, stepCells, zeros, emptyCells}
 use Rattle.model.specs.History.{Event, event}
 use Rattle.model.specs.Replay.{cellsAfter, eventsIn, stateAfter, eventsOf}
@@ -309,7 +310,7 @@ module _ (d : Cells) (c : Sized d) where
         let g = tableAt (d .segments) b in
         let w = listRow b g in
         let full : ℕ = length (threadAt (stateOf d) a .frames) in
-        let thread : full ≡ length (p .thread .frames) = simp (p .is-found) in
+        let thread : full ≡ length (p .thread .frames) = ap (λ (o : Option Thread). length (orDefault nobody (λ t. t) o .frames)) (p .is-found) in
         let room : suc full ≤ 16 = within 16 (suc full) (f .1 .1 .1 .1 .1 .0) in
         let deep : depthOf (mine a p) < 16 = let q = mine-depth a p in omega arith in
         let own : cell w 0 ≡ b = getD-set-same (rowAt g 1) 0 b 0 (let q = segment-shaped b lt .cells 1 (omega arith) in omega arith) in

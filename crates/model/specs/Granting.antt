@@ -23,7 +23,6 @@ use Rattle.model.specs.declared.answer.Answer.{Answer}
 use Rattle.model.specs.declared.answer.Answer.the-variants.{Accepted, Refused}
 use Rattle.model.specs.Answers.{isAccepted}
 use Rattle.model.specs.Lists.{any, first}
-use Rattle.model.specs.Limits.{mostFrames}
 use Rattle.model.specs.Operations.{execute, denies, grants, takes, isAccess}
 use Rattle.model.specs.Threads.{Thread, keySet}
 use Rattle.model.specs.History.{History, Entry, Lock}
@@ -65,7 +64,7 @@ pub record Fits (h : History) (next : Call) (o : Operation) : Type 0 where
 
 -- 'for a C, fewer than sixteen of the run's calls are open'
 abbrev pub hasRoom : Operation → Thread → Bool
-hasRoom (calls a b) t = ltb (length (t .frames)) mostFrames
+hasRoom (calls a b) t = ltb (length (t .frames)) 16
 hasRoom (accesses a b c) t = true
 
 module _ (holds : Meaning) where

@@ -28,13 +28,13 @@ pub record Fields (x : Call) : Type 0 where
   pub b : x .b < word
   pub c : x .c < word
 
-pub record Fits (compile : Compiler) (d : Cells) (x : Call) : Type 0 where
+pub record Contained (compile : Compiler) (d : Cells) (x : Call) : Type 0 where
   pub stored : Fitting (stepCells compile d x .cells)
   pub answered : (n : ℕ) → stepCells compile d x .answer ≡ Accepted n → n < word
 
 abbrev pub WidthsByLaws : Type 0
 WidthsByLaws =
-    (compile : Compiler) (holds : Meaning) → Laws compile holds → (d : Cells) → Sized d → Fitting d → (x : Call) → Fields x → Fits compile d x
+    (compile : Compiler) (holds : Meaning) → Laws compile holds → (d : Cells) → Sized d → Fitting d → (x : Call) → Fields x → Contained compile d x
 
 abbrev pub Widths : Type 0
-Widths = (d : Cells) → Sized d → Fitting d → (x : Call) → Fields x → Fits outcomeOf d x
+Widths = (d : Cells) → Sized d → Fitting d → (x : Call) → Fields x → Contained outcomeOf d x
