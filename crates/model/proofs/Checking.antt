@@ -1,7 +1,7 @@
--- What the model answers to a fitting C or A of a live thread, read from a history that agrees with it. Its conditions before the check fail,
--- and the check's two locks are the history's. Assumes nothing.
+-- What the model answers, read from a history that agrees with it. Of a fitting C or A of a live thread the conditions before the check fail, and the
+-- check's two locks are the history's; the numbers handed out are the counts. Assumes nothing.
 use mathlib.Core.Path.{_≡_, refl, sym, ap, _∙_}
-use mathlib.Core.Bool.{Bool, true, false, not, cond}
+use mathlib.Core.Bool.{Bool, true, false, not, cond, false≢true}
 use mathlib.Core.List.{List}
 use mathlib.Core.Option.{Option, none, some}
 use Prim.Native.Nat.{ℕ, suc}
@@ -11,7 +11,11 @@ use lib.ListN.{length}
 use borrow.Author.Tests.{lt-ltb, ltb-true, ltb-false, le-ltb}
 use Rattle.formula.specs.Compiler.{Compiler, Meaning, Laws}
 use Rattle.call.specs.declared.request.Request.{Request}
-use Rattle.call.specs.declared.request.Request.the-variants.{CallSegment, Access}
+use Rattle.call.specs.declared.request.Request.the-variants.{NewUser, StartThread, EndThread, NewSegment, NewKey, GiveKey, TakeKey, AddLock, DropLock, CallSegment, ReturnCall, Access}
+use Rattle.call.specs.declared.request.Decoded.{Decoded}
+use Rattle.call.specs.declared.request.Decoded.the-variants.{WellFormed}
+use Rattle.call.specs.Calls.{Call, decoded}
+use Rattle.call.specs.Requests.{callOf}
 use Rattle.call.specs.Conditions.{firstRefusal}
 use Rattle.model.specs.declared.answer.Refusal.{Refusal}
 use Rattle.model.specs.declared.answer.Refusal.the-variants.{Full, Denied, NotGranted}
@@ -21,14 +25,37 @@ use Rattle.model.specs.Lists.{first, isSome, mapOption}
 use Rattle.model.specs.Limits.{mostFrames, passes}
 use Rattle.model.specs.Operations.{denies, grants, takes}
 use Rattle.model.specs.Threads.{Thread, keySet}
-use Rattle.model.specs.Model.{State, LockProduct, segmentAt, findThread, threadAt, isSegment, lockOf, opening, conditions, answer, judged}
-use Rattle.model.specs.History.{History, Entry, Lock}
+use Rattle.model.specs.Model.{State, LockProduct, segmentAt, findThread, threadAt, isSegment, lockOf, opening, conditions, answer, judged, update, stepDecoded, step}
+use Rattle.model.specs.History.{History, Entry, Lock, handsOut}
 use Rattle.model.specs.Granting.{Operation, calls, accesses, requestOf, threadOf, targetOf, operationOf, isKnown, hasRoom, lockOpens, verdict, answerFrom}
 use Rattle.model.proofs.Lists.{caseBool, some-inj, some≢none}
 use Rattle.model.proofs.Places.{look}
 use Rattle.model.proofs.Segments.{entry-low, entry-is}
 use Rattle.model.proofs.Locks.{check-agrees}
 use Rattle.model.proofs.Agreement.{Agrees}
+
+-- an accepted call: no condition held, its answer is the model's, and the state is what it changes
+pub record Taken (compile : Compiler) (d : State) (next : Call) (q : Request) (n : ℕ) : Type 0 where
+  pub free : firstRefusal (conditions compile d q (next .text)) ≡ none
+  pub number : n ≡ answer compile d q (next .text)
+  pub state : step compile d next .state ≡ update compile d q (next .text)
+
+pub taken : (compile : Compiler) (d : State) (next : Call) (q : Request) (n : ℕ) → decoded next ≡ WellFormed q → step compile d next .answer ≡ Accepted n
+    → Taken compile d next q n
+unfolding step
+taken compile d next q n e a = by (firstRefusal (conditions compile d q (next .text))) refl (sym (ap (λ (k : Decoded). stepDecoded compile d k (next .text) .answer) e) ∙ a)
+  where
+    by : (o : Option Refusal) → firstRefusal (conditions compile d q (next .text)) ≡ o → judged compile d q (next .text) (firstRefusal (conditions compile d q (next .text))) .answer ≡ Accepted n
+        → Taken compile d next q n
+    by none f h =
+        record {
+          free = f;
+          number = let k : Accepted (answer compile d q (next .text)) ≡ Accepted n = sym (ap (λ (o : Option Refusal). judged compile d q (next .text) o .answer) f) ∙ h in cc;
+          state = ap (λ (k : Decoded). stepDecoded compile d k (next .text) .state) e ∙ ap (λ (o : Option Refusal). judged compile d q (next .text) o .state) f;
+        }
+    by (some r) f h =
+        let k = sym (ap (λ (o : Option Refusal). judged compile d q (next .text) o .answer) f) ∙ h in
+        let z : _≡_ {A = ℕ} 0 1 = cc in absurd (omega arith)
 
 -- an answer, by the first refusal
 abbrev answered : Option Refusal → ℕ → Answer
@@ -96,3 +123,20 @@ module _ (compile : Compiler) (holds : Meaning) (laws : Laws compile holds) (tex
       ∙ simp (found o t live entry out, out-test o t live entry out, kind-is o t live entry out, fits)
       (simp number
       (check-answers (opening d denies a b n) (opening d grants a b n) (first (lockOpens holds denies o t) (h .locks)) (first (lockOpens holds grants o t) (h .locks)) true (check o t live entry out denies) (check o t live entry out grants)))
+
+-- the numbers that U, S, N, K and L answer
+pub counted-as : (compile : Compiler) (text : List ℕ) (d : State) (h : History) (count : ℕ → ℕ) → Agrees compile d h count
+    → (q : Request) → handsOut q ≡ true → answer compile d q text ≡ count (callOf q text .letter)
+unfolding answer
+counted-as compile text d h count c NewUser e = c .counts .0
+counted-as compile text d h count c (StartThread a) e = c .counts .1
+counted-as compile text d h count c (EndThread a) e = absurd (false≢true e)
+counted-as compile text d h count c (NewSegment a b) e = c .counts .2
+counted-as compile text d h count c (NewKey a) e = c .counts .3
+counted-as compile text d h count c (GiveKey a b k) e = absurd (false≢true e)
+counted-as compile text d h count c (TakeKey a b k) e = absurd (false≢true e)
+counted-as compile text d h count c (AddLock a b o) e = c .counts .4
+counted-as compile text d h count c (DropLock a b) e = absurd (false≢true e)
+counted-as compile text d h count c (CallSegment a b) e = absurd (false≢true e)
+counted-as compile text d h count c (ReturnCall a) e = absurd (false≢true e)
+counted-as compile text d h count c (Access a b o) e = absurd (false≢true e)

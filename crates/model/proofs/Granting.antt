@@ -3,6 +3,7 @@ use mathlib.Core.Path.{_≡_, refl, sym, ap, _∙_}
 use mathlib.Core.Bool.{Bool, true, false, _&&_, not}
 use mathlib.Core.List.{List}
 use mathlib.Core.Option.{Option, none, some}
+use Prim.Native.Nat.{ℕ}
 use borrow.Author.Tests.{not-true}
 use Rattle.formula.specs.Outcome.{outcomeOf}
 use Rattle.formula.specs.Opening.{textHolds}
@@ -14,18 +15,17 @@ use Rattle.call.specs.declared.request.Decoded.the-variants.{WellFormed}
 use Rattle.call.specs.Calls.{Call, decoded}
 use Rattle.call.specs.Conditions.{firstRefusal}
 use Rattle.call.proofs.Truth.{and-left, and-right}
-use Rattle.model.specs.declared.answer.Answer.{Answer}
 use Rattle.model.specs.Answers.{isAccepted}
 use Rattle.model.specs.Lists.{any, first, isSome}
 use Rattle.model.specs.Operations.{denies, grants}
 use Rattle.model.specs.Threads.{Thread}
 use Rattle.model.specs.Model.{State, emptyState, conditions, judged, stepDecoded, step}
-use Rattle.model.specs.History.{History, Lock, history}
+use Rattle.model.specs.History.{History, Lock, Event, history, acceptedOf}
 use Rattle.model.specs.Granting.{Operation, requestOf, threadOf, Fits, hasRoom, lockOpens, granted, Granted, verdict, answerFrom, Grants, GrantingByLaws, Granting}
 use Rattle.model.specs.Replay.{stateAfter, eventsOf, reached, answerTo}
 use Rattle.model.proofs.Lists.{caseBool, clash, any-passes, any-found, isSome-first}
-use Rattle.model.proofs.Agreement.{agree}
-use Rattle.model.proofs.Checking.{answers-from}
+use Rattle.model.proofs.Agreement.{Agrees, agree, request-letter}
+use Rattle.model.proofs.Checking.{taken, counted-as, answers-from}
 use Rattle.model.proofs.Refinement.{refinement-by-laws, follows}
 
 -- ---- the test and the words
@@ -69,19 +69,6 @@ module _ (holds : Meaning) (h : History) (o : Operation) (t : Thread) where
       accepts none (some l) true = refl
       accepts none (some l) false = refl
 
--- from the whole answer
-grants-from : (holds : Meaning) (h : History) (next : Call) (r : Answer)
-    → ((o : Operation) (t : Thread) → Fits h next o → h .threads (threadOf o) ≡ some t → r ≡ answerFrom holds h o t) → Grants holds h next r
-grants-from holds h next r whole =
-    record {
-      equation = equation;
-      exactly = λ o t f l. (λ a. to-words holds h o t (sym (equation o t f l) ∙ a), λ g. equation o t f l ∙ from-words holds h o t g);
-      answer = whole;
-    }
-  where
-    equation : (o : Operation) (t : Thread) → Fits h next o → h .threads (threadOf o) ≡ some t → isAccepted r ≡ granted holds h o t
-    equation o t f l = ap isAccepted (whole o t f l) ∙ answer-accepts holds h o t
-
 -- ---- on the model
 
 pub answer-is : (compile : Compiler) (d : State) (x : Call) (q : Request) → decoded x ≡ WellFormed q
@@ -90,12 +77,37 @@ unfolding step
 answer-is compile d x q e = ap (λ (k : Decoded). stepDecoded compile d k (x .text) .answer) e
 
 on-model : (compile : Compiler) (holds : Meaning) → Laws compile holds → (xs : List Call) (next : Call)
-    → Grants holds (history (eventsOf compile emptyState xs)) next (step compile (stateAfter compile emptyState xs) next .answer)
+    → Grants holds (eventsOf compile emptyState xs) next (step compile (stateAfter compile emptyState xs) next .answer)
 on-model compile holds l xs next =
-    grants-from holds _ next _
-    (λ o t fits live.
-    answer-is compile (stateAfter compile emptyState xs) next (requestOf o) (fits .wellFormed)
-    ∙ answers-from compile holds l (next .text) _ _ _ (agree compile holds l xs) o t live (fits .entry) (fits .handedOut) (fits .known) (fits .taken))
+    record {
+      equation = equation;
+      exactly = λ o t f live. (λ a. to-words holds h o t (sym (equation o t f live) ∙ a), λ g. equation o t f live ∙ from-words holds h o t g);
+      answer = whole;
+      number = λ q n e hands k.
+          taken compile d next q n e k .number
+          ∙ counted-as compile (next .text) d h (λ m. acceptedOf m es) c q hands
+          ∙ ap (λ (m : ℕ). acceptedOf m es) (sym (request-letter next q e));
+    }
+  where
+    d : State
+    d = stateAfter compile emptyState xs
+
+    es : List Event
+    es = eventsOf compile emptyState xs
+
+    h : History
+    h = history es
+
+    c : Agrees compile d h (λ m. acceptedOf m es)
+    c = agree compile holds l xs
+
+    whole : (o : Operation) (t : Thread) → Fits h next o → h .threads (threadOf o) ≡ some t → step compile d next .answer ≡ answerFrom holds h o t
+    whole o t fits live =
+        answer-is compile d next (requestOf o) (fits .wellFormed)
+        ∙ answers-from compile holds l (next .text) _ _ _ c o t live (fits .entry) (fits .handedOut) (fits .known) (fits .taken)
+
+    equation : (o : Operation) (t : Thread) → Fits h next o → h .threads (threadOf o) ≡ some t → isAccepted (step compile d next .answer) ≡ granted holds h o t
+    equation o t f live = ap isAccepted (whole o t f live) ∙ answer-accepts holds h o t
 
 -- ---- on the arrays
 

@@ -1,8 +1,8 @@
 -- What an accepted call answers, by the agreement of model and history: before it, and for key lists after it. Assumes nothing.
-use mathlib.Core.Path.{_≡_, refl, sym, ap, ap₂, _∙_}
-use mathlib.Core.Bool.{true, false, false≢true}
+use mathlib.Core.Path.{_≡_, sym, ap, ap₂, _∙_}
+use mathlib.Core.Bool.{true}
 use mathlib.Core.List.{List, _∷_, List·Memᴰ}
-use mathlib.Core.Option.{Option, none, some}
+use mathlib.Core.Option.{some}
 use Prim.Native.Nat.{ℕ, _<_}
 use native.Mathlib.Omega.{arith}
 use lib.ListN.{length, getD, set, length-set}
@@ -14,50 +14,23 @@ use Rattle.formula.specs.Outcome.{accepted, outcomeOf}
 use Rattle.formula.specs.Opening.{textHolds}
 use Rattle.formula.specs.Compiler.{Compiler, Meaning, Laws}
 use Rattle.formula.proofs.Opening.{laws}
-use Rattle.call.specs.declared.request.Request.{Request}
-use Rattle.call.specs.declared.request.Request.the-variants.{NewUser, StartThread, EndThread, NewSegment, NewKey, GiveKey, TakeKey, AddLock, DropLock, CallSegment, ReturnCall, Access}
-use Rattle.call.specs.declared.request.Decoded.{Decoded}
+use Rattle.call.specs.declared.request.Request.the-variants.{EndThread, GiveKey, TakeKey, DropLock, ReturnCall}
 use Rattle.call.specs.declared.request.Decoded.the-variants.{WellFormed}
 use Rattle.call.specs.Calls.{Call, decoded}
-use Rattle.call.specs.Requests.{callOf}
-use Rattle.call.specs.Conditions.{firstRefusal}
 use Rattle.call.proofs.Conditions.{all-fail}
-use Rattle.model.specs.declared.answer.Refusal.{Refusal}
 use Rattle.model.specs.declared.answer.Answer.{Answer}
 use Rattle.model.specs.declared.answer.Answer.the-variants.{Accepted}
 use Rattle.model.specs.Lists.{keep}
 use Rattle.model.specs.Threads.{Frame, Thread}
-use Rattle.model.specs.Model.{State, emptyState, Segment, nowhere, segmentAt, findThread, threadAt, isLock, isOfLock, homeOf, giveKey, takeKey, newest, conditions, update, answer, judged, stepDecoded, step}
+use Rattle.model.specs.Model.{State, emptyState, Segment, nowhere, segmentAt, findThread, threadAt, isLock, isOfLock, homeOf, giveKey, takeKey, newest, conditions, update, answer, step}
 use Rattle.model.specs.History.{History, Lock, event, advance, history, listOf, acceptedOf}
 use Rattle.model.specs.Replay.{reached, stateAfter, eventsOf, answerTo}
-use Rattle.model.specs.Numbering.{handsOut, Numbers, NumberingByLaws, Numbering}
+use Rattle.model.specs.Numbering.{Numbers, NumberingByLaws, Numbering}
 use Rattle.model.proofs.Places.{look}
 use Rattle.model.proofs.Locks.{found, lock-homed, lock-products, locks-rise}
-use Rattle.model.proofs.Agreement.{Agrees, agree, counted, step-agrees, keys-agree, request-letter}
+use Rattle.model.proofs.Agreement.{Agrees, agree, counted, step-agrees, keys-agree}
+use Rattle.model.proofs.Checking.{taken}
 use Rattle.model.proofs.Refinement.{refinement-by-laws, follows}
-
--- an accepted call: no condition held, its answer is the model's, and the state is what it changes
-record Taken (compile : Compiler) (d : State) (next : Call) (q : Request) (n : ℕ) : Type 0 where
-  pub free : firstRefusal (conditions compile d q (next .text)) ≡ none
-  pub number : n ≡ answer compile d q (next .text)
-  pub state : step compile d next .state ≡ update compile d q (next .text)
-
-taken : (compile : Compiler) (d : State) (next : Call) (q : Request) (n : ℕ) → decoded next ≡ WellFormed q → step compile d next .answer ≡ Accepted n
-    → Taken compile d next q n
-unfolding step
-taken compile d next q n e a = by (firstRefusal (conditions compile d q (next .text))) refl (sym (ap (λ (k : Decoded). stepDecoded compile d k (next .text) .answer) e) ∙ a)
-  where
-    by : (o : Option Refusal) → firstRefusal (conditions compile d q (next .text)) ≡ o → judged compile d q (next .text) (firstRefusal (conditions compile d q (next .text))) .answer ≡ Accepted n
-        → Taken compile d next q n
-    by none f h =
-        record {
-          free = f;
-          number = let k : Accepted (answer compile d q (next .text)) ≡ Accepted n = sym (ap (λ (o : Option Refusal). judged compile d q (next .text) o .answer) f) ∙ h in cc;
-          state = ap (λ (k : Decoded). stepDecoded compile d k (next .text) .state) e ∙ ap (λ (o : Option Refusal). judged compile d q (next .text) o .state) f;
-        }
-    by (some r) f h =
-        let k = sym (ap (λ (o : Option Refusal). judged compile d q (next .text) o .answer) f) ∙ h in
-        let z : _≡_ {A = ℕ} 0 1 = cc in absurd (omega arith)
 
 module _ (compile : Compiler) (holds : Meaning) (law : Laws compile holds) (d : State) (h : History) (count : ℕ → ℕ) (c : Agrees compile d h count) (next : Call) where
   abbrev r : Answer
@@ -65,21 +38,6 @@ module _ (compile : Compiler) (holds : Meaning) (law : Laws compile holds) (d : 
 
   abbrev text : List ℕ
   text = next .text
-
-  counted-as : (q : Request) → handsOut q ≡ true → answer compile d q text ≡ count (callOf q text .letter)
-  unfolding answer
-  counted-as NewUser e = c .counts .0
-  counted-as (StartThread a) e = c .counts .1
-  counted-as (EndThread a) e = absurd (false≢true e)
-  counted-as (NewSegment a b) e = c .counts .2
-  counted-as (NewKey a) e = c .counts .3
-  counted-as (GiveKey a b k) e = absurd (false≢true e)
-  counted-as (TakeKey a b k) e = absurd (false≢true e)
-  counted-as (AddLock a b o) e = c .counts .4
-  counted-as (DropLock a b) e = absurd (false≢true e)
-  counted-as (CallSegment a b) e = absurd (false≢true e)
-  counted-as (ReturnCall a) e = absurd (false≢true e)
-  counted-as (Access a b o) e = absurd (false≢true e)
 
   thread-is : (a : ℕ) (t : Thread) → h .threads a ≡ some t → threadAt d a ≡ t
   thread-is a t e = let f : findThread a (d .places) ≡ some t = sym (look (d .places) (d .threadNumbers) (h .threads) (c .threads) a) ∙ e in simp f
@@ -138,10 +96,6 @@ on-model compile holds law xs next =
     let count : ℕ → ℕ = λ k. acceptedOf k es in
     let c = agree compile holds law xs in
     record {
-      handedOut = λ q n e w hands.
-          taken compile d next q n e w .number
-          ∙ counted-as compile holds law d (history es) count c next q hands
-          ∙ ap (λ (k : ℕ). acceptedOf k es) (sym (request-letter next q e));
       ended = ended-as compile holds law d (history es) count c next;
       keyGiven = given-as compile holds law d (history es) count c next;
       keyTaken = taken-as compile holds law d (history es) count c next;

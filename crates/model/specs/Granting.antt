@@ -25,8 +25,8 @@ use Rattle.model.specs.Answers.{isAccepted}
 use Rattle.model.specs.Lists.{any, first}
 use Rattle.model.specs.Operations.{execute, denies, grants, takes, isAccess}
 use Rattle.model.specs.Threads.{Thread, keySet}
-use Rattle.model.specs.History.{History, Entry, Lock}
-use Rattle.model.specs.Replay.{historyOf, answerTo}
+use Rattle.model.specs.History.{History, Entry, Lock, Event, history, handsOut, acceptedOf}
+use Rattle.model.specs.Replay.{events, answerTo}
 
 -- what a C or an A asks for: thread a, segment b, and an A's operation c
 pub data Operation : Type 0 where
@@ -99,19 +99,22 @@ verdict none (some l) true = Accepted (l .number)
 abbrev pub answerFrom : Meaning → History → Operation → Thread → Answer
 answerFrom holds h o t = verdict (first (lockOpens holds denies o t) (h .locks)) (first (lockOpens holds grants o t) (h .locks)) (hasRoom o t)
 
--- what the history h says of the next call's answer r: whether it is granted, as an equation and in words ('Granted means accepted'), and the
--- whole answer
-pub record Grants (holds : Meaning) (h : History) (next : Call) (r : Answer) : Type 0 where
-  pub equation : (o : Operation) (t : Thread) → Fits h next o → h .threads (threadOf o) ≡ some t → isAccepted r ≡ granted holds h o t
-  pub exactly : (o : Operation) (t : Thread) → Fits h next o → h .threads (threadOf o) ≡ some t → (isAccepted r ≡ true) ↔ Granted holds h o t
-  pub answer : (o : Operation) (t : Thread) → Fits h next o → h .threads (threadOf o) ≡ some t → r ≡ answerFrom holds h o t
+-- What the events before the next call say of its answer r: whether it is granted, as an equation and in words ('Granted means accepted'), and its
+-- whole answer; and 'the number that an accepted U, S, N, K or L answers is the count of that letter's accepted calls earlier in the list'.
+pub record Grants (holds : Meaning) (es : List Event) (next : Call) (r : Answer) : Type 0 where
+  pub equation : (o : Operation) (t : Thread) → Fits (history es) next o → history es .threads (threadOf o) ≡ some t
+      → isAccepted r ≡ granted holds (history es) o t
+  pub exactly : (o : Operation) (t : Thread) → Fits (history es) next o → history es .threads (threadOf o) ≡ some t
+      → (isAccepted r ≡ true) ↔ Granted holds (history es) o t
+  pub answer : (o : Operation) (t : Thread) → Fits (history es) next o → history es .threads (threadOf o) ≡ some t → r ≡ answerFrom holds (history es) o t
+  pub number : (q : Request) (n : ℕ) → decoded next ≡ WellFormed q → handsOut q ≡ true → r ≡ Accepted n → n ≡ acceptedOf (next .letter) es
 
 -- for whatever compiler keeps the laws
 abbrev pub GrantingByLaws : Type 0
 GrantingByLaws =
     (compile : Compiler) (holds : Meaning) → Laws compile holds → (xs : List Call) (next : Call)
-    → Grants holds (historyOf compile xs) next (answerTo compile xs next)
+    → Grants holds (events compile xs) next (answerTo compile xs next)
 
 -- and so for the compiler that there is
 abbrev pub Granting : Type 0
-Granting = (xs : List Call) (next : Call) → Grants textHolds (historyOf outcomeOf xs) next (answerTo outcomeOf xs next)
+Granting = (xs : List Call) (next : Call) → Grants textHolds (events outcomeOf xs) next (answerTo outcomeOf xs next)

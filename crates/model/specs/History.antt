@@ -1,6 +1,6 @@
 -- Document 01, 'The history', line by line: what is read from a list of calls, each with its answer or refusal. Nothing of the state is fed to it.
 -- Assumes nothing.
-use mathlib.Core.Bool.{Bool, _&&_, not, cond}
+use mathlib.Core.Bool.{Bool, true, false, _&&_, not, cond}
 use mathlib.Core.List.{List, [], _∷_, _++_}
 use mathlib.Core.Option.{none}
 use Prim.Native.Nat.{ℕ, suc}
@@ -105,6 +105,21 @@ historyFrom h (e ∷ es) = historyFrom (advance h e) es
 
 abbrev pub history : List Event → History
 history es = historyFrom emptyHistory es
+
+-- a letter that hands out numbers: U, S, N, K, L
+abbrev pub handsOut : Request → Bool
+handsOut NewUser = true
+handsOut (StartThread a) = true
+handsOut (EndThread a) = false
+handsOut (NewSegment a b) = true
+handsOut (NewKey a) = true
+handsOut (GiveKey a b c) = false
+handsOut (TakeKey a b c) = false
+handsOut (AddLock a b c) = true
+handsOut (DropLock a b) = false
+handsOut (CallSegment a b) = false
+handsOut (ReturnCall a) = false
+handsOut (Access a b c) = false
 
 -- 'the count of that letter's accepted calls'
 abbrev pub counts : ℕ → Event → Bool

@@ -1,7 +1,7 @@
--- Document 01, 'The history': 'The number that an accepted U, S, N, K or L answers is the count of that letter's accepted calls earlier in the
--- list.' And what E, G, T, D and R answer. What C and A answer is in `Granting`. Proved in `proofs/Numbering.antt`. Assumes nothing.
+-- Document 01, 'Twelve calls': what an accepted E, G, T, D or R answers, from the list of calls and answers before it. What the others answer is in
+-- `Granting`. Proved in `proofs/Numbering.antt`. Assumes nothing.
 use mathlib.Core.Path.{_≡_}
-use mathlib.Core.Bool.{Bool, true, false}
+use mathlib.Core.Bool.{true}
 use mathlib.Core.List.{List, _∷_, map, List·Memᴰ}
 use mathlib.Core.Option.{some}
 use Prim.Native.Nat.{ℕ}
@@ -10,36 +10,19 @@ use Rattle.product.specs.Sum.{Sum}
 use Rattle.formula.specs.declared.text.Issued.{Issued}
 use Rattle.formula.specs.Outcome.{accepted, outcomeOf}
 use Rattle.formula.specs.Compiler.{Compiler, Meaning, Laws}
-use Rattle.call.specs.declared.request.Request.{Request}
-use Rattle.call.specs.declared.request.Request.the-variants.{NewUser, StartThread, EndThread, NewSegment, NewKey, GiveKey, TakeKey, AddLock, DropLock, CallSegment, ReturnCall, Access}
+use Rattle.call.specs.declared.request.Request.the-variants.{EndThread, GiveKey, TakeKey, DropLock, ReturnCall}
 use Rattle.call.specs.declared.request.Decoded.the-variants.{WellFormed}
 use Rattle.call.specs.Calls.{Call, decoded}
 use Rattle.model.specs.declared.answer.Answer.{Answer}
 use Rattle.model.specs.declared.answer.Answer.the-variants.{Accepted}
 use Rattle.model.specs.Lists.{rising}
 use Rattle.model.specs.Threads.{Frame, Thread}
-use Rattle.model.specs.History.{Event, Lock, event, advance, history, listOf, acceptedOf}
+use Rattle.model.specs.History.{Event, Lock, event, advance, history, listOf}
 use Rattle.model.specs.Replay.{events, answerTo}
-
--- a letter that hands out numbers: U, S, N, K, L
-abbrev pub handsOut : Request → Bool
-handsOut NewUser = true
-handsOut (StartThread a) = true
-handsOut (EndThread a) = false
-handsOut (NewSegment a b) = true
-handsOut (NewKey a) = true
-handsOut (GiveKey a b c) = false
-handsOut (TakeKey a b c) = false
-handsOut (AddLock a b c) = true
-handsOut (DropLock a b) = false
-handsOut (CallSegment a b) = false
-handsOut (ReturnCall a) = false
-handsOut (Access a b c) = false
 
 -- What the events before the next call say of its answer r. Where it is accepted, the history has the thread, frame or lock that it names: that is
 -- `Mirror` with `Refusing`.
 pub record Numbers (compile : Compiler) (es : List Event) (next : Call) (r : Answer) : Type 0 where
-  pub handedOut : (q : Request) (n : ℕ) → decoded next ≡ WellFormed q → r ≡ Accepted n → handsOut q ≡ true → n ≡ acceptedOf (next .letter) es
   -- E: open calls closed
   pub ended : (a n : ℕ) → decoded next ≡ WellFormed (EndThread a) → r ≡ Accepted n
       → (t : Thread) → history es .threads a ≡ some t → n ≡ length (t .frames)
