@@ -24,6 +24,7 @@ trials =
       segmentsHappen = refl;
       threadsHappen = refl;
       listedHappens = refl;
+      framesHappen = refl;
       lastThread = refl;
       noThread = refl;
       lastLock = refl;

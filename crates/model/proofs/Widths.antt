@@ -1,16 +1,16 @@
 -- What is stored fits its cell: an accepted call stores fields of the call, numbers that its limits bound, codes of keys and literals with
 -- numbers of 16 bits, and cells that were there; and a cell that is not stored stays. What it answers is such a number, or a count of a list
 -- that the arrays bound. Assumes nothing.
-use mathlib.Core.Path.{_≡_, refl, sym, subst}
+use mathlib.Core.Path.{_≡_, refl, sym, ap, subst}
 use mathlib.Core.Bool.{Bool, true, not}
 use mathlib.Core.List.{List, [], _∷_, _++_, map}
 use mathlib.Core.Option.{Option, none, some}
 use Prim.Native.Nat.{ℕ, zero, suc, _+_, _-_, _≤_, _<_, min}
 use native.Mathlib.Omega.{arith}
 use lib.Dec.{eqb, ltb}
-use lib.ListN.{length, set, take, replicate, length-set, length-map, length-take, List·getD-map}
+use lib.ListN.{length, set, take, replicate, length-set, length-map, length-take, getD, List·getD-map, List·getD-eq-default}
 use lib.Seq.{sets}
-use borrow.Author.Tests.{ltb-true, not-false}
+use borrow.Author.Tests.{ltb-true, ltb-false, not-false}
 use Rattle.product.specs.declared.literal.Key.{Key}
 use Rattle.product.specs.declared.literal.Key.the-variants.{User, Thread as ThreadKey, Segment as SegmentKey, Defined}
 use Rattle.product.specs.declared.literal.Literal.{Literal}
@@ -26,27 +26,30 @@ use Rattle.call.specs.declared.request.Request.{Request}
 use Rattle.call.specs.declared.request.Request.the-variants.{NewUser, StartThread, EndThread, NewSegment, NewKey, GiveKey, TakeKey, AddLock, DropLock, CallSegment, ReturnCall, Access}
 use Rattle.call.specs.declared.request.Decoded.{Decoded}
 use Rattle.call.specs.declared.request.Decoded.the-variants.{WellFormed, Corrupt as NotWellFormed}
-use Rattle.call.specs.Calls.{decoded}
-use Rattle.call.specs.Conditions.{firstRefusal}
+use Rattle.call.specs.Calls.{Call, decoded}
+use Rattle.call.specs.Conditions.{Condition, firstRefusal}
 use Rattle.call.specs.Requests.{callOf}
 use Rattle.call.proofs.Conditions.{all-fail}
 use Rattle.call.proofs.Requests.{requests-exactly}
 use Rattle.call.proofs.Truth.{and-left, neither}
 use Rattle.model.specs.declared.answer.Refusal.{Refusal}
+use Rattle.model.specs.declared.answer.Refusal.the-variants.{Corrupt}
 use Rattle.model.specs.declared.answer.Answer.{Answer}
 use Rattle.model.specs.declared.answer.Answer.the-variants.{Accepted, Refused}
+use Rattle.model.specs.Answers.{secondNumber}
 use Rattle.model.specs.Lists.{keep, first, orDefault}
 use Rattle.model.specs.Limits.{mostUsers, mostThreads, mostSegments, mostDefined, mostListed, mostStanding, mostFrames, mostNumbers, passes}
-use Rattle.model.specs.Operations.{grants, execute}
+use Rattle.model.specs.Operations.{denies, grants, execute}
 use Rattle.model.specs.Threads.{Thread, sameKey, keySet}
-use Rattle.model.specs.Model.{LockProduct, Segment, segmentAt, Place, free, isFree, liveIn, threadIn, nobody, placeFor, placeOf, threadAt, isOfLock, hasLock, isLock, homeOf, issued, opensFor, opening, lockOf, conditions, newest, answer}
-use Rattle.model.specs.Cells.{Row, Table, Cells, Sized, cell, rowAt, tableAt, userCount, threadCount, segmentCount, definedCount, lockCount, frameCount, liveCell, noKey, definedCell, keyIn, hasKey, keyRow, literalCell, isUsed, usedRows, framesOf, depthOf, placeIn, productIn, listRow, segmentOf, stateOf, setCell, onTable, countUp, withSegmentTables, startThread, endThread, newSegment, giveCode, takeCode, endRows, storeRows, productRow, addRows, dropRows, pushRow, popRow, atThread, store, judgedCells, stepCellsDecoded, stepCells}
-use Rattle.model.specs.Widths.{word, doubleWord, Fitting, Fields, WidthsByLaws, Widths}
-use Rattle.model.proofs.Lists.{All, caseBool, All-append, All-keep, length-keep, length-append-one, indexOf-lt, Everywhere, everywhere-set, everywhere-sets, everywhere-all, all-everywhere}
+use Rattle.model.specs.Model.{LockProduct, Segment, nowhere, segmentAt, Place, free, isFree, liveIn, threadIn, nobody, placeFor, placeOf, threadAt, isOfLock, hasLock, isLock, homeOf, issued, opensFor, opening, lockOf, conditions, newest, answer}
+use Rattle.model.specs.Cells.{Row, Table, Cells, Sized, cell, rowAt, tableAt, userCount, threadCount, segmentCount, definedCount, lockCount, frameCount, liveCell, noKey, definedCell, keyIn, hasKey, keyRow, literalCell, isUsed, usedRows, framesOf, depthOf, placeIn, productIn, listRow, segmentOf, stateOf, setCell, onTable, countUp, withSegmentTables, startThread, endThread, newSegment, giveCode, takeCode, endRows, storeRows, productRow, addRows, dropRows, pushRow, popRow, atThread, store, judgedCells, stepCellsDecoded, stepCells, zeros, emptyCells}
+use Rattle.model.specs.Replay.{cellsAfter}
+use Rattle.model.specs.Widths.{word, doubleWord, Fitting, Fields, AllFields, Contained, WidthsByLaws, Widths}
+use Rattle.model.proofs.Lists.{All, caseBool, some-inj, All-append, All-keep, length-keep, length-append-one, indexOf-lt, Everywhere, everywhere-set, everywhere-sets, everywhere-all, all-everywhere}
 use Rattle.model.proofs.Agreement.{compiled}
 use Rattle.model.proofs.ProductRows.{length-used}
 use Rattle.model.proofs.ThreadTables.{length-frames, live-place}
-use Rattle.model.proofs.Refinement.{within, count, length-segments, segment-is, handed}
+use Rattle.model.proofs.Refinement.{within, count, length-segments, segment-is, handed, refinement-by-laws, follows}
 
 -- ---- cells below m, wherever they are read
 
@@ -231,15 +234,26 @@ module _ (compile : Compiler) (d : Cells) (c : Sized d) (k : Fitting d) (text : 
       let i = placeOf a (map placeIn (d .threads)) in
       subst PlaceFits (sym (List·getD-map placeIn (d .threads) i [])) (place-fits (tableAt (d .threads) i) (k .threads i))
 
+  handed-out : (s : ℕ) → ltb s (length (stateOf d .segments)) ≡ true → s < count d c
+  unfolding stateOf
+  handed-out s e = handed d c s (ap not e)
+
   segment-fits : (s : ℕ) → s < count d c → SegmentFits (segmentAt (stateOf d) s)
   unfolding stateOf
   segment-fits s lt =
       subst SegmentFits (sym (segment-is d c s lt))
       (table-fits s (tableAt (d .segments) s) (tableAt (d .locks) s) (c .segments .cells s 1 (omega arith) (omega arith)) (c .locks .rows s (omega arith)) (k .locks s))
 
-  opening-low : (a b n : ℕ) → b < count d c → lockOf (opening (stateOf d) grants a b n) < word
+  opening-low : (stands : ℕ → ℕ → Bool) (a b n : ℕ) → lockOf (opening (stateOf d) stands a b n) < word
   unfolding opening
-  opening-low a b n lt = lock-low (opensFor grants n (keySet a (threadAt (stateOf d) a))) (segmentAt (stateOf d) b .products) (segment-fits b lt .locks)
+  opening-low stands a b n = lock-low (opensFor stands n (keySet a (threadAt (stateOf d) a))) (segmentAt (stateOf d) b .products) low
+    where
+      low : All (λ r. r .lock < word) (segmentAt (stateOf d) b .products)
+      low =
+          caseBool (ltb b (length (stateOf d .segments)))
+          (λ e. segment-fits b (handed-out b e) .locks)
+          (λ e. let none-there : segmentAt (stateOf d) b ≡ nowhere = List·getD-eq-default (stateOf d .segments) nowhere (ltb-false b (length (stateOf d .segments)) e) in
+          subst (λ (g : Segment). All (λ r. r .lock < word) (g .products)) (sym none-there) tt)
 
   -- a change of a table, or of a count
   low-threads : (i : ℕ) (f : Table → Table) → LowRows word (f (tableAt (d .threads) i)) → LowTables word (onTable (d .threads) i f)
@@ -322,14 +336,14 @@ module _ (compile : Compiler) (d : Cells) (c : Sized d) (k : Fitting d) (text : 
       let g : Table = tableAt (d .segments) b in
       record {
         stored = at-thread a (pushRow (listRow b g)) (λ t h. push-low (listRow b g) t (list-low b g (l .b) (k .segments b)) h);
-        answered = opening-low a b execute lt;
+        answered = opening-low grants a b execute;
       }
 
   fit-access : (a b o : ℕ) → Holds (Access a b o)
   unfolding conditions store answer stateOf
   fit-access a b o l e =
       let f = all-fail (conditions compile (stateOf d) (Access a b o) text) e in
-      record { stored = k; answered = opening-low a b o (handed d c b (f .1 .0)) }
+      record { stored = k; answered = opening-low grants a b o }
 
   fit-segment : (a b : ℕ) → Holds (NewSegment a b)
   unfolding conditions store answer stateOf
@@ -461,7 +475,35 @@ module _ (compile : Compiler) (d : Cells) (c : Sized d) (k : Fitting d) (text : 
   fit-accepted holds law (ReturnCall a) = fit-return a
   fit-accepted holds law (Access a b o) = fit-access a b o
 
+  -- a refused request: only 14 has a second number
+
+  abbrev Second : Refusal → Type 0
+  Second r = secondNumber r < word
+
+  abbrev Seconds : Request → Type 0
+  Seconds q = All (λ x. Second (x .refusal)) (conditions compile (stateOf d) q text)
+
+  seconds : (q : Request) → Seconds q
+  unfolding conditions
+  seconds NewUser = (omega arith, tt)
+  seconds (StartThread a) = (omega arith, (omega arith, tt))
+  seconds (EndThread a) = (omega arith, tt)
+  seconds (NewSegment a b) = (omega arith, (omega arith, (omega arith, tt)))
+  seconds (NewKey a) = (omega arith, (omega arith, tt))
+  seconds (GiveKey a b o) = (omega arith, (omega arith, (omega arith, (omega arith, (omega arith, (omega arith, tt))))))
+  seconds (TakeKey a b o) = (omega arith, (omega arith, (omega arith, (omega arith, (omega arith, tt)))))
+  seconds (AddLock a b o) = (omega arith, (omega arith, (omega arith, (omega arith, (omega arith, (omega arith, (omega arith, (omega arith, tt))))))))
+  seconds (DropLock a b) = (omega arith, (omega arith, (omega arith, tt)))
+  seconds (CallSegment a b) = (omega arith, (omega arith, (omega arith, (opening-low denies a b execute, (omega arith, (omega arith, tt))))))
+  seconds (ReturnCall a) = (omega arith, (omega arith, tt))
+  seconds (Access a b o) = (omega arith, (omega arith, (omega arith, (opening-low denies a b o, (omega arith, tt)))))
+
 -- ---- every call, accepted or not
+
+-- what holds of every condition's refusal holds of the first
+first-all : (P : Refusal → Type 0) (cs : List (Condition Refusal)) → All (λ x. P (x .refusal)) cs → (r : Refusal) → firstRefusal cs ≡ some r → P r
+first-all P [] h r e = let z : _≡_ {A = ℕ} 0 1 = cc in absurd (omega arith)
+first-all P (x ∷ xs) h r e = caseBool (x .holds) (λ t. subst P (some-inj (rw t at e)) (h .0)) (λ t. first-all P xs (h .1) r (rw t at e))
 
 -- an answer's number has 16 bits
 accepted-low : (m n : ℕ) → m < word → Accepted m ≡ Accepted n → n < word
@@ -471,25 +513,70 @@ accepted-low m n h e = let same : m ≡ n = cc in omega arith
 refused-low : (r : Refusal) (n : ℕ) → Refused r ≡ Accepted n → n < word
 refused-low r n e = let z : _≡_ {A = ℕ} 0 1 = cc in absurd (omega arith)
 
+-- an acceptance has no second number, and a refusal its own
+accepted-second : (m : ℕ) (r : Refusal) → Accepted m ≡ Refused r → secondNumber r < word
+accepted-second m r e = let z : _≡_ {A = ℕ} 0 1 = cc in absurd (omega arith)
+
+refused-second : (q r : Refusal) → secondNumber q < word → Refused q ≡ Refused r → secondNumber r < word
+refused-second q r h e = let same : q ≡ r = cc in subst (λ (x : Refusal). secondNumber x < word) same h
+
 -- what a call leaves and answers
 abbrev LeftFits : record { cells : Cells; answer : Answer } → Type 0
-LeftFits y = Fitting (y .cells) × ((n : ℕ) → y .answer ≡ Accepted n → n < word)
+LeftFits y = Fitting (y .cells) × ((n : ℕ) → y .answer ≡ Accepted n → n < word) × ((r : Refusal) → y .answer ≡ Refused r → secondNumber r < word)
 
 pub widths-by-laws : WidthsByLaws
 unfolding stepCells
-widths-by-laws compile holds law d c k x l = let b = by-decoded (decoded x) refl in record { stored = b .0; answered = b .1 }
+widths-by-laws compile holds law d c k x l = let b = by-decoded (decoded x) refl in record { stored = b .0; answered = b .1; refused = b .2 }
   where
     by-refusal : (q : Request) → Fields (callOf q (x .text)) → (o : Option Refusal) → firstRefusal (conditions compile (stateOf d) q (x .text)) ≡ o
         → LeftFits (judgedCells compile d q (x .text) o)
     by-refusal q h none e =
         let s = fit-accepted compile d c k (x .text) holds law q h e in
-        (s .stored, λ n. accepted-low (answer compile (stateOf d) q (x .text)) n (s .answered))
-    by-refusal q h (some r) e = (k, refused-low r)
+        let n = answer compile (stateOf d) q (x .text) in
+        (s .stored, (λ m. accepted-low n m (s .answered)), accepted-second n)
+    by-refusal q h (some r) e =
+        let second = first-all (λ y. secondNumber y < word) (conditions compile (stateOf d) q (x .text)) (seconds compile d c k (x .text) q) r e in
+        (k, refused-low r, (λ y. refused-second r y second))
 
     by-decoded : (y : Decoded) → decoded x ≡ y → LeftFits (stepCellsDecoded compile d y (x .text))
-    by-decoded NotWellFormed e = (k, refused-low _)
+    by-decoded NotWellFormed e = (k, refused-low Corrupt, (λ y. refused-second Corrupt y (omega arith)))
     by-decoded (WellFormed q) e =
         by-refusal q (subst Fields (requests-exactly x q .0 e) l) (firstRefusal (conditions compile (stateOf d) q (x .text))) refl
 
+-- ---- every list of calls
+
+contained : (d : Cells) → Sized d → Fitting d → (x : Call) → Fields x → Contained outcomeOf d x
+contained d c k x l = widths-by-laws outcomeOf textHolds laws d c k x l
+
+list-fits : (xs : List Call) (d : Cells) → Sized d → Fitting d → AllFields xs → Fitting (cellsAfter outcomeOf d xs)
+list-fits [] d c k l = k
+list-fits (x ∷ xs) d c k l =
+    list-fits xs (stepCells outcomeOf d x .cells) (refinement-by-laws outcomeOf textHolds laws d c x .sized) (contained d c k x (l .0) .stored) (l .1)
+
+zeros-low : (m n j : ℕ) → 0 < m → getD (replicate n 0) j 0 < m
+zeros-low m zero j h = h
+zeros-low m (suc n) zero h = h
+zeros-low m (suc n) (suc j) h = zeros-low m n j h
+
+zero-rows : (m k i j : ℕ) → 0 < m → cell (rowAt (replicate k (replicate 8 0)) i) j < m
+zero-rows m zero i j h = h
+zero-rows m (suc k) zero j h = zeros-low m 8 j h
+zero-rows m (suc k) (suc i) j h = zero-rows m k i j h
+
+zero-tables : (m n k s i j : ℕ) → 0 < m → cell (rowAt (tableAt (zeros n k) s) i) j < m
+zero-tables m zero k s i j h = h
+zero-tables m (suc n) k zero i j h = zero-rows m k i j h
+zero-tables m (suc n) k (suc s) i j h = zero-tables m n k s i j h
+
+empty-fits : Fitting emptyCells
+empty-fits =
+    record {
+      registry = λ j. zeros-low doubleWord 8 j (omega arith);
+      makers = λ j. zeros-low word 1024 j (omega arith);
+      segments = λ s i j. zero-tables word 64 2 s i j (omega arith);
+      locks = λ s i j. zero-tables doubleWord 64 8 s i j (omega arith);
+      threads = λ p i j. zero-tables word 64 17 p i j (omega arith);
+    }
+
 pub widths : Widths
-widths d c k x l = widths-by-laws outcomeOf textHolds laws d c k x l
+widths = record { call = contained; list = λ xs l. list-fits xs emptyCells (follows outcomeOf textHolds laws [] .sized) empty-fits l }

@@ -1,13 +1,13 @@
--- The state in the arrays that the host lends: their layout, the state that they hold, whatever numbers are in them, and what each accepted call stores. Conditions and
--- answers are those of the state that the arrays hold, so that the table of refusals stands once, in the model. Assumes nothing.
+-- The state in the arrays that the host lends: their layout, the state that they hold, whatever numbers are in them, and what each accepted call
+-- stores. Conditions and answers are those of the state that the arrays hold, so that the table of refusals stands once, in the model. Assumes nothing.
 --
 -- registry: [u32; 8]               users, threads, segments, defined keys and locks handed out
 -- makers: [u16; 1024]              each defined key's maker
 -- segments: [[[u16; 8]; 2]; 64]    row 0: owner, kind; row 1: the key list, first its own S key, which is always its number
 -- locks: [[[u32; 8]; 8]; 64]       a segment's products, a row each, to the first row that begins with 0: the lock, the number of literals and the
 --                                  operations in one cell, then the literals
--- threads: [[[u16; 8]; 17]; 64]    row 0: number, user, number of frames, 1 where it is live; rows 1 to 16: the frames, the oldest first, each
---                                  a copy of its segment's key list
+-- threads: [[[u16; 8]; 17]; 64]    row 0: number, user, number of frames, and not 0 where it is live; rows 1 to 16: the frames, the oldest first, each
+--                                  a copy of its segment's key list, whose first cell is the segment
 use mathlib.Core.Path.{_≡_}
 use mathlib.Core.Bool.{Bool, not, cond}
 use mathlib.Core.List.{List, [], _∷_, _++_, map}
@@ -122,7 +122,7 @@ abbrev pub keyRow : List ℕ → Row
 keyRow xs = xs ++ replicate (mostListed - length xs) noKey
 
 -- ---- literals: S n and D n have the code that they have in a key list, so that the check compares cells, and 32,768 more where they are barred, which
--- no code of a list reaches; U n is 131,072 and R n is 262,144 more than n, and 65,536 more than that where they are barred
+-- no code that a call stores in a list reaches; U n is 131,072 and R n is 262,144 more than n, and 65,536 more than that where they are barred
 
 abbrev pub keyCell : Key → ℕ
 keyCell (User n) = 131072 + n

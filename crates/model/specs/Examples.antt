@@ -9,7 +9,6 @@ use lib.ListN.{replicate, take}
 use Rattle.product.specs.declared.literal.Key.the-variants.{Segment as SegmentKey}
 use Rattle.formula.specs.Outcome.{outcomeOf}
 use Rattle.formula.specs.Examples.{bytes, Examples as FormulaExamples}
-use Rattle.call.specs.Calls.{Call}
 use Rattle.journal.specs.declared.file.Verdict.the-variants.{Readable}
 use Rattle.journal.specs.Reading.{verdictOf, recordsOf}
 use Rattle.journal.specs.Examples.{emptyFile}
@@ -123,8 +122,8 @@ deep =
     ∷ ok (E 0) 16
     ∷ []
 
--- A key is given, and taken while a call that handed it over is open; so a deny lock on that key opens, until it is dropped. Then the grant lock
--- is dropped, and then the thread ended.
+-- A key is given, and taken while a call that handed it over is open. The open call keeps it, so a deny lock on it still opens, until that is
+-- dropped. Then the grant lock is dropped, and then the thread ended.
 abbrev pub edits : List Event
 edits =
     ok U 0

@@ -1,6 +1,7 @@
--- The state is what the history says: after any list of calls from the empty state, whatever the table of refusals asks of users, threads,
--- segments, key lists, defined keys and locks, the list of calls and answers tells. And the text of each standing lock spells a formula, which is
--- what the text holds for. Proved in `proofs/Mirror.antt`. Assumes nothing.
+-- The state is what the history says: after any list of calls from the empty state, what the numbers 1 to 9 of the table ask of users, threads,
+-- segments, key lists, defined keys and locks, the list of calls and answers tells. (14 and 15 are in `Granting`. How many threads live and how many
+-- products a segment has, which 10 asks in S and L, is not said here.) And the text of each standing lock spells a formula, which is what the text
+-- holds for. Proved in `proofs/Mirror.antt`. Assumes nothing.
 use mathlib.Core.Path.{_≡_}
 use mathlib.Core.Bool.{Bool, cond}
 use mathlib.Core.List.{List, [], _∷_, List·Memᴰ}
@@ -51,7 +52,7 @@ pub record Mirrors (es : List Event) (d : State) : Type 0 where
 abbrev pub MirrorByLaws : Type 0
 MirrorByLaws = (compile : Compiler) (meaning : Meaning) → Laws compile meaning → (xs : List Call) → Mirrors (events compile xs) (stateOf (reached compile xs))
 
--- a text of the grammar, under the keys that were handed out when it was compiled, and the formula that it spells
+-- a text of the grammar, under some counts of keys handed out, and the formula that it spells
 pub record Spelt (s : List ℕ) : Type 0 where
   pub issue : Issued
   pub tree : Tree ors

@@ -146,7 +146,7 @@ abbrev pub opensFor : (ℕ → ℕ → Bool) → ℕ → KeySet → LockProduct 
 opensFor stands n keys r = stands (r .operations) n && opens keys (r .product)
 
 -- The first product that opens for thread a, of the locks on segment b that stand for operation n, as deny locks or as grant locks. It is the
--- lowest such lock's, since products are in the order of lock numbers (`inOrder` of `Numbering`).
+-- lowest such lock's: `answer` of `Granting`, `inOrder` of `Numbering`.
 unfoldable pub opening : State → (ℕ → ℕ → Bool) → ℕ → ℕ → ℕ → Option LockProduct
 opening d stands a b n = first (opensFor stands n (keySet a (threadAt d a))) (segmentAt d b .products)
 

@@ -29,7 +29,7 @@ pub record Numbers (compile : Compiler) (es : List Event) (next : Call) (r : Ans
   -- G and T: keys now in the list
   pub keyGiven : (a b c n : ℕ) → decoded next ≡ WellFormed (GiveKey a b c) → r ≡ Accepted n → n ≡ length (listOf (advance (history es) (event next r)) b)
   pub keyTaken : (a b c n : ℕ) → decoded next ≡ WellFormed (TakeKey a b c) → r ≡ Accepted n → n ≡ length (listOf (advance (history es) (event next r)) b)
-  -- D: products removed, those that the compiler made of the lock's text
+  -- D: products removed, as many as the compiler made of the lock's text under some counts of keys handed out
   pub dropped : (a b n : ℕ) → decoded next ≡ WellFormed (DropLock a b) → r ≡ Accepted n → (l : Lock) → List·Memᴰ l (history es .locks) → l .number ≡ b
       → (i : Issued) × (ps : Sum) × (compile i (l .text) ≡ accepted ps) × (n ≡ length ps)
   -- R: the segment left

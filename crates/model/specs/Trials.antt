@@ -1,5 +1,6 @@
--- A trial for each number of document 01's table with each letter that it can refuse, in the table's order and often with a later one that holds too;
--- the limits from both sides; and places that are freed and used again. Proved in `proofs/Trials.antt`, by computing. Assumes nothing.
+-- A trial for each number from 1 to 15 of document 01's table with each letter that it can refuse, in the table's order and often with a later one
+-- that holds too; calls that are not well formed; the limits from both sides; and places that are freed and used again. Proved in
+-- `proofs/Trials.antt`, by computing. Assumes nothing.
 use mathlib.Core.Path.{_≡_}
 use mathlib.Core.List.{List, [], _∷_, _++_}
 use Prim.Native.Nat.{ℕ, _+_}
@@ -143,7 +144,7 @@ unformed =
     ∷ bad (callWith 82 77 0 1 []) Corrupt
     ∷ []
 
--- the keys that name a thread and its user: of three threads only the third is let in, and only to be denied by what it holds
+-- the keys that name a thread and its user: of three threads only the third is let in, then denied by what it holds, and at last another by its user
 abbrev pub identity : List Event
 identity =
     ok U 0
@@ -190,6 +191,19 @@ listed =
     ∷ ok (G 0 0 7) 8
     ∷ []
 
+-- 16 open calls of a thread, where a return makes room
+abbrev pub frames : List Event
+frames =
+    ok U 0
+    ∷ ok (N 0 0) 0
+    ∷ ok (L 0 0 1 (bytes "U0")) 0
+    ∷ ok (S 0) 0
+    ∷ replicate 16 (ok (C 0 0) 0)
+    ++ bad (C 0 0) Full
+    ∷ ok (R 0) 0
+    ∷ ok (C 0 0) 0
+    ∷ []
+
 -- a state of one user, with so many thread numbers, lock numbers and defined keys handed out, one segment and one free place
 abbrev pub late : ℕ → ℕ → ℕ → State
 late t l k =
@@ -212,7 +226,8 @@ pub record Trials : Type 0 where
   pub segmentsHappen : Happens segments
   pub threadsHappen : Happens liveThreads
   pub listedHappens : Happens listed
-  -- 65,536 thread numbers and lock numbers, 1,024 defined keys
+  pub framesHappen : Happens frames
+  -- on states of the model that are too long to reach by computing: 65,536 thread numbers and lock numbers, 1,024 defined keys
   pub lastThread : answerIn (late 65535 0 0) (S 0) ≡ Accepted 65535
   pub noThread : answerIn (late 65536 0 0) (S 0) ≡ Refused Full
   pub lastLock : answerIn (late 0 65535 0) (L 0 0 1 (bytes "U0")) ≡ Accepted 65535

@@ -34,7 +34,7 @@ pub enum Refusal {
     Denied(u16),
     // 15, no way in
     NotGranted,
-    // 18, broken: the call is not well formed
+    // 18, broken file: the call is not well formed
     Corrupt,
 }
 
