@@ -7,42 +7,30 @@ use Rattle.model.specs.declared.answer.Refusal.the-variants.{UnknownUser
 use Rattle.model.specs.declared.answer.Answer.{Answer}
 use Rattle.model.specs.declared.answer.Answer.the-variants.{Accepted, Refused}
 
-abbrev pub refusalNumber : Refusal → ℕ
-refusalNumber UnknownUser = 1
-refusalNumber NoThread = 2
-refusalNumber NoSegment = 3
-refusalNumber NoKey = 4
-refusalNumber NoLock = 5
-refusalNumber NotOwner = 6
-refusalNumber Unfit = 7
-refusalNumber AlreadyPresent = 8
-refusalNumber NotPresent = 9
-refusalNumber Full = 10
-refusalNumber Malformed = 11
-refusalNumber TooWide = 12
-refusalNumber Unsatisfiable = 13
-refusalNumber (Denied lock) = 14
-refusalNumber NotGranted = 15
-refusalNumber Corrupt = 18
+-- 'its number and, with 14, the lock, else 0'
+abbrev pub numbersOf : Refusal → ℕ × ℕ
+numbersOf UnknownUser = (1, 0)
+numbersOf NoThread = (2, 0)
+numbersOf NoSegment = (3, 0)
+numbersOf NoKey = (4, 0)
+numbersOf NoLock = (5, 0)
+numbersOf NotOwner = (6, 0)
+numbersOf Unfit = (7, 0)
+numbersOf AlreadyPresent = (8, 0)
+numbersOf NotPresent = (9, 0)
+numbersOf Full = (10, 0)
+numbersOf Malformed = (11, 0)
+numbersOf TooWide = (12, 0)
+numbersOf Unsatisfiable = (13, 0)
+numbersOf (Denied lock) = (14, lock)
+numbersOf NotGranted = (15, 0)
+numbersOf Corrupt = (18, 0)
 
--- 'with 14, the lock, else 0'
+abbrev pub refusalNumber : Refusal → ℕ
+refusalNumber r = numbersOf r .0
+
 abbrev pub secondNumber : Refusal → ℕ
-secondNumber UnknownUser = 0
-secondNumber NoThread = 0
-secondNumber NoSegment = 0
-secondNumber NoKey = 0
-secondNumber NoLock = 0
-secondNumber NotOwner = 0
-secondNumber Unfit = 0
-secondNumber AlreadyPresent = 0
-secondNumber NotPresent = 0
-secondNumber Full = 0
-secondNumber Malformed = 0
-secondNumber TooWide = 0
-secondNumber Unsatisfiable = 0
-secondNumber (Denied lock) = lock
-secondNumber NotGranted = 0
-secondNumber Corrupt = 0
+secondNumber r = numbersOf r .1
 
 abbrev pub isAccepted : Answer → Bool
 isAccepted (Accepted n) = true
