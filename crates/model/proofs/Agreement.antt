@@ -4,7 +4,7 @@ use mathlib.Core.Path.{_≡_, refl, sym, ap, _∙_}
 use mathlib.Core.Bool.{true, false, not, cond, true≢false}
 use mathlib.Core.List.{List, [], _∷_}
 use mathlib.Core.Option.{Option, none, some}
-use Prim.Native.Nat.{ℕ, zero, suc, _<_}
+use Prim.Native.Nat.{ℕ, zero, suc, _+_, _<_}
 use native.Mathlib.Omega.{arith}
 use lib.Dec.{eqb}
 use lib.ListN.{length, getD, set, length-set, replicate}
@@ -26,18 +26,19 @@ use Rattle.model.specs.declared.answer.Refusal.{Refusal}
 use Rattle.model.specs.Lists.{adjust, tailOf}
 use Rattle.model.specs.Limits.{mostThreads, passes}
 use Rattle.model.specs.Threads.{Thread}
-use Rattle.model.specs.Model.{State, emptyState, free, taken, Segment, nowhere, segmentAt, liveIn, isMalformed, isTooWide, isUnsatisfiable, issued, isLive, isLock, homeOf, placeOf, onThread, pushFrame, popFrame, giveKey, takeKey, addProducts, dropProducts, onSegment, conditions, update, answer, judged, stepDecoded, step}
+use Rattle.model.specs.Model.{State, emptyState, isFree, placeFor, free, taken, Segment, nowhere, segmentAt, liveIn, isMalformed, isTooWide, isUnsatisfiable, issued, isLive, isLock, homeOf, placeOf, onThread, pushFrame, popFrame, giveKey, takeKey, addProducts, dropProducts, onSegment, conditions, update, answer, judged, stepDecoded, step}
 use Rattle.model.specs.History.{History, Entry, Event, event, emptyHistory, withEntries, onFrames, listOf, note, noteAnswer, advance, historyFrom, history, counts, countFrom, acceptedOf}
 use Rattle.model.specs.Replay.{stateAfter, eventsOf}
 use Rattle.model.proofs.Lists.{at-lt, length-append-one}
-use Rattle.model.proofs.Places.{AgreeThreads, Lives, lives, spare, agree-start, agree-change, agree-end}
+use Rattle.model.proofs.Places.{AgreeThreads, Lives, lives, spare, one, live-change, one-onThread, agree-start, agree-change, agree-end}
 use Rattle.model.proofs.Segments.{AgreeSegments, entryOf, agree-new, agree-adjust, agree-unseen, products-append-one, products-same}
 use Rattle.model.proofs.Locks.{AgreeLocks, agree-rows, agree-add, agree-drop}
 
--- the numbers handed out, as the letters U, S, N, K and L were counted
+-- the numbers handed out, as the letters U, S, N, K and L were counted; and the live threads, those that S started and E did not end
 abbrev pub AgreeCounts : State → (ℕ → ℕ) → Type 0
 AgreeCounts d count =
     (d .users ≡ count 85) × (d .threadNumbers ≡ count 83) × (length (d .segments) ≡ count 78) × (length (d .makers) ≡ count 75) × (d .lockNumbers ≡ count 76)
+    × (liveIn (d .places) + count 69 ≡ count 83)
 
 pub record Agrees (compile : Compiler) (d : State) (h : History) (count : ℕ → ℕ) : Type 0 where
   pub threads : AgreeThreads (d .places) (d .threadNumbers) (h .threads)
@@ -66,21 +67,25 @@ module _ (compile : Compiler) (holds : Meaning) (laws : Laws compile holds) (tex
   keep-user : Kept NewUser
   unfolding conditions update answer note
   keep-user e =
-      let (u, t, s, k, l) = c .counts in
-      record { threads = c .threads; segments = c .segments; locks = c .locks; counts = (ap suc u, t, s, k, l) }
+      let (u, t, s, k, l, v) = c .counts in
+      record { threads = c .threads; segments = c .segments; locks = c .locks; counts = (ap suc u, t, s, k, l, v) }
 
   keep-start : (a : ℕ) → Kept (StartThread a)
   unfolding conditions update answer note
   keep-start a e =
-      let (u, t, s, k, l) = c .counts in
+      let (u, t, s, k, l, v) = c .counts in
       let f = all-fail (conditions compile d (StartThread a) text) e in
       let room = neither (passes mostThreads (suc (liveIn (d .places)))) _ (f .1 .0) .0 in
       let p = spare (d .threadNumbers) (d .places) (c .threads .count) room in
+      let i = placeFor (d .threadNumbers) isFree (d .places) in
+      let x = taken (d .threadNumbers) (record { user = a; frames = [] }) in
+      let was : one (getD (d .places) i free) ≡ 0 = ap one (p .is-free) in
+      let started : liveIn (set (d .places) i x) + count 69 ≡ suc (count 83) = let h = live-change (d .places) i x (p .low) in omega arith in
       record {
         threads = agree-start (d .places) (d .threadNumbers) (h .threads) (c .threads) _ (record { user = a; frames = [] }) (p .low) (p .is-free);
         segments = c .segments;
         locks = c .locks;
-        counts = (u, ap suc t, s, k, l);
+        counts = (u, ap suc t, s, k, l, started);
       }
 
   alive : (a : ℕ) → not (isLive d a) ≡ false → Lives a (d .places)
@@ -89,30 +94,34 @@ module _ (compile : Compiler) (holds : Meaning) (laws : Laws compile holds) (tex
   keep-end : (a : ℕ) → Kept (EndThread a)
   unfolding conditions update answer note
   keep-end a e =
+      let (u, t, s, k, l, v) = c .counts in
       let p = alive a (all-fail (conditions compile d (EndThread a) text) e .0) in
+      let i = placeOf a (d .places) in
+      let was : one (getD (d .places) i free) ≡ 1 = ap one (p .taken-by) in
+      let ended : liveIn (set (d .places) i free) + suc (count 69) ≡ count 83 = let h = live-change (d .places) i free (p .low) in omega arith in
       record {
         threads = agree-end (d .places) (d .threadNumbers) (h .threads) (c .threads) a (placeOf a (d .places)) (p .thread) (p .low) (p .taken-by);
         segments = c .segments;
         locks = c .locks;
-        counts = c .counts;
+        counts = (u, t, s, k, l, ended);
       }
 
   keep-segment : (a b : ℕ) → Kept (NewSegment a b)
   unfolding conditions update answer note
   keep-segment a b e =
-      let (u, t, s, k, l) = c .counts in
+      let (u, t, s, k, l, v) = c .counts in
       record {
         threads = c .threads;
         segments = agree-new (d .segments) (h .segments) (c .segments) _;
         locks = agree-rows compile (d .segments) (d .lockNumbers) (h .locks) (c .locks) _ (products-append-one (d .segments) _ refl);
-        counts = (u, t, length-append-one (d .segments) _ ∙ ap suc s, k, l);
+        counts = (u, t, length-append-one (d .segments) _ ∙ ap suc s, k, l, v);
       }
 
   keep-key : (a : ℕ) → Kept (NewKey a)
   unfolding conditions update answer note
   keep-key a e =
-      let (u, t, s, k, l) = c .counts in
-      record { threads = c .threads; segments = c .segments; locks = c .locks; counts = (u, t, s, length-append-one (d .makers) a ∙ ap suc k, l) }
+      let (u, t, s, k, l, v) = c .counts in
+      record { threads = c .threads; segments = c .segments; locks = c .locks; counts = (u, t, s, length-append-one (d .makers) a ∙ ap suc k, l, v) }
 
   -- a change of a segment that leaves its products alone
   keep-adjust : (b : ℕ) (f : Segment → Segment) (F : Entry → Entry) → ((g : Segment) → entryOf (f g) ≡ F (entryOf g))
@@ -123,7 +132,7 @@ module _ (compile : Compiler) (holds : Meaning) (laws : Laws compile holds) (tex
         threads = c .threads;
         segments = agree-adjust (d .segments) (h .segments) (c .segments) b f F same;
         locks = agree-rows compile (d .segments) (d .lockNumbers) (h .locks) (c .locks) _ (products-same (d .segments) b f products);
-        counts = (k .0, k .1, length-set (d .segments) b _ ∙ k .2, k .3, k .4);
+        counts = (k .0, k .1, length-set (d .segments) b _ ∙ k .2, k .3, k .4, k .5);
       }
 
   keep-give : (a b k : ℕ) → Kept (GiveKey a b k)
@@ -137,7 +146,7 @@ module _ (compile : Compiler) (holds : Meaning) (laws : Laws compile holds) (tex
   keep-lock : (a b o : ℕ) → Kept (AddLock a b o)
   unfolding conditions update answer note
   keep-lock a b o e =
-      let (u, t, s, k, l) = c .counts in
+      let (u, t, s, k, l, v) = c .counts in
       let f = all-fail (conditions compile d (AddLock a b o) text) e in
       let lt = ltb-true b (length (d .segments)) (not-false _ (f .1 .0)) in
       let x = compile (issued d) text in
@@ -146,19 +155,19 @@ module _ (compile : Compiler) (holds : Meaning) (laws : Laws compile holds) (tex
         threads = c .threads;
         segments = agree-unseen (d .segments) (h .segments) (c .segments) b (addProducts (d .lockNumbers) o (sumIn x)) (λ g. refl);
         locks = agree-add compile (d .segments) (d .lockNumbers) (h .locks) (c .locks) b o text (sumIn x) lt (laws .bounds (issued d) text _ ps .filled) (issued d) ps;
-        counts = (u, t, length-set (d .segments) b _ ∙ s, k, ap suc l);
+        counts = (u, t, length-set (d .segments) b _ ∙ s, k, ap suc l, v);
       }
 
   keep-drop : (a n : ℕ) → Kept (DropLock a n)
   unfolding conditions update answer note
   keep-drop a n e =
-      let (u, t, s, k, l) = c .counts in
+      let (u, t, s, k, l, v) = c .counts in
       let there : isLock d n ≡ true = not-false _ (all-fail (conditions compile d (DropLock a n) text) e .1 .0) in
       record {
         threads = c .threads;
         segments = agree-unseen (d .segments) (h .segments) (c .segments) (homeOf d n) (dropProducts n) (λ g. refl);
         locks = agree-drop compile (d .segments) (d .lockNumbers) (h .locks) (c .locks) n there;
-        counts = (u, t, length-set (d .segments) (homeOf d n) _ ∙ s, k, l);
+        counts = (u, t, length-set (d .segments) (homeOf d n) _ ∙ s, k, l, v);
       }
 
   -- a change of a live thread: what the model makes of it, the history makes too
@@ -168,12 +177,22 @@ module _ (compile : Compiler) (holds : Meaning) (laws : Laws compile holds) (tex
       rw (p .taken-by, same (p .thread))
       (agree-change (d .places) (d .threadNumbers) (h .threads) (c .threads) a (placeOf a (d .places)) (p .thread) F (p .low) (p .taken-by))
 
+  -- and as many live as before
+  same-live : (a : ℕ) → Lives a (d .places) → (f : Thread → Thread)
+      → liveIn (set (d .places) (placeOf a (d .places)) (onThread f (getD (d .places) (placeOf a (d .places)) free))) ≡ liveIn (d .places)
+  same-live a p f =
+      let x = getD (d .places) (placeOf a (d .places)) free in
+      let h = live-change (d .places) (placeOf a (d .places)) (onThread f x) (p .low) in
+      let e = one-onThread f x in
+      omega arith
+
   pub keys-agree : (b : ℕ) → b < length (d .segments) → listOf h b ≡ segmentAt d b .keys
   keys-agree b lt = simp (c .segments b, at-lt (d .segments) b nowhere lt)
 
   keep-call : (a b : ℕ) → Kept (CallSegment a b)
   unfolding conditions update answer note
   keep-call a b e =
+      let (u, t, s, k, l, v) = c .counts in
       let f = all-fail (conditions compile d (CallSegment a b) text) e in
       let lt = ltb-true b (length (d .segments)) (not-false _ (f .1 .0)) in
       record {
@@ -182,17 +201,19 @@ module _ (compile : Compiler) (holds : Meaning) (laws : Laws compile holds) (tex
             (λ t. ap (λ (keys : List Key). pushFrame b keys t) (sym (keys-agree b lt)));
         segments = c .segments;
         locks = c .locks;
-        counts = c .counts;
+        counts = (u, t, s, k, l, ap (λ (n : ℕ). n + count 69) (same-live a (alive a (f .0)) (pushFrame b (segmentAt d b .keys))) ∙ v);
       }
 
   keep-return : (a : ℕ) → Kept (ReturnCall a)
   unfolding conditions update answer note
   keep-return a e =
+      let (u, t, s, k, l, v) = c .counts in
+      let p = alive a (all-fail (conditions compile d (ReturnCall a) text) e .0) in
       record {
-        threads = keep-thread a (alive a (all-fail (conditions compile d (ReturnCall a) text) e .0)) popFrame (onFrames tailOf) (λ t. refl);
+        threads = keep-thread a p popFrame (onFrames tailOf) (λ t. refl);
         segments = c .segments;
         locks = c .locks;
-        counts = c .counts;
+        counts = (u, t, s, k, l, ap (λ (n : ℕ). n + count 69) (same-live a p popFrame) ∙ v);
       }
 
   keep-access : (a b o : ℕ) → Kept (Access a b o)
@@ -253,7 +274,7 @@ module _ (compile : Compiler) (holds : Meaning) (laws : Laws compile holds) wher
         threads = record { count = refl; home = λ n. 0; written = λ n. refl; here = λ i k t e. absurd (none-taken i k t e); below = λ i k t e. absurd (none-taken i k t e) };
         segments = λ s. refl;
         locks = record { standing = []; home = λ n. 0; written = refl; rows = λ s. refl; sound = tt; rising = tt };
-        counts = (refl, refl, refl, refl, refl);
+        counts = (refl, refl, refl, refl, refl, refl);
       }
     where
       none-taken : (i k : ℕ) (t : Thread) → getD (emptyState .places) i free ≡ taken k t → ⊥

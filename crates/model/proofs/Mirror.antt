@@ -152,6 +152,7 @@ mirror-by-laws compile meaning law xs =
       handedOut = issued-as compile es d c;
       lockNumbers = c .counts .4;
       makers = makers-after compile xs emptyState;
+      threads = c .counts .5;
       live = λ n. ap isSome (found-as compile es d c n);
       thread = thread-as compile es d c;
       segment = segment-as compile es d c;

@@ -5,7 +5,7 @@ use mathlib.Core.Path.{_≡_, refl, sym, ap, _∙_}
 use mathlib.Core.Bool.{Bool, true, false, not, cond, false≢true}
 use mathlib.Core.List.{List, [], _∷_}
 use mathlib.Core.Option.{Option, none, some}
-use Prim.Native.Nat.{ℕ, zero, suc, _%_, _<_}
+use Prim.Native.Nat.{ℕ, zero, suc, _+_, _%_, _<_}
 use native.Mathlib.Omega.{arith}
 use lib.Dec.{eqb}
 use lib.ListN.{length, getD, set, length-set}
@@ -15,7 +15,7 @@ use Rattle.call.proofs.Truth.{neither}
 use Rattle.model.specs.Lists.{any, isSome, indexOf, put, strike, adjust, Map, mapOption}
 use Rattle.model.specs.Limits.{mostThreads, passes}
 use Rattle.model.specs.Threads.{Thread}
-use Rattle.model.specs.Model.{Place, free, taken, isFree, liveIn, isThread, threadIn, placeFor, placeOf, findThread}
+use Rattle.model.specs.Model.{Place, free, taken, isFree, liveIn, isThread, threadIn, placeFor, placeOf, findThread, onThread}
 use Rattle.model.proofs.Lists.{caseBool, clash, eqb-self, indexOf-lt, indexOf-passes}
 
 -- ---- the place that passes a test
@@ -115,6 +115,30 @@ spare n places l room =
     really : (x : Place) → isFree x ≡ true → x ≡ free
     really free e = refl
     really (taken k t) e = absurd (false≢true e)
+
+-- ---- how many threads live
+
+abbrev pub one : Place → ℕ
+one free = 0
+one (taken k t) = 1
+
+live-cons : (x : Place) (xs : List Place) → liveIn (x ∷ xs) ≡ one x + liveIn xs
+live-cons free xs = omega arith
+live-cons (taken k t) xs = omega arith
+
+-- a place changed counts as what stands there now, and no more as what stood there
+pub live-change : (places : List Place) (i : ℕ) (x : Place) → i < length places → one (getD places i free) + liveIn (set places i x) ≡ one x + liveIn places
+live-change [] i x h = absurd (omega arith)
+live-change (y ∷ ys) zero x h = let a = live-cons x ys in let b = live-cons y ys in omega arith
+live-change (y ∷ ys) (suc i) x h =
+    let a = live-cons y (set ys i x) in
+    let b = live-cons y ys in
+    let c = live-change ys i x (omega arith) in
+    omega arith
+
+pub one-onThread : (f : Thread → Thread) (x : Place) → one (onThread f x) ≡ one x
+one-onThread f free = refl
+one-onThread f (taken k t) = refl
 
 -- ---- the relation
 

@@ -1,12 +1,12 @@
 -- The state is what the history says: after any list of calls from the empty state, what the numbers 1 to 9 of the table ask of users, threads,
--- segments, key lists, defined keys and locks, the list of calls and answers tells. (14 and 15 are in `Granting`. How many threads live and how many
--- products a segment has, which 10 asks in S and L, is not said here.) And the text of each standing lock spells a formula, which is what the text
--- holds for. Proved in `proofs/Mirror.antt`. Assumes nothing.
+-- segments, key lists, defined keys and locks, the list of calls and answers tells. (14 and 15 are in `Granting`. How many products a segment has, which
+-- 10 asks in L, is not said here.) And the text of each standing lock spells a formula, which is what the text holds for. Proved in
+-- `proofs/Mirror.antt`. Assumes nothing.
 use mathlib.Core.Path.{_≡_}
 use mathlib.Core.Bool.{Bool, cond}
 use mathlib.Core.List.{List, [], _∷_, List·Memᴰ}
 use mathlib.Core.Option.{some}
-use Prim.Native.Nat.{ℕ}
+use Prim.Native.Nat.{ℕ, _+_}
 use lib.Dec.{eqb}
 use Rattle.product.specs.declared.literal.Key.{Key}
 use Rattle.product.specs.declared.literal.Key.the-variants.{Segment as SegmentKey}
@@ -20,7 +20,7 @@ use Rattle.formula.specs.Compiler.{Compiler, Meaning, Laws}
 use Rattle.call.specs.Calls.{Call}
 use Rattle.model.specs.Lists.{any, isSome}
 use Rattle.model.specs.Threads.{Thread}
-use Rattle.model.specs.Model.{State, issued, isLive, threadAt, isSegment, segmentAt, isLock, homeOf}
+use Rattle.model.specs.Model.{State, issued, liveIn, isLive, threadAt, isSegment, segmentAt, isLock, homeOf}
 use Rattle.model.specs.Cells.{stateOf}
 use Rattle.model.specs.History.{Event, Entry, Lock, history, counts, acceptedOf}
 use Rattle.model.specs.Replay.{reached, events, historyOf}
@@ -36,7 +36,8 @@ pub record Mirrors (es : List Event) (d : State) : Type 0 where
   pub lockNumbers : d .lockNumbers ≡ acceptedOf 76 es
   -- each defined key's maker
   pub makers : d .makers ≡ makersOf es
-  -- live threads, with their user and frames
+  -- live threads, as many as S started and E did not end, with their user and frames
+  pub threads : liveIn (d .places) + acceptedOf 69 es ≡ acceptedOf 83 es
   pub live : (n : ℕ) → isLive d n ≡ isSome (history es .threads n)
   pub thread : (n : ℕ) (t : Thread) → history es .threads n ≡ some t → threadAt d n ≡ t
   -- segments, with their owner, kind and key list, which starts with its own S key
