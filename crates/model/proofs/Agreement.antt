@@ -26,11 +26,11 @@ use Rattle.model.specs.declared.answer.Refusal.{Refusal}
 use Rattle.model.specs.Lists.{adjust, tailOf}
 use Rattle.model.specs.Limits.{mostThreads, passes}
 use Rattle.model.specs.Threads.{Thread}
-use Rattle.model.specs.Model.{State, emptyState, isFree, placeFor, free, taken, Segment, nowhere, segmentAt, liveIn, isMalformed, isTooWide, isUnsatisfiable, issued, isLive, isLock, homeOf, placeOf, onThread, pushFrame, popFrame, giveKey, takeKey, addProducts, dropProducts, onSegment, conditions, update, answer, judged, stepDecoded, step}
+use Rattle.model.specs.Model.{State, emptyState, findThread, threadAt, isFree, placeFor, free, taken, Segment, nowhere, segmentAt, liveIn, isMalformed, isTooWide, isUnsatisfiable, issued, isLive, isLock, homeOf, placeOf, onThread, pushFrame, popFrame, giveKey, takeKey, addProducts, dropProducts, onSegment, conditions, update, answer, judged, stepDecoded, step}
 use Rattle.model.specs.History.{History, Entry, Event, event, emptyHistory, withEntries, onFrames, listOf, note, noteAnswer, advance, historyFrom, history, counts, countFrom, acceptedOf}
 use Rattle.model.specs.Replay.{stateAfter, eventsOf}
 use Rattle.model.proofs.Lists.{at-lt, length-append-one}
-use Rattle.model.proofs.Places.{AgreeThreads, Lives, lives, spare, one, live-change, one-onThread, agree-start, agree-change, agree-end}
+use Rattle.model.proofs.Places.{AgreeThreads, look, Lives, lives, spare, one, live-change, one-onThread, agree-start, agree-change, agree-end}
 use Rattle.model.proofs.Segments.{AgreeSegments, entryOf, agree-new, agree-adjust, agree-unseen, products-append-one, products-same}
 use Rattle.model.proofs.Locks.{AgreeLocks, agree-rows, agree-add, agree-drop}
 
@@ -233,6 +233,15 @@ module _ (compile : Compiler) (holds : Meaning) (laws : Laws compile holds) (tex
   keep-all (CallSegment a b) = keep-call a b
   keep-all (ReturnCall a) = keep-return a
   keep-all (Access a b o) = keep-access a b o
+
+-- ---- a thread that the history has
+
+module _ (compile : Compiler) (d : State) (h : History) (count : ℕ → ℕ) (c : Agrees compile d h count) where
+  pub found-as : (n : ℕ) → findThread n (d .places) ≡ h .threads n
+  found-as n = sym (look (d .places) (d .threadNumbers) (h .threads) (c .threads) n)
+
+  pub thread-as : (n : ℕ) (t : Thread) → h .threads n ≡ some t → threadAt d n ≡ t
+  thread-as n t e = let f : findThread n (d .places) ≡ some t = found-as n ∙ e in simp f
 
 -- ---- every call, accepted or not
 

@@ -29,10 +29,9 @@ use Rattle.model.specs.Model.{State, LockProduct, segmentAt, findThread,
 use Rattle.model.specs.History.{History, Entry, Lock, handsOut}
 use Rattle.model.specs.Granting.{Operation, calls, accesses, requestOf, threadOf, targetOf, operationOf, isKnown, hasRoom, lockOpens, verdict, answerFrom}
 use Rattle.model.proofs.Lists.{caseBool, some-inj, some≢none}
-use Rattle.model.proofs.Places.{look}
 use Rattle.model.proofs.Segments.{entry-low, entry-is}
 use Rattle.model.proofs.Locks.{check-agrees}
-use Rattle.model.proofs.Agreement.{Agrees}
+use Rattle.model.proofs.Agreement.{Agrees, found-as, thread-as}
 
 -- an accepted call: no condition held, its answer is the model's, and the state is what it changes
 pub record Taken (compile : Compiler) (d : State) (next : Call) (q : Request) (n : ℕ) : Type 0 where
@@ -89,11 +88,8 @@ under-limit most n =
 
 module _ (compile : Compiler) (holds : Meaning) (laws : Laws compile holds) (text : List ℕ) (d : State) (h : History) (count : ℕ → ℕ) (c : Agrees compile d h count) where
   module _ (o : Operation) (t : Thread) (live : h .threads (threadOf o) ≡ some t) (entry : Entry) (out : h .segments (targetOf o) ≡ some entry) where
-    pub found : findThread (threadOf o) (d .places) ≡ some t
-    found = sym (look (d .places) (d .threadNumbers) (h .threads) (c .threads) (threadOf o)) ∙ live
-
-    thread-is : threadAt d (threadOf o) ≡ t
-    thread-is = simp found
+    found : findThread (threadOf o) (d .places) ≡ some t
+    found = found-as compile d h count c (threadOf o) ∙ live
 
     out-test : isSegment d (targetOf o) ≡ true
     out-test = lt-ltb (targetOf o) (length (d .segments)) (entry-low (d .segments) (h .segments) (c .segments) (targetOf o) entry out)
@@ -106,7 +102,7 @@ module _ (compile : Compiler) (holds : Meaning) (laws : Laws compile holds) (tex
     unfolding opening
     check stands =
         check-agrees compile holds laws (d .segments) (d .lockNumbers) (h .locks) (c .locks) stands (targetOf o) (operationOf o) (keySet (threadOf o) (threadAt d (threadOf o)))
-        ∙ rw thread-is
+        ∙ rw (thread-as compile d h count c (threadOf o) t live)
 
   pub answers-from : (o : Operation) (t : Thread) → h .threads (threadOf o) ≡ some t → (entry : Entry) → h .segments (targetOf o) ≡ some entry
       → isKnown o ≡ true → takes (entry .kind) (operationOf o) ≡ true

@@ -205,11 +205,6 @@ module _ {A : Type 0} where
   at-set (y ∷ ys) (suc i) f d zero = simp eqb·zero-suc
   at-set (y ∷ ys) (suc i) f d (suc j) = simp eqb·suc-suc (at-set ys i f d j)
 
-  pub getD-at : (xs : List A) (i : ℕ) (d : A) (x : A) → getElem? xs i ≡ some x → getD xs i d ≡ x
-  getD-at [] i d x e = let z : _≡_ {A = ℕ} 0 1 = cc in absurd (omega arith)
-  getD-at (y ∷ ys) zero d x e = cc
-  getD-at (y ∷ ys) (suc i) d x e = getD-at ys i d x e
-
   pub at-lt : (xs : List A) (i : ℕ) (d : A) → i < length xs → getElem? xs i ≡ some (getD xs i d)
   at-lt [] i d h = absurd (not-suc-le-zero h)
   at-lt (y ∷ ys) zero d h = refl

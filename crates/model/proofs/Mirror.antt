@@ -28,18 +28,16 @@ use Rattle.call.proofs.Requests.{requests-exactly}
 use Rattle.model.specs.declared.answer.Refusal.{Refusal}
 use Rattle.model.specs.declared.answer.Answer.the-variants.{Accepted}
 use Rattle.model.specs.Lists.{isSome, mapOption, keep, tailOf}
-use Rattle.model.specs.Threads.{Thread}
-use Rattle.model.specs.Model.{State, emptyState, Segment, issued, findThread, threadAt, nowhere, segmentAt, isSegment, isLock, homeOf, conditions, update, answer, judged, stepDecoded, step}
+use Rattle.model.specs.Model.{State, emptyState, Segment, issued, nowhere, segmentAt, isSegment, isLock, homeOf, conditions, update, answer, judged, stepDecoded, step}
 use Rattle.model.specs.Cells.{Cells, Sized, rowAt, tableAt, keyIn, hasKey, stateOf}
 use Rattle.model.specs.History.{Event, Entry, Lock, event, history, counts, acceptedOf}
 use Rattle.model.specs.Replay.{stateAfter, eventsOf}
 use Rattle.model.specs.Mirror.{makersOf, MirrorByLaws, Spelt, Mirror}
 use Rattle.model.proofs.Lists.{caseBool, same-truth, eqb-self, any-passes, at-lt, isSome-some}
 use Rattle.model.proofs.Literals.{keyIn-segment}
-use Rattle.model.proofs.Places.{look}
 use Rattle.model.proofs.Segments.{entryOf, entry-low, entry-is}
 use Rattle.model.proofs.Locks.{found, lock-homed, lock-stands, lock-products}
-use Rattle.model.proofs.Agreement.{Agrees, agree}
+use Rattle.model.proofs.Agreement.{Agrees, agree, found-as, thread-as}
 use Rattle.model.proofs.SegmentTables.{kept-list}
 use Rattle.model.proofs.Refinement.{segment-is, segment-shaped, handed, follows}
 
@@ -48,12 +46,6 @@ use Rattle.model.proofs.Refinement.{segment-is, segment-shaped, handed,
 module _ (compile : Compiler) (es : List Event) (d : State) (c : Agrees compile d (history es) (λ k. acceptedOf k es)) where
   issued-as : issued d ≡ record { users = acceptedOf 85 es; threads = acceptedOf 83 es; segments = acceptedOf 78 es; defined = acceptedOf 75 es }
   issued-as = λ i. record { users = c .counts .0 i; threads = c .counts .1 i; segments = c .counts .2 i; defined = c .counts .3 i }
-
-  found-as : (n : ℕ) → findThread n (d .places) ≡ history es .threads n
-  found-as n = sym (look (d .places) (d .threadNumbers) (history es .threads) (c .threads) n)
-
-  thread-as : (n : ℕ) (t : Thread) → history es .threads n ≡ some t → threadAt d n ≡ t
-  thread-as n t e = let f : findThread n (d .places) ≡ some t = found-as n ∙ e in simp f
 
   segment-as : (s : ℕ) → isSegment d s ≡ isSome (history es .segments s)
   segment-as s =
@@ -146,6 +138,7 @@ mirror-by-laws compile meaning law xs =
     let es = eventsOf compile emptyState xs in
     let owned : (s : ℕ) → isSegment d s ≡ true → (rest : List Key) × (segmentAt d s .keys ≡ SegmentKey s ∷ rest) =
     rw (f .state) at (own-key _ (f .sized)) in
+    let count : ℕ → ℕ = λ k. acceptedOf k es in
     let entry = entry-as compile es d c in
     rw (f .events, f .state)
     (record {
@@ -153,8 +146,8 @@ mirror-by-laws compile meaning law xs =
       lockNumbers = c .counts .4;
       makers = makers-after compile xs emptyState;
       threads = c .counts .5;
-      live = λ n. ap isSome (found-as compile es d c n);
-      thread = thread-as compile es d c;
+      live = λ n. ap isSome (found-as compile d (history es) count c n);
+      thread = thread-as compile d (history es) count c;
       segment = segment-as compile es d c;
       owner = λ s e h. ap (λ (x : Entry). x .owner) (entry s e h);
       kind = λ s e h. ap (λ (x : Entry). x .kind) (entry s e h);

@@ -22,13 +22,12 @@ use Rattle.model.specs.declared.answer.Answer.{Answer}
 use Rattle.model.specs.declared.answer.Answer.the-variants.{Accepted}
 use Rattle.model.specs.Lists.{keep}
 use Rattle.model.specs.Threads.{Frame, Thread}
-use Rattle.model.specs.Model.{State, emptyState, Segment, nowhere, segmentAt, findThread, threadAt, isLock, isOfLock, homeOf, giveKey, takeKey, newest, conditions, update, answer, step}
+use Rattle.model.specs.Model.{State, emptyState, Segment, nowhere, segmentAt, isLock, isOfLock, homeOf, giveKey, takeKey, newest, conditions, update, answer, step}
 use Rattle.model.specs.History.{History, Lock, event, advance, history, listOf, acceptedOf}
 use Rattle.model.specs.Replay.{reached, stateAfter, eventsOf, answerTo}
 use Rattle.model.specs.Numbering.{Numbers, NumberingByLaws, Numbering}
-use Rattle.model.proofs.Places.{look}
 use Rattle.model.proofs.Locks.{found, lock-homed, lock-products, locks-rise}
-use Rattle.model.proofs.Agreement.{Agrees, agree, counted, step-agrees, keys-agree}
+use Rattle.model.proofs.Agreement.{Agrees, agree, thread-as, counted, step-agrees, keys-agree}
 use Rattle.model.proofs.Checking.{taken}
 use Rattle.model.proofs.Refinement.{refinement-by-laws, follows}
 
@@ -39,18 +38,15 @@ module _ (compile : Compiler) (holds : Meaning) (law : Laws compile holds) (d : 
   abbrev text : List ℕ
   text = next .text
 
-  thread-is : (a : ℕ) (t : Thread) → h .threads a ≡ some t → threadAt d a ≡ t
-  thread-is a t e = let f : findThread a (d .places) ≡ some t = sym (look (d .places) (d .threadNumbers) (h .threads) (c .threads) a) ∙ e in simp f
-
   ended-as : (a n : ℕ) → decoded next ≡ WellFormed (EndThread a) → r ≡ Accepted n → (t : Thread) → h .threads a ≡ some t → n ≡ length (t .frames)
   unfolding answer
-  ended-as a n e k t live = taken compile d next (EndThread a) n e k .number ∙ ap (λ (x : Thread). length (x .frames)) (thread-is a t live)
+  ended-as a n e k t live = taken compile d next (EndThread a) n e k .number ∙ ap (λ (x : Thread). length (x .frames)) (thread-as compile d h count c a t live)
 
   left-as : (a n : ℕ) → decoded next ≡ WellFormed (ReturnCall a) → r ≡ Accepted n → (t : Thread) → h .threads a ≡ some t
       → (f : Frame) (fs : List Frame) → t .frames ≡ f ∷ fs → n ≡ f .segment
   unfolding answer
   left-as a n e k t live f fs w =
-      taken compile d next (ReturnCall a) n e k .number ∙ ap (λ (x : Thread). newest (x .frames)) (thread-is a t live) ∙ ap newest w
+      taken compile d next (ReturnCall a) n e k .number ∙ ap (λ (x : Thread). newest (x .frames)) (thread-as compile d h count c a t live) ∙ ap newest w
 
   -- the list that the history has after a change of segment b is the changed one
   listed-as : (b : ℕ) (f : Segment → Segment) → b < length (d .segments) → step compile d next .state .segments ≡ set (d .segments) b (f (segmentAt d b))
