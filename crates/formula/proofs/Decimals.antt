@@ -83,7 +83,7 @@ number-read (suc m) r h =
 
 -- what is read is spelt
 
-digits-fuel : (f g n : ℕ) → n < f → n < g → digits f n ≡ digits g n
+pub digits-fuel : (f g n : ℕ) → n < f → n < g → digits f n ≡ digits g n
 unfolding digits
 digits-fuel zero g n h k = let z : ⊥ = omega arith in absurd z
 digits-fuel (suc f) zero n h k = let z : ⊥ = omega arith in absurd z

@@ -1,5 +1,7 @@
 pub mod Lists
 pub mod Places
+pub mod OperationSets
+pub mod Serving
 pub mod Segments
 pub mod Locks
 pub mod Agreement

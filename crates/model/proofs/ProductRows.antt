@@ -38,7 +38,7 @@ pub length-used : (t : Table) → length (usedRows t) ≤ length t
 length-used [] = zero-le
 length-used (w ∷ t) = caseBool (isUsed w) (λ e. simp e (suc-le-suc (length-used t))) (λ e. simp e zero-le)
 
-take-used : (t : Table) → take (length (usedRows t)) t ≡ usedRows t
+pub take-used : (t : Table) → take (length (usedRows t)) t ≡ usedRows t
 take-used [] = refl
 take-used (w ∷ t) = caseBool (isUsed w) (λ e. simp e (ap (λ (r : Table). w ∷ r) (take-used t))) (λ e. simp e)
 

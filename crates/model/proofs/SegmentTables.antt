@@ -47,7 +47,7 @@ hasKey-below : (x : ℕ) → x < noKey → hasKey x ≡ true
 hasKey-below x lt = let e : eqb x noKey ≡ false = ne-eqb x noKey (λ q. omega arith) in simp e
 
 -- the code of a defined key tells it from every other key
-same-code : (k y : ℕ) → sameKey (Defined k) (keyIn y) ≡ eqb (definedCell k) y
+pub same-code : (k y : ℕ) → sameKey (Defined k) (keyIn y) ≡ eqb (definedCell k) y
 unfolding compareAtoms orderOf
 same-code k y =
     caseBool (ltb y mostSegments)

@@ -5,6 +5,7 @@ pub mod Lists
 pub mod Threads
 pub mod Model
 pub mod Cells
+pub mod Serving
 pub mod History
 pub mod Replay
 pub mod Granting

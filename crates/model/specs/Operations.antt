@@ -1,6 +1,7 @@
 -- Document 01, 'Operations and the check': operations, sets of them, and which of them a segment takes. Assumes nothing.
 use mathlib.Core.Bool.{Bool, _&&_, _||_, not, cond}
 use Prim.Native.Nat.{ℕ, _/_, _%_}
+use lib.Bits.{bitAnd}
 use lib.Dec.{eqb, ltb}
 
 -- 'numbered 1 execute, 2 read and 4 write, with 8 for deny'
@@ -19,6 +20,10 @@ deny = 8
 -- a set of operations is the sum of their numbers; n is one of them
 abbrev pub includes : ℕ → ℕ → Bool
 includes operations n = eqb (operations / n % 2) 1
+
+-- the sets have an operation in common; of one operation this is `includes`: `shares-one` in `proofs/OperationSets`
+abbrev pub shares : ℕ → ℕ → Bool
+shares operations n = not (eqb (bitAnd operations n) 0)
 
 -- a lock with that set stands for an operation as a deny lock: 'with 8 among them it is a deny lock, else a grant lock'
 abbrev pub denies : ℕ → ℕ → Bool
