@@ -1,0 +1,3 @@
+pub mod Codes
+pub mod Turns
+pub mod Deciding
