@@ -1,0 +1,71 @@
+// S, E and R.
+ghost use mathlib.Core.List.{List};
+ghost use Prim.Native.Nat.{ℕ};
+ghost use Rattle.call.specs.declared.request.Request.the-variants.{StartThread, EndThread, ReturnCall};
+ghost use Rattle.model.specs.Cells.{Row, Table};
+ghost use Rattle.model.specs.Serving.{cellsWith, Serves};
+use crate::frames::depth;
+use crate::place::PLACES;
+use crate::place::find;
+use crate::place::find_free;
+use model::answer::Answer;
+use model::answer::Refusal;
+use model::arrays::FRAMES;
+use model::arrays::LIVE;
+use model::arrays::Registry;
+use model::arrays::THREADS;
+use model::arrays::Threads;
+use registry::is_user;
+
+const MOST_NUMBERS: u32 = 65536;
+
+// S, start thread.
+pub fn start_thread(registry: &mut Registry, threads: &mut Threads, user: u16) -> Answer
+    ensures { λ r. ⌜ ((makers : Row) (segments locks : List Table) (text : List ℕ) → Serves (cellsWith (now (registry .entry)) makers segments locks (now (threads .entry))) (StartThread user) text r (cellsWith (now (registry .exit)) makers segments locks (now (threads .exit)))) ⌝ }
+{
+    if !is_user(registry, user) {
+        return Answer::Refused(Refusal::UnknownUser);
+    }
+    let numbers = registry[THREADS];
+    if MOST_NUMBERS <= numbers {
+        return Answer::Refused(Refusal::Full);
+    }
+    let number = numbers as u16;
+    let place = find_free(threads, number);
+    if PLACES <= place {
+        return Answer::Refused(Refusal::Full);
+    }
+    registry[THREADS] = numbers + 1;
+    threads[place][0] = [number, user, 0, 1, 0, 0, 0, 0];
+    Answer::Accepted(number)
+}
+
+// E, end thread.
+pub fn end_thread(threads: &mut Threads, number: u16) -> Answer
+    ensures { λ r. ⌜ ((registry makers : Row) (segments locks : List Table) (text : List ℕ) → Serves (cellsWith registry makers segments locks (now (threads .entry))) (EndThread number) text r (cellsWith registry makers segments locks (now (threads .exit)))) ⌝ }
+{
+    let place = find(threads, number);
+    if PLACES <= place {
+        return Answer::Refused(Refusal::NoThread);
+    }
+    let frames = depth(&threads[place]);
+    threads[place][0][LIVE] = 0;
+    Answer::Accepted(frames as u16)
+}
+
+// R, return.
+pub fn return_call(threads: &mut Threads, number: u16) -> Answer
+    ensures { λ r. ⌜ ((registry makers : Row) (segments locks : List Table) (text : List ℕ) → Serves (cellsWith registry makers segments locks (now (threads .entry))) (ReturnCall number) text r (cellsWith registry makers segments locks (now (threads .exit)))) ⌝ }
+{
+    let place = find(threads, number);
+    if PLACES <= place {
+        return Answer::Refused(Refusal::NoThread);
+    }
+    let frames = depth(&threads[place]);
+    if frames == 0 {
+        return Answer::Refused(Refusal::NotPresent);
+    }
+    let segment = threads[place][frames][0];
+    threads[place][0][FRAMES] = (frames - 1) as u16;
+    Answer::Accepted(segment)
+}

@@ -1,0 +1,41 @@
+// A thread's frames.
+ghost use mathlib.Core.Path.{_≡_};
+ghost use mathlib.Core.Bool.{cond};
+ghost use lib.Dec.{ltb};
+ghost use lib.ListN.{set};
+ghost use Rattle.model.specs.Limits.{mostFrames};
+ghost use Rattle.model.specs.Cells.{cell, rowAt, frameCount, depthOf, pushRow};
+ghost use Rattle.registry.specs.Counts.{Counted};
+use model::arrays::FRAMES;
+use model::arrays::Row;
+use model::arrays::Thread;
+
+const MOST_FRAMES: u16 = 16;
+
+// How many frames the thread has.
+pub fn depth(thread: &Thread) -> usize
+    ensures { λ r. ⌜ Counted (cell (rowAt (now (thread .entry)) 0) frameCount) mostFrames r ⌝ }
+{
+    let frames = thread[0][FRAMES];
+    if frames <= MOST_FRAMES {
+        frames as usize
+    } else {
+        MOST_FRAMES as usize
+    }
+}
+
+// A new frame with that key list, the segment's own S key first, where there is room for one.
+pub fn push(thread: &mut Thread, list: &Row, segment: u16) -> bool
+    ensures room { λ r. ⌜ r ≡ ltb (depthOf (now (thread .entry))) mostFrames ⌝ }
+    ensures rows { λ _. ⌜ now (thread .exit) ≡ cond (ltb (depthOf (now (thread .entry))) mostFrames) (pushRow (set (now (list .entry)) 0 segment) (now (thread .entry))) (now (thread .entry)) ⌝ }
+{
+    let frames = depth(thread);
+    if MOST_FRAMES as usize <= frames {
+        return false;
+    }
+    let newest = frames + 1;
+    thread[newest] = *list;
+    thread[newest][0] = segment;
+    thread[0][FRAMES] = newest as u16;
+    true
+}
