@@ -1,0 +1,178 @@
+-- Refused in the order of the table, else the list is stored closed up with the key at its end. Assumes nothing.
+use mathlib.Core.Path.{_≡_, refl, sym, ap, ap₂, _∙_}
+use mathlib.Core.Bool.{Bool, true, false, not, _&&_}
+use mathlib.Core.List.{List}
+use Prim.Native.Nat.{ℕ, suc, _+_, _≤_, _<_}
+use native.Mathlib.Omega.{arith}
+use borrow.Author.Needs.{needs}
+use borrow.Author.Tests.{lt-ltb, le-ltb}
+use denote.Ref.{now}
+use lib.Dec.{eqb}
+use lib.ListN.{length, set}
+use Rattle.product.specs.declared.literal.Key.the-variants.{Defined}
+use Rattle.call.specs.declared.request.Request.{Request}
+use Rattle.call.specs.declared.request.Request.the-variants.{GiveKey}
+use Rattle.model.specs.declared.answer.Refusal.the-variants.{NotOwner, AlreadyPresent, Full}
+use Rattle.model.specs.declared.answer.Answer.the-variants.{Accepted, Refused}
+use Rattle.model.specs.Limits.{mostListed}
+use Rattle.model.specs.Lists.{keep}
+use Rattle.model.specs.Threads.{isIn}
+use Rattle.model.specs.Model.{conditions, answer, owns, made, segmentAt}
+use Rattle.model.specs.Cells.{Row, Table, Cells, cell, rowAt, tableAt, ownerCell, definedCell, hasKey, keyRow, listRow, withSegmentTables, stateOf, store}
+use Rattle.model.specs.Serving.{cellsWith, Serves}
+use Rattle.model.proofs.Lists.{length-append-one}
+use Rattle.model.proofs.Serving.{serves-refused, serves-accepted}
+use Rattle.segments.specs.Steps.{Struck}
+use Rattle.segments.proofs.Judging.{owned-by, in-list, list-length, all-stay}
+use Rattle.segments.proofs.Naming.{Names, Named, stranger, nowhere, unmade, named}
+use Rattle.segments.proofs.Striking.{keyRow-snoc}
+use Rattle.segments.proofs.calls.give_key.Statement.{statement}
+use Rattle.segments.proofs.calls.give_key.Tie as tie
+
+module _ (d : Cells) (text : List ℕ) (u s k : ℕ) where
+  abbrev call : Request
+  call = GiveKey u s k
+
+  names : Names d call text u s k
+  unfolding conditions
+  names = (_, refl)
+
+  abbrev table : Table
+  table = tableAt (d .segments) s
+
+  abbrev codes : List ℕ
+  codes = keep hasKey (listRow s table)
+
+  module _ (z : Named d u s k) where
+    -- the owner of the segment made the key
+    rights : owns (stateOf d) u s && made (stateOf d) u k ≡ eqb (cell (rowAt table 0) ownerCell) u && eqb (cell (d .makers) k) u
+    rights = ap₂ (λ (x y : Bool). x && y) (owned-by d s (z .there) u) (ap (λ (m : ℕ). eqb m u) (z .maker))
+
+    not-owner : not (eqb (cell (rowAt table 0) ownerCell) u && eqb (cell (d .makers) k) u) ≡ true → Serves d call text (Refused NotOwner) d
+    unfolding conditions
+    not-owner e = serves-refused d call text (rw (z .user, z .segment, z .key, rights, e))
+
+    module _ (may : not (eqb (cell (rowAt table 0) ownerCell) u && eqb (cell (d .makers) k) u) ≡ false) {cells : Row} {count : ℕ} {found : Bool}
+        (v : Struck (listRow s table) (definedCell k) cells count found) where
+      told : isIn (Defined k) (segmentAt (stateOf d) s .keys) ≡ found
+      told = in-list d s (z .there) k ∙ sym (v .told)
+
+      present : found ≡ true → Serves d call text (Refused AlreadyPresent) d
+      unfolding conditions
+      present e = serves-refused d call text (rw (z .user, z .segment, z .key, rights, may, told, e))
+
+      module _ (absent : found ≡ false) where
+        -- without the key they are all
+        all : keep (λ y. not (eqb (definedCell k) y)) codes ≡ codes
+        all = all-stay (definedCell k) codes (sym (v .told) ∙ absent)
+
+        many : count ≡ length codes
+        many = v .counted ∙ ap length all
+
+        counted : length (segmentAt (stateOf d) s .keys) ≡ count
+        counted = list-length d s (z .there) ∙ sym many
+
+        full : mostListed ≤ count → Serves d call text (Refused Full) d
+        unfolding conditions
+        full h =
+            serves-refused d call text
+            (rw (z .user, z .segment, z .key, rights, may, told, absent, counted, lt-ltb mostListed (suc count) (omega arith)))
+
+        given : count < mostListed
+            → Serves d call text (Accepted (count + 1)) (withSegmentTables d (set (d .segments) s (set table 1 (set cells count (definedCell k)))))
+        unfolding conditions answer store
+        given h =
+            let e = many in
+            let l = length-append-one (segmentAt (stateOf d) s .keys) (Defined k) in
+            let c = counted in
+            serves-accepted d call text
+            (rw (z .user, z .segment, z .key, rights, may, told, absent, counted, le-ltb mostListed (suc count) (omega arith)))
+            (omega arith)
+            (ap (λ (w : Row). withSegmentTables d (set (d .segments) s (set table 1 w)))
+            (ap₂ (λ (w : Row) (i : ℕ). set w i (definedCell k)) (v .closed ∙ ap keyRow all) e ∙ keyRow-snoc codes (definedCell k) (omega arith)))
+
+named-at : (b : tie.Else3) (locks threads : List Table)
+    → let a = b .before .before .before .before .before .before .before .args in
+    Named (cellsWith (now (a .registry)) (now (a .makers)) (now (a .segments)) locks threads) (a .user) (a .segment) (a .key)
+named-at b locks threads =
+    let e = b .before .before .before .before .before in
+    named (cellsWith _ _ _ locks threads) _ _ _
+    (e .before .is-user .ensures) (e .if1 .left) (b .before .before .before .before .segments .ensures) (b .before .before .before .if2 .left)
+    (b .before .defined .ensures) (b .if3 .left)
+
+returns : tie.Need-returns
+returns c =
+    λ locks threads text.
+    stranger (cellsWith _ _ _ locks threads) (GiveKey _ _ _) text _ _ _ (names (cellsWith _ _ _ locks threads) text _ _ _)
+    (c .before .is-user .ensures) (c .if1 .taken)
+
+returns-2 : tie.Need-returns-2
+returns-2 c =
+    λ locks threads text.
+    nowhere (cellsWith _ _ _ locks threads) (GiveKey _ _ _) text _ _ _ (names (cellsWith _ _ _ locks threads) text _ _ _)
+    (c .before .before .before .is-user .ensures) (c .before .before .if1 .left) (c .before .segments .ensures) (c .if2 .taken)
+
+returns-3 : tie.Need-returns-3
+returns-3 c =
+    let b = c .before .before .before .before .before in
+    λ locks threads text.
+    unmade (cellsWith _ _ _ locks threads) (GiveKey _ _ _) text _ _ _ (names (cellsWith _ _ _ locks threads) text _ _ _)
+    (b .before .is-user .ensures) (b .if1 .left) (c .before .before .before .before .segments .ensures) (c .before .before .before .if2 .left)
+    (c .before .defined .ensures) (c .if3 .taken)
+
+returns-4 : tie.Need-returns-4
+returns-4 c =
+    λ locks threads text. not-owner _ text _ _ _ (named-at (c .before .before .before) locks threads) (c .if4 .taken)
+
+returns-5 : tie.Need-returns-5
+returns-5 c =
+    let e = c .before .before .before in
+    λ locks threads text. present _ text _ _ _ (named-at (e .before .before .before) locks threads) (e .if4 .left) (c .before .strike .ensures) (c .if5 .taken)
+
+returns-6 : tie.Need-returns-6
+returns-6 c =
+    let e = c .before .before .before .before in
+    λ locks threads text.
+    full _ text _ _ _ (named-at (e .before .before .before) locks threads) (e .if4 .left) (c .before .before .strike .ensures)
+    (c .before .if5 .left) (c .if6 .taken)
+
+returns-7 : tie.Need-returns-7
+returns-7 c =
+    let e = c .before .before .before .before .before in
+    λ locks threads text.
+    given _ text _ _ _ (named-at (e .before .before .before) locks threads) (e .if4 .left) (c .before .before .before .strike .ensures)
+    (c .before .before .if5 .left) (c .before .if6 .left)
+
+pub give-key-spec : {M : Type 1} → statement M
+give-key-spec =
+    tie.close
+    (tie.spec
+    (λ c κs. search needs)  -- is-user-requires
+    returns
+    (λ c κs. search needs)  -- segments-requires
+    returns-2
+    (λ c κs. search needs)  -- defined-requires
+    returns-3
+    (λ c. search needs)  -- mul-owner
+    (λ c. search needs)  -- index-1-owner
+    (λ c. search needs)  -- index-2-owner
+    (λ c. search needs)  -- index-3-owner
+    (λ c. search needs)  -- mul-maker
+    (λ c. search needs)  -- element-copy-out-maker
+    returns-4
+    (λ c. search needs)  -- mul-list
+    (λ c. search needs)  -- index-1-list
+    (λ c. search needs)  -- index-2-list
+    (λ c. search needs)  -- add-strike
+    (λ c κs. search needs)  -- strike-requires
+    returns-5
+    returns-6
+    (λ c. search needs)  -- add-cells
+    (λ c. search needs)  -- mul-cells
+    (λ c. search needs)  -- array-write-cells
+    (λ c. search needs)  -- mul-t21
+    (λ c. search needs)  -- index-1-segments
+    (λ c. search needs)  -- index-2-segments
+    (λ c. search needs)  -- cast-t29
+    (λ c. search needs)  -- add-t48
+    returns-7)

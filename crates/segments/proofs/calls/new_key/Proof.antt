@@ -1,0 +1,79 @@
+-- Refused to a stranger and where 1,024 keys are there, else the next number is handed out. Assumes nothing.
+use mathlib.Core.Path.{_≡_, ap, ap₂, _∙_}
+use mathlib.Core.Bool.{Bool, true, false, not}
+use mathlib.Core.List.{List}
+use Prim.Native.Nat.{ℕ, suc, _+_, _≤_, _<_, min}
+use native.Mathlib.Numerals.{add-one}
+use native.Mathlib.Omega.{arith}
+use borrow.Author.Needs.{needs}
+use borrow.Author.Tests.{lt-ltb, le-ltb}
+use lib.Dec.{ltb}
+use lib.ListN.{length, set, length-take}
+use Rattle.call.specs.declared.request.Request.the-variants.{NewKey}
+use Rattle.model.specs.declared.answer.Refusal.the-variants.{UnknownUser, Full}
+use Rattle.model.specs.declared.answer.Answer.the-variants.{Accepted, Refused}
+use Rattle.model.specs.Limits.{mostDefined}
+use Rattle.model.specs.Model.{conditions, answer}
+use Rattle.model.specs.Cells.{Row, Table, Cells, cell, userCount, definedCount, stateOf, store}
+use Rattle.model.specs.Serving.{cellsWith, Serves}
+use Rattle.model.proofs.Serving.{serves-refused, serves-accepted}
+use Rattle.registry.specs.Counts.{Handed}
+use Rattle.segments.proofs.Judging.{user-test}
+use Rattle.segments.proofs.calls.new_key.Statement.{statement}
+use Rattle.segments.proofs.calls.new_key.Tie as tie
+
+module _ (registry makers : Row) (segments locks threads : List Table) (text : List ℕ) (u : ℕ) where
+  abbrev here : Cells
+  here = cellsWith registry makers segments locks threads
+
+  stranger : {r : Bool} → r ≡ ltb u (cell registry userCount) → not r ≡ true → Serves here (NewKey u) text (Refused UnknownUser) here
+  unfolding conditions
+  stranger known t = serves-refused here (NewKey u) text (rw (user-test here u known t))
+
+  module _ {r : Bool} (known : r ≡ ltb u (cell registry userCount)) (f : not r ≡ false) {n : ℕ} (c : Handed (cell registry definedCount) makers n) where
+    full : mostDefined ≤ n → Serves here (NewKey u) text (Refused Full) here
+    unfolding conditions stateOf
+    full h = serves-refused here (NewKey u) text (rw (user-test here u known f, ← c .keys, lt-ltb mostDefined (suc n) (omega arith)))
+
+    handed : n < mostDefined → length makers ≡ mostDefined
+        → Serves here (NewKey u) text (Accepted n) (cellsWith (set registry definedCount (n + 1)) (set makers n u) segments locks threads)
+    unfolding conditions answer stateOf store
+    handed h long =
+        let e = c .keys in
+        let l = length-take (min (cell registry definedCount) mostDefined) makers in
+        let same : n ≡ cell registry definedCount = omega arith in
+        serves-accepted here (NewKey u) text
+        (rw (user-test here u known f, ← c .keys, le-ltb mostDefined (suc n) (omega arith)))
+        (c .keys)
+        (ap₂ (λ (k m : ℕ). cellsWith (set registry definedCount k) (set makers m u) segments locks threads) (add-one n ∙ ap suc same) same)
+
+returns : tie.Need-returns
+returns c = λ segments locks threads text. stranger _ _ segments locks threads text _ (c .before .is-user .ensures) (c .if1 .taken)
+
+returns-2 : tie.Need-returns-2
+returns-2 c =
+    let b = c .before .before .before .before .before in
+    λ segments locks threads text.
+    full _ _ segments locks threads text _ (b .before .is-user .ensures) (b .if1 .left) (c .before .defined .ensures) (c .if2 .taken)
+
+returns-3 : tie.Need-returns-3
+returns-3 c =
+    let b = c .before .before .before .before .before in
+    λ segments locks threads text.
+    handed _ _ segments locks threads text _ (b .before .is-user .ensures) (b .if1 .left) (c .before .defined .ensures) (c .if2 .left) (search needs)
+
+pub new-key-spec : {M : Type 1} → statement M
+new-key-spec =
+    tie.close
+    (tie.spec
+    (λ c κs. search needs)  -- is-user-requires
+    returns
+    (λ c κs. search needs)  -- defined-requires
+    returns-2
+    (λ c. search needs)  -- mul-makers
+    (λ c. search needs)  -- element-write-makers
+    (λ c. search needs)  -- cast-registry
+    (λ c. search needs)  -- add-registry
+    (λ c. search needs)  -- element-write-registry
+    (λ c. search needs)  -- cast-t20
+    returns-3)

@@ -1,0 +1,124 @@
+-- Refused in the order of the table, else the list is stored closed up without the key. Assumes nothing.
+use mathlib.Core.Path.{_≡_, refl, sym, ap, _∙_}
+use mathlib.Core.Bool.{Bool, true, false, not}
+use mathlib.Core.List.{List}
+use Prim.Native.Nat.{ℕ}
+use borrow.Author.Needs.{needs}
+use borrow.Author.Tests.{eq-eqb, ne-eqb}
+use denote.Ref.{now}
+use lib.ListN.{set}
+use Rattle.call.specs.declared.request.Request.{Request}
+use Rattle.call.specs.declared.request.Request.the-variants.{TakeKey}
+use Rattle.model.specs.declared.answer.Refusal.the-variants.{NotOwner, NotPresent}
+use Rattle.model.specs.declared.answer.Answer.the-variants.{Accepted, Refused}
+use Rattle.model.specs.Model.{conditions, answer, owns}
+use Rattle.model.specs.Cells.{Row, Table, Cells, cell, rowAt, tableAt, ownerCell, definedCell, listRow, withSegmentTables, stateOf, store}
+use Rattle.model.specs.Serving.{cellsWith, Serves}
+use Rattle.model.proofs.Serving.{serves-refused, serves-accepted}
+use Rattle.segments.specs.Steps.{Struck}
+use Rattle.segments.proofs.Judging.{owned-by, in-list, left-length}
+use Rattle.segments.proofs.Naming.{Names, Named, stranger, nowhere, unmade, named}
+use Rattle.segments.proofs.calls.take_key.Statement.{statement}
+use Rattle.segments.proofs.calls.take_key.Tie as tie
+
+module _ (d : Cells) (text : List ℕ) (u s k : ℕ) where
+  abbrev call : Request
+  call = TakeKey u s k
+
+  names : Names d call text u s k
+  unfolding conditions
+  names = (_, refl)
+
+  abbrev table : Table
+  table = tableAt (d .segments) s
+
+  module _ (z : Named d u s k) where
+    not-owner : (cell (rowAt table 0) ownerCell ≡ u → ⊥) → Serves d call text (Refused NotOwner) d
+    unfolding conditions
+    not-owner o = serves-refused d call text (rw (z .user, z .segment, z .key, owned-by d s (z .there) u ∙ ne-eqb (cell (rowAt table 0) ownerCell) u o))
+
+    module _ (own : cell (rowAt table 0) ownerCell ≡ u) {cells : Row} {count : ℕ} {found : Bool} (v : Struck (listRow s table) (definedCell k) cells count found) where
+      owner : owns (stateOf d) u s ≡ true
+      owner = owned-by d s (z .there) u ∙ eq-eqb (cell (rowAt table 0) ownerCell) u own
+
+      absent : not found ≡ true → Serves d call text (Refused NotPresent) d
+      unfolding conditions
+      absent e = serves-refused d call text (rw (z .user, z .segment, z .key, owner, in-list d s (z .there) k, ← v .told, e))
+
+      taken : not found ≡ false → Serves d call text (Accepted count) (withSegmentTables d (set (d .segments) s (set table 1 cells)))
+      unfolding conditions answer store
+      taken e =
+          serves-accepted d call text
+          (rw (z .user, z .segment, z .key, owner, in-list d s (z .there) k, ← v .told, e))
+          (v .counted ∙ sym (left-length d s (z .there) k))
+          (ap (λ (w : Row). withSegmentTables d (set (d .segments) s (set table 1 w))) (v .closed))
+
+named-at : (b : tie.Else3) (locks threads : List Table)
+    → let a = b .before .before .before .before .before .before .before .args in
+    Named (cellsWith (now (a .registry)) (now (a .makers)) (now (a .segments)) locks threads) (a .user) (a .segment) (a .key)
+named-at b locks threads =
+    let e = b .before .before .before .before .before in
+    named (cellsWith _ _ _ locks threads) _ _ _
+    (e .before .is-user .ensures) (e .if1 .left) (b .before .before .before .before .segments .ensures) (b .before .before .before .if2 .left)
+    (b .before .defined .ensures) (b .if3 .left)
+
+returns : tie.Need-returns
+returns c =
+    λ locks threads text.
+    stranger (cellsWith _ _ _ locks threads) (TakeKey _ _ _) text _ _ _ (names (cellsWith _ _ _ locks threads) text _ _ _)
+    (c .before .is-user .ensures) (c .if1 .taken)
+
+returns-2 : tie.Need-returns-2
+returns-2 c =
+    λ locks threads text.
+    nowhere (cellsWith _ _ _ locks threads) (TakeKey _ _ _) text _ _ _ (names (cellsWith _ _ _ locks threads) text _ _ _)
+    (c .before .before .before .is-user .ensures) (c .before .before .if1 .left) (c .before .segments .ensures) (c .if2 .taken)
+
+returns-3 : tie.Need-returns-3
+returns-3 c =
+    let b = c .before .before .before .before .before in
+    λ locks threads text.
+    unmade (cellsWith _ _ _ locks threads) (TakeKey _ _ _) text _ _ _ (names (cellsWith _ _ _ locks threads) text _ _ _)
+    (b .before .is-user .ensures) (b .if1 .left) (c .before .before .before .before .segments .ensures) (c .before .before .before .if2 .left)
+    (c .before .defined .ensures) (c .if3 .taken)
+
+returns-4 : tie.Need-returns-4
+returns-4 c = λ locks threads text. not-owner _ text _ _ _ (named-at (c .before .before) locks threads) (c .if4 .taken)
+
+returns-5 : tie.Need-returns-5
+returns-5 c =
+    let e = c .before .before .before .before in
+    λ locks threads text. absent _ text _ _ _ (named-at (e .before .before) locks threads) (e .if4 .left) (c .before .before .strike .ensures) (c .if5 .taken)
+
+returns-6 : tie.Need-returns-6
+returns-6 c =
+    let e = c .before .before .before .before .before in
+    λ locks threads text.
+    taken _ text _ _ _ (named-at (e .before .before) locks threads) (e .if4 .left) (c .before .before .before .strike .ensures) (c .before .if5 .left)
+
+pub take-key-spec : {M : Type 1} → statement M
+take-key-spec =
+    tie.close
+    (tie.spec
+    (λ c κs. search needs)  -- is-user-requires
+    returns
+    (λ c κs. search needs)  -- segments-requires
+    returns-2
+    (λ c κs. search needs)  -- defined-requires
+    returns-3
+    (λ c. search needs)  -- mul-owner
+    (λ c. search needs)  -- index-1-owner
+    (λ c. search needs)  -- index-2-owner
+    (λ c. search needs)  -- index-3-owner
+    returns-4
+    (λ c. search needs)  -- mul-list
+    (λ c. search needs)  -- index-1-list
+    (λ c. search needs)  -- index-2-list
+    (λ c. search needs)  -- add-strike
+    (λ c κs. search needs)  -- strike-requires
+    returns-5
+    (λ c. search needs)  -- mul-cells
+    (λ c. search needs)  -- index-1-cells
+    (λ c. search needs)  -- index-2-cells
+    (λ c. search needs)  -- cast-t28
+    returns-6)

@@ -1,0 +1,154 @@
+// K, N, G and T.
+ghost use mathlib.Core.List.{List};
+ghost use Prim.Native.Nat.{ℕ};
+ghost use Rattle.call.specs.declared.request.Request.the-variants.{NewSegment, NewKey, GiveKey, TakeKey};
+ghost use Rattle.model.specs.Cells.{Row, Table, cell, definedCount};
+ghost use Rattle.model.specs.Serving.{cellsWith, Serves};
+use crate::list::strike;
+use model::answer::Answer;
+use model::answer::Refusal;
+use model::arrays::DEFINED;
+use model::arrays::DEFINED_CODES;
+use model::arrays::Locks;
+use model::arrays::Makers;
+use model::arrays::NO_KEY;
+use model::arrays::OWNER;
+use model::arrays::Registry;
+use model::arrays::SEGMENTS;
+use model::arrays::Segments;
+use registry::defined;
+use registry::is_user;
+
+const MOST_SEGMENTS: u32 = 64;
+
+const MOST_DEFINED: usize = 1024;
+
+// Keys in a list, the segment's own among them.
+const MOST_LISTED: usize = 8;
+
+// The greatest kind: 0 is code, 1 a sheet.
+const SHEET: u16 = 1;
+
+// K, new key.
+pub fn new_key(registry: &mut Registry, makers: &mut Makers, user: u16) -> Answer
+    ensures { λ r. ⌜ ((segments locks threads : List Table) (text : List ℕ) → Serves (cellsWith (now (registry .entry)) (now (makers .entry)) segments locks threads) (NewKey user) text r (cellsWith (now (registry .exit)) (now (makers .exit)) segments locks threads)) ⌝ }
+{
+    if !is_user(registry, user) {
+        return Answer::Refused(Refusal::UnknownUser);
+    }
+    let key = defined(registry, makers);
+    if MOST_DEFINED <= key {
+        return Answer::Refused(Refusal::Full);
+    }
+    makers[key] = user;
+    registry[DEFINED] = key as u32 + 1;
+    Answer::Accepted(key as u16)
+}
+
+// N, new segment.
+pub fn new_segment(
+    registry: &mut Registry,
+    segments: &mut Segments,
+    locks: &mut Locks,
+    user: u16,
+    kind: u16,
+) -> Answer
+    ensures { λ r. ⌜ ((makers : Row) (threads : List Table) (text : List ℕ) → Serves (cellsWith (now (registry .entry)) makers (now (segments .entry)) (now (locks .entry)) threads) (NewSegment user kind) text r (cellsWith (now (registry .exit)) makers (now (segments .exit)) (now (locks .exit)) threads)) ⌝ }
+{
+    if !is_user(registry, user) {
+        return Answer::Refused(Refusal::UnknownUser);
+    }
+    if SHEET < kind {
+        return Answer::Refused(Refusal::Unfit);
+    }
+    let segment = registry[SEGMENTS];
+    if MOST_SEGMENTS <= segment {
+        return Answer::Refused(Refusal::Full);
+    }
+    let s = segment as usize;
+    let own = segment as u16;
+    segments[s] = [
+        [user, kind, 0, 0, 0, 0, 0, 0],
+        [own, NO_KEY, NO_KEY, NO_KEY, NO_KEY, NO_KEY, NO_KEY, NO_KEY],
+    ];
+    locks[s][0][0] = 0;
+    registry[SEGMENTS] = segment + 1;
+    Answer::Accepted(own)
+}
+
+// G, give key.
+pub fn give_key(
+    registry: &Registry,
+    makers: &Makers,
+    segments: &mut Segments,
+    user: u16,
+    segment: u16,
+    key: u16,
+) -> Answer
+    ensures { λ r. ⌜ ((locks threads : List Table) (text : List ℕ) → Serves (cellsWith (now (registry .entry)) (now (makers .entry)) (now (segments .entry)) locks threads) (GiveKey user segment key) text r (cellsWith (now (registry .entry)) (now (makers .entry)) (now (segments .exit)) locks threads)) ⌝ }
+{
+    if !is_user(registry, user) {
+        return Answer::Refused(Refusal::UnknownUser);
+    }
+    let s = segment as usize;
+    if registry::segments(registry) <= s {
+        return Answer::Refused(Refusal::NoSegment);
+    }
+    if defined(registry, makers) <= key as usize {
+        return Answer::Refused(Refusal::NoKey);
+    }
+    let owner = segments[s][0][OWNER];
+    let maker = makers[key as usize];
+    if !((owner == user) & (maker == user)) {
+        return Answer::Refused(Refusal::NotOwner);
+    }
+    let list = segments[s][1];
+    let kept = strike(list, segment, DEFINED_CODES + key);
+    if kept.found {
+        return Answer::Refused(Refusal::AlreadyPresent);
+    }
+    let count = kept.count;
+    if MOST_LISTED <= count {
+        return Answer::Refused(Refusal::Full);
+    }
+    let mut cells = kept.cells;
+    cells[count] = DEFINED_CODES + key;
+    segments[s][1] = cells;
+    Answer::Accepted(count as u16 + 1)
+}
+
+// T, take key.
+pub fn take_key(
+    registry: &Registry,
+    makers: &Makers,
+    segments: &mut Segments,
+    user: u16,
+    segment: u16,
+    key: u16,
+) -> Answer
+    ensures { λ r. ⌜ ((locks threads : List Table) (text : List ℕ) → Serves (cellsWith (now (registry .entry)) (now (makers .entry)) (now (segments .entry)) locks threads) (TakeKey user segment key) text r (cellsWith (now (registry .entry)) (now (makers .entry)) (now (segments .exit)) locks threads)) ⌝ }
+{
+    if !is_user(registry, user) {
+        return Answer::Refused(Refusal::UnknownUser);
+    }
+    let s = segment as usize;
+    if registry::segments(registry) <= s {
+        return Answer::Refused(Refusal::NoSegment);
+    }
+    if defined(registry, makers) <= key as usize {
+        return Answer::Refused(Refusal::NoKey);
+    }
+    let owner = segments[s][0][OWNER];
+    if owner != user {
+        return Answer::Refused(Refusal::NotOwner);
+    }
+    let list = segments[s][1];
+    let kept = strike(list, segment, DEFINED_CODES + key);
+    if !kept.found {
+        return Answer::Refused(Refusal::NotPresent);
+    }
+    let count = kept.count;
+    let cells = kept.cells;
+    segments[s][1] = cells;
+    Answer::Accepted(count as u16)
+}
