@@ -1,0 +1,188 @@
+-- A refusal is the first test that fails; the lock's rows go to its segment's. Assumes nothing.
+use mathlib.Core.Path.{_≡_, refl, sym, ap, ap₂, _∙_}
+use mathlib.Core.Bool.{true, false, _||_}
+use mathlib.Core.List.{List, [], map}
+use Prim.Native.Nat.{ℕ, suc, _+_, _≤_, _<_}
+use native.Mathlib.Omega.{arith}
+use lib.Dec.{eqb, ltb}
+use lib.ListN.{length, set, length-map}
+use lib.Seq.{set-getD}
+use borrow.Author.Tests.{eq-eqb, ne-eqb, lt-ltb, le-ltb}
+use Rattle.formula.specs.declared.text.Issued.{Issued}
+use Rattle.formula.specs.declared.text.Verdict.{Verdict}
+use Rattle.formula.specs.declared.text.Compiled.{Compiled}
+use Rattle.formula.specs.Outcome.{Outcome, outcomeOf, refusalNumber, verdictOf, sumIn, compiledOf}
+use Rattle.call.specs.declared.request.Request.{Request}
+use Rattle.call.specs.declared.request.Request.the-variants.{AddLock}
+use Rattle.model.specs.declared.answer.Refusal.the-variants.{UnknownUser, NoSegment, NotOwner, Unfit}
+use Rattle.model.specs.declared.answer.Answer.{Answer}
+use Rattle.model.specs.declared.answer.Answer.the-variants.{Refused}
+use Rattle.model.specs.Limits.{mostStanding, mostNumbers, passes}
+use Rattle.model.specs.Operations.{takesSet}
+use Rattle.model.specs.Model.{conditions, answer, isSegment, owns, segmentAt, issued}
+use Rattle.model.specs.Cells.{Row, Table, Cells, cell, rowAt, tableAt, userCount, lockCount, ownerCell, kindCell, usedRows, productIn, countUp, storeRows, productRow, stateOf, store}
+use Rattle.model.specs.Serving.{cellsWith, Serves}
+use Rattle.model.proofs.Serving.{serves-refused, serves-accepted, segmentsIn, is-segment, segment-at}
+use Rattle.locks.specs.Steps.{rowsFrom, issuedIn, isFull, LockJudged, full, stored, misspelt, wide, void, fine}
+use Rattle.locks.proofs.Tests.{test-fails, test-holds}
+use Rattle.locks.proofs.Compiling.{operations-low, issued-is, Judged, judged, sum-kept, rows-stored}
+use denote.Ref.{now}
+use borrow.Author.Needs.{needs}
+use Rattle.locks.proofs.calls.add_lock.Statement.{statement}
+use Rattle.locks.proofs.calls.add_lock.Tie as tie
+
+module _ (registry makers : Row) (segments locks threads : List Table) (user s operations : ℕ) (text : List ℕ) where
+  abbrev d : Cells
+  d = cellsWith registry makers segments locks threads
+
+  abbrev q : Request
+  q = AddLock user s operations
+
+  abbrev g : Row
+  g = rowAt (tableAt segments s) 0
+
+  abbrev o : Outcome
+  o = outcomeOf (issued (stateOf d)) text
+
+  stranger : ltb user (cell registry userCount) ≡ false → Serves d q text (Refused UnknownUser) d
+  unfolding conditions stateOf
+  stranger u = serves-refused d q text (rw u)
+
+  module _ {n : ℕ} (u : ltb user (cell registry userCount) ≡ true) (count : n ≡ segmentsIn d) where
+    nowhere : n ≤ s → Serves d q text (Refused NoSegment) d
+    unfolding conditions stateOf
+    nowhere h = let none = is-segment d s ∙ le-ltb s (segmentsIn d) (omega arith) in serves-refused d q text (rw (u, none))
+
+    module _ (low : s < n) where
+      here : s < segmentsIn d
+      here = omega arith
+
+      there : isSegment (stateOf d) s ≡ true
+      there = is-segment d s ∙ lt-ltb s (segmentsIn d) here
+
+      owner-is : owns (stateOf d) user s ≡ eqb (cell g ownerCell) user
+      owner-is = ap (λ x. eqb (x .owner) user) (segment-at d s here)
+
+      kind-is : takesSet (segmentAt (stateOf d) s .kind) operations ≡ takesSet (cell g kindCell) operations
+      kind-is = ap (λ x. takesSet (x .kind) operations) (segment-at d s here)
+
+      other : (cell g ownerCell ≡ user → ⊥) → Serves d q text (Refused NotOwner) d
+      unfolding conditions stateOf
+      other e = let none = owner-is ∙ ne-eqb _ _ e in serves-refused d q text (rw (u, there, none))
+
+      module _ (e : cell g ownerCell ≡ user) where
+        own : owns (stateOf d) user s ≡ true
+        own = owner-is ∙ eq-eqb _ _ e
+
+        unfit : takesSet (cell g kindCell) operations ≡ false → Serves d q text (Refused Unfit) d
+        unfolding conditions stateOf
+        unfit f = let none = kind-is ∙ f in serves-refused d q text (rw (u, there, own, none))
+
+        module _ (f : takesSet (cell g kindCell) operations ≡ true) {i : Issued} {x : Compiled} (handed : i ≡ issuedIn registry makers) (compiled : x ≡ compiledOf i text) where
+          fit : takesSet (segmentAt (stateOf d) s .kind) operations ≡ true
+          fit = kind-is ∙ f
+
+          outcome : x ≡ compiledOf (issued (stateOf d)) text
+          outcome = compiled ∙ ap (λ (j : Issued). compiledOf j text) (handed ∙ sym (issued-is d))
+
+          abbrev t : Table
+          t = tableAt locks s
+
+          abbrev lock : ℕ
+          lock = cell registry lockCount
+
+          verdict : {v : Verdict} → x .verdict ≡ v → Judged o (refusalNumber v)
+          verdict v = judged o (sym (ap (λ (y : Compiled). y .verdict) outcome) ∙ v)
+
+          full-is : (passes mostStanding (length (segmentAt (stateOf d) s .products) + length (sumIn o)) || passes mostNumbers (suc lock)) ≡ isFull registry t (x .count)
+          unfolding isFull
+          full-is =
+              ap₂ (λ (k m : ℕ). passes mostStanding (k + m) || passes mostNumbers (suc lock))
+              (ap (λ y. length (y .products)) (segment-at d s here) ∙ length-map (usedRows t) productIn)
+              (sym (ap (λ (y : Compiled). y .count) outcome))
+
+          rows-are : rowsFrom lock operations x ≡ map (productRow lock operations) (sumIn o)
+          rows-are = ap (rowsFrom lock operations) outcome ∙ rows-stored lock operations (verdictOf o) (sumIn o) (sum-kept (issued (stateOf d)) text)
+
+          same-locks : set locks s t ≡ locks
+          same-locks = set-getD locks s []
+
+          served : {r : Answer} {registry′ : Row} {t′ : Table} → LockJudged registry t operations x r registry′ t′
+              → Serves d q text r (cellsWith registry′ makers segments (set locks s t′) threads)
+          unfolding conditions answer store stateOf
+          served (misspelt v) = let j = verdict v in rw same-locks (serves-refused d q text (rw (u, there, own, fit, j .malformed)))
+          served (wide v) = let j = verdict v in rw same-locks (serves-refused d q text (rw (u, there, own, fit, j .malformed, j .wide)))
+          served (void v) = let j = verdict v in rw same-locks (serves-refused d q text (rw (u, there, own, fit, j .malformed, j .wide, j .void)))
+          served (fine v (full h)) =
+              let j = verdict v in
+              let most = full-is ∙ h in
+              rw same-locks (serves-refused d q text (rw (u, there, own, fit, j .malformed, j .wide, j .void, most)))
+          served (fine v (stored h)) =
+              let j = verdict v in
+              let room = full-is ∙ h in
+              serves-accepted d q text (rw (u, there, own, fit, j .malformed, j .wide, j .void, room)) refl
+              (ap (λ (ws : Table). cellsWith (countUp registry lockCount) makers segments (set locks s (storeRows (length (usedRows t)) ws t)) threads) rows-are)
+
+returns : tie.Need-returns
+returns c = λ threads. stranger _ _ _ _ threads _ _ _ _ (test-fails (c .before .is-user .ensures) (c .if1 .taken))
+
+returns-2 : tie.Need-returns-2
+returns-2 c =
+    let b = c .before .before .before in
+    λ threads. nowhere _ _ _ _ threads _ _ _ _ (test-holds (b .before .is-user .ensures) (b .if1 .left)) (c .before .segments .ensures .count) (c .if2 .taken)
+
+returns-3 : tie.Need-returns-3
+returns-3 c =
+    let e = c .before .before in
+    let b = e .before .before .before in
+    λ threads. other _ _ _ _ threads _ _ _ _ (test-holds (b .before .is-user .ensures) (b .if1 .left)) (e .before .segments .ensures .count) (e .if2 .left) (c .if3 .taken)
+
+returns-4 : tie.Need-returns-4
+returns-4 c =
+    let f = c .before .before .before in
+    let e = f .before .before in
+    let b = e .before .before .before in
+    λ threads. unfit _ _ _ _ threads _ _ _ _ (test-holds (b .before .is-user .ensures) (b .if1 .left)) (e .before .segments .ensures .count) (e .if2 .left) (f .if3 .left) (test-fails (c .before .fits2 .ensures) (c .if4 .taken))
+
+judge-lock-requires : tie.Need-judge-lock-requires
+judge-lock-requires c κs =
+    let k = c .before .before .before .before .before .before in
+    let a = k .before .before .before .before .before .before .before .before .before .before .before .before .args in
+    operations-low (cell (rowAt (tableAt (now (a .segments)) (a .segment)) 0) kindCell) _ (test-holds (k .before .fits2 .ensures) (k .if4 .left))
+
+returns-5 : tie.Need-returns-5
+returns-5 c =
+    let h = c .before .before .before in
+    let k = h .before .before .before .before in
+    let f = k .before .before .before in
+    let e = f .before .before in
+    let b = e .before .before .before in
+    λ threads.
+    served _ _ _ _ threads _ _ _ _ (test-holds (b .before .is-user .ensures) (b .if1 .left)) (e .before .segments .ensures .count) (e .if2 .left) (f .if3 .left) (test-holds (k .before .fits2 .ensures) (k .if4 .left))
+    (h .before .issued .ensures) (h .compile .ensures) (c .judge-lock .ensures)
+
+pub add-lock-spec : {M : Type 1} → statement M
+add-lock-spec =
+    tie.close
+    (tie.spec
+    (λ c κs. search needs)  -- is-user-requires
+    returns
+    (λ c κs. search needs)  -- segments-requires
+    returns-2
+    (λ c. search needs)  -- mul-owner
+    (λ c. search needs)  -- index-1-owner
+    (λ c. search needs)  -- index-2-owner
+    (λ c. search needs)  -- index-3-owner
+    returns-3
+    (λ c. search needs)  -- mul-kind
+    (λ c. search needs)  -- index-1-kind
+    (λ c. search needs)  -- index-2-kind
+    (λ c. search needs)  -- index-3-kind
+    (λ c κs. search needs)  -- fits-requires
+    returns-4
+    (λ c κs. search needs)  -- issued-requires
+    (λ c κs. search needs)  -- compile-requires
+    (λ c. search needs)  -- mul-judge-lock
+    (λ c. search needs)  -- index-1-judge-lock
+    judge-lock-requires
+    returns-5)

@@ -1,0 +1,31 @@
+-- By the verdict. Assumes nothing.
+use Rattle.locks.specs.Steps.{misspelt, wide, void, fine}
+use borrow.Author.Needs.{needs}
+use Rattle.locks.proofs.calls.judge_lock.Statement.{statement}
+use Rattle.locks.proofs.calls.judge_lock.Tie as tie
+
+returns : tie.Need-returns
+returns c = fine (c .before .before .before .enum-told .given .1) (c .store-lock .ensures)
+
+returns-2 : tie.Need-returns-2
+returns-2 c = misspelt (c .enum-told2 .given .1)
+
+returns-3 : tie.Need-returns-3
+returns-3 c = wide (c .enum-told3 .given .1)
+
+returns-4 : tie.Need-returns-4
+returns-4 c = void (c .enum-told4 .given .1)
+
+pub judge-lock-spec : {M : Type 1} → statement M
+judge-lock-spec =
+    tie.close
+    (tie.spec
+    (λ c. search needs)  -- enum-told
+    (λ c κs. search needs)  -- store-lock-requires
+    (λ c. search needs)  -- enum-told-2
+    (λ c. search needs)  -- enum-told-3
+    (λ c. search needs)  -- enum-told-4
+    returns
+    returns-2
+    returns-3
+    returns-4)

@@ -1,0 +1,46 @@
+-- What is left from row i on has a row of the lock exactly where all have (`Seeking`). Assumes nothing.
+use Prim.Native.Nat.{_-_}
+use borrow.Author.Tests.{eq-eqb, ne-eqb}
+use Rattle.locks.proofs.Scanning.{Seeking, seeking-start, seeking-ends, seeking-found, seeking-on, seeking-past}
+use borrow.Author.Needs.{needs}
+use Rattle.locks.proofs.rows.has_row.Statement.{statement}
+use Rattle.locks.proofs.rows.has_row.Tie as tie
+
+abbrev Inv-loop : tie.InvT-loop
+Inv-loop products lock rows i₀ i = Seeking lock products i
+
+abbrev μ-loop : tie.MeasureT-loop
+μ-loop products lock rows i₀ i = rows - i
+
+loop-holds : tie.Need-loop-holds Inv-loop μ-loop
+loop-holds c = seeking-start _ _
+
+returns : tie.Need-returns Inv-loop μ-loop
+returns c = let b = c .before .before in seeking-ends (b .before .loop .inv) (search needs) (c .if1 .taken)
+
+returns-2 : tie.Need-returns-2 Inv-loop μ-loop
+returns-2 c = let b = c .before .before .before in seeking-found (b .before .loop .inv) (search needs) (c .before .if1 .left) (eq-eqb _ _ (c .if2 .taken))
+
+loop-again : tie.Need-loop-again Inv-loop μ-loop
+loop-again c = let b = c .before .before .before in seeking-on (b .before .loop .inv) (search needs) (c .before .if1 .left) (ne-eqb _ _ (c .if2 .left))
+
+returns-3 : tie.Need-returns-3 Inv-loop μ-loop
+returns-3 c = seeking-past (c .before .loop .inv) (search needs)
+
+pub has-row-spec : {M : Type 1} → statement M
+has-row-spec =
+    tie.close
+    (tie.spec
+    Inv-loop
+    μ-loop
+    (λ c κs. search needs)  -- rows-len-requires
+    loop-holds
+    (λ c. search needs)  -- mul-head
+    (λ c. search needs)  -- index-1-head
+    (λ c. search needs)  -- index-2-head
+    returns
+    returns-2
+    (λ c. search needs)  -- add-i
+    (λ c. search needs)  -- loop-less
+    loop-again
+    returns-3)

@@ -1,0 +1,43 @@
+-- What the whole search finds is what is found from segment s on (`Searching`). Assumes nothing.
+use mathlib.Core.Path.{sym, _∙_}
+use Prim.Native.Nat.{_-_}
+use Rattle.model.specs.Cells.{tableAt}
+use Rattle.locks.specs.Steps.{hasRow}
+use Rattle.locks.proofs.Scanning.{Searching, searching-start, searching-found, searching-on, searching-past}
+use borrow.Author.Needs.{needs}
+use Rattle.locks.proofs.rows.home.Statement.{statement}
+use Rattle.locks.proofs.rows.home.Tie as tie
+
+abbrev Inv-loop : tie.InvT-loop
+Inv-loop locks n lock s₀ s = Searching (hasRow lock) (tableAt locks) n s
+
+abbrev μ-loop : tie.MeasureT-loop
+μ-loop locks n lock s₀ s = n - s
+
+loop-holds : tie.Need-loop-holds Inv-loop μ-loop
+loop-holds c = searching-start _ _ _
+
+returns : tie.Need-returns Inv-loop μ-loop
+returns c = let b = c .before .before in record { place = searching-found _ _ _ (b .before .before .loop .inv) (search needs) (sym (c .before .has-row .ensures) ∙ c .if1 .taken); low = search needs }
+
+loop-again : tie.Need-loop-again Inv-loop μ-loop
+loop-again c = let b = c .before .before in searching-on _ _ _ (b .before .before .loop .inv) (search needs) (sym (c .before .has-row .ensures) ∙ c .if1 .left)
+
+returns-2 : tie.Need-returns-2 Inv-loop μ-loop
+returns-2 c = record { place = searching-past _ _ _ (c .before .loop .inv) (search needs); low = search needs }
+
+pub home-spec : {M : Type 1} → statement M
+home-spec =
+    tie.close
+    (tie.spec
+    Inv-loop
+    μ-loop
+    loop-holds
+    (λ c. search needs)  -- mul-has-row
+    (λ c. search needs)  -- index-1-has-row
+    (λ c κs. search needs)  -- has-row-requires
+    returns
+    (λ c. search needs)  -- add-s
+    (λ c. search needs)  -- loop-less
+    loop-again
+    returns-2)

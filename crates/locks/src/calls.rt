@@ -1,0 +1,158 @@
+// L and D.
+ghost use mathlib.Core.Path.{_≡_};
+ghost use mathlib.Core.List.{List};
+ghost use Prim.Native.Nat.{ℕ, _<_};
+ghost use Rattle.call.specs.declared.request.Request.the-variants.{AddLock, DropLock};
+ghost use Rattle.model.specs.Cells.{Row, Table};
+ghost use Rattle.model.specs.Serving.{cellsWith, Serves};
+ghost use Rattle.locks.specs.Steps.{issuedIn, LockJudged, LockStored};
+use crate::rows::add_rows;
+use crate::rows::drop_rows;
+use crate::rows::home;
+use crate::rows::used;
+use formula::text::Compiled;
+use formula::text::Issued;
+use formula::text::Verdict;
+use formula::text::compile;
+use model::answer::Answer;
+use model::answer::Refusal;
+use model::arrays::KIND;
+use model::arrays::LOCKS;
+use model::arrays::Locks;
+use model::arrays::Makers;
+use model::arrays::OWNER;
+use model::arrays::Products;
+use model::arrays::Registry;
+use model::arrays::Segments;
+use model::arrays::THREADS;
+use model::arrays::USERS;
+use model::operations::Operations;
+use registry::defined as defined_in;
+use registry::is_user;
+use registry::segments as segments_in;
+
+// Products in all standing locks of a segment.
+const MOST_STANDING: usize = 8;
+
+// Lock numbers that are handed out.
+const MOST_NUMBERS: u32 = 65536;
+
+// L, add lock.
+pub fn add_lock(
+    registry: &mut Registry,
+    makers: &Makers,
+    segments: &Segments,
+    locks: &mut Locks,
+    user: u16,
+    segment: u16,
+    operations: u16,
+    text: &[u8],
+) -> Answer
+    ensures { λ r. ⌜ ((threads : List Table) → Serves (cellsWith (now (registry .entry)) (now (makers .entry)) (now (segments .entry)) (now (locks .entry)) threads) (AddLock user segment operations) (now (text .entry)) r (cellsWith (now (registry .exit)) (now (makers .entry)) (now (segments .entry)) (now (locks .exit)) threads)) ⌝ }
+{
+    if !is_user(registry, user) {
+        return Answer::Refused(Refusal::UnknownUser);
+    }
+    let s = segment as usize;
+    if segments_in(registry) <= s {
+        return Answer::Refused(Refusal::NoSegment);
+    }
+    let owner = segments[s][0][OWNER];
+    if owner != user {
+        return Answer::Refused(Refusal::NotOwner);
+    }
+    let kind = segments[s][0][KIND];
+    let set = Operations {
+        bits: operations as u32,
+    };
+    if !set.fits(kind) {
+        return Answer::Refused(Refusal::Unfit);
+    }
+    let compiled = compile(text, issued(registry, makers));
+    judge_lock(registry, &mut locks[s], operations, compiled)
+}
+
+// The keys that a text may name.
+fn issued(registry: &Registry, makers: &[u16]) -> Issued
+    ensures { λ r. ⌜ r ≡ issuedIn (now (registry .entry)) (now (makers .entry)) ⌝ }
+{
+    let users = registry[USERS];
+    let threads = registry[THREADS];
+    let segments = segments_in(registry) as u32;
+    let defined = defined_in(registry, makers) as u32;
+    Issued {
+        users,
+        threads,
+        segments,
+        defined,
+    }
+}
+
+// The refusal of a text, or the lock is stored.
+fn judge_lock(
+    registry: &mut Registry,
+    products: &mut Products,
+    operations: u16,
+    compiled: Compiled,
+) -> Answer
+    requires { ⌜ operations < 16 ⌝ }
+    ensures { λ r. ⌜ LockJudged (now (registry .entry)) (now (products .entry)) operations compiled r (now (registry .exit)) (now (products .exit)) ⌝ }
+{
+    let verdict = compiled.verdict;
+    match verdict {
+        Verdict::Accepted => store_lock(registry, products, operations, compiled),
+        Verdict::Malformed => Answer::Refused(Refusal::Malformed),
+        Verdict::TooWide => Answer::Refused(Refusal::TooWide),
+        Verdict::Unsatisfiable => Answer::Refused(Refusal::Unsatisfiable),
+    }
+}
+
+// The next lock, with the compiled products, goes into the segment's rows.
+fn store_lock(
+    registry: &mut Registry,
+    products: &mut Products,
+    operations: u16,
+    compiled: Compiled,
+) -> Answer
+    requires { ⌜ operations < 16 ⌝ }
+    ensures { λ r. ⌜ LockStored (now (registry .entry)) (now (products .entry)) operations compiled r (now (registry .exit)) (now (products .exit)) ⌝ }
+{
+    let from = used(products);
+    let count = compiled.count;
+    if MOST_STANDING - from < count {
+        return Answer::Refused(Refusal::Full);
+    }
+    let lock = registry[LOCKS];
+    if MOST_NUMBERS <= lock {
+        return Answer::Refused(Refusal::Full);
+    }
+    add_rows(products, from, lock as u16, operations, compiled);
+    registry[LOCKS] = lock + 1;
+    Answer::Accepted(lock as u16)
+}
+
+// D, drop lock.
+pub fn drop_lock(
+    registry: &Registry,
+    segments: &Segments,
+    locks: &mut Locks,
+    user: u16,
+    lock: u16,
+) -> Answer
+    ensures { λ r. ⌜ ((makers : Row) (threads : List Table) (text : List ℕ) → Serves (cellsWith (now (registry .entry)) makers (now (segments .entry)) (now (locks .entry)) threads) (DropLock user lock) text r (cellsWith (now (registry .entry)) makers (now (segments .entry)) (now (locks .exit)) threads)) ⌝ }
+{
+    if !is_user(registry, user) {
+        return Answer::Refused(Refusal::UnknownUser);
+    }
+    let n = segments_in(registry);
+    let s = home(locks, n, lock);
+    if n <= s {
+        return Answer::Refused(Refusal::NoLock);
+    }
+    let owner = segments[s][0][OWNER];
+    if owner != user {
+        return Answer::Refused(Refusal::NotOwner);
+    }
+    let dropped = drop_rows(&mut locks[s], lock);
+    Answer::Accepted(dropped as u16)
+}
