@@ -89,6 +89,74 @@ uint32_t rotundaaloe_journal_append(uint8_t *buffer, size_t capacity, size_t *le
                                     uint8_t letter, uint16_t a, uint16_t b, uint16_t c,
                                     const uint8_t *text, size_t text_length);
 
+/*
+ * The guard works on a protection state (document 01: desk): five arrays that the host lends to
+ * each call and that nobody else writes to meanwhile. Every cell 0 is the empty state. The cells'
+ * meaning is the guard's own matter: a host keeps them as they are, and may copy all five. Whatever
+ * numbers are in them, every function returns and writes to nothing else.
+ *
+ * registry has the counts, makers the defined keys' makers, segments[s] segment s and its key
+ * list, locks[s] the products of the locks on segment s, and threads[p] the live thread in place p
+ * with its open calls.
+ *
+ * An answer below 65536 says that the call is accepted, and is document 01's answer. Any other is
+ * refusal * 65536 + second, document 01's two numbers, and then no cell is changed.
+ */
+
+/*
+ * Writes the empty state: 0 to every cell.
+ */
+void rotundaaloe_empty(uint32_t registry[8], uint16_t makers[1024], uint16_t segments[64][2][8],
+                       uint32_t locks[64][8][8], uint16_t threads[64][17][8]);
+
+/*
+ * One of the twelve calls, by its letter. An unknown letter, a field that is not 0 where its call
+ * has none, or a text where the letter is not L is refusal 18, before all else.
+ *
+ * Answer: that of the call, as above.
+ */
+uint32_t rotundaaloe_call(uint32_t registry[8], uint16_t makers[1024], uint16_t segments[64][2][8],
+                          uint32_t locks[64][8][8], uint16_t threads[64][17][8], uint8_t letter,
+                          uint16_t a, uint16_t b, uint16_t c, const uint8_t *text, size_t length);
+
+/*
+ * C (call), without the entry: thread a calls segment b.
+ *
+ * Answer: the lock that opened, or a refusal, as above.
+ */
+uint32_t rotundaaloe_call_segment(const uint32_t registry[8], const uint16_t segments[64][2][8],
+                                  const uint32_t locks[64][8][8], uint16_t threads[64][17][8],
+                                  uint16_t a, uint16_t b);
+
+/*
+ * R (return), without the entry: thread a leaves its newest open call.
+ *
+ * Answer: the segment that is left, or a refusal, as above.
+ */
+uint32_t rotundaaloe_return_call(uint16_t threads[64][17][8], uint16_t a);
+
+/*
+ * A (access), without the entry: thread a reads (c = 2) or writes to (c = 4) segment b. No cell is
+ * changed.
+ *
+ * Answer: the lock that opened, or a refusal, as above.
+ */
+uint32_t rotundaaloe_access(const uint32_t registry[8], const uint16_t segments[64][2][8],
+                            const uint32_t locks[64][8][8], const uint16_t threads[64][17][8],
+                            uint16_t a, uint16_t b, uint16_t c);
+
+/*
+ * One check alone: the operation (1 execute, 2 read, 4 write) of the thread in the rows
+ * threads[p], by the locks in the rows locks[s]. No cell is changed.
+ *
+ * Answer: 0 if no lock opens. Else the lock that decides, the lowest deny lock that opens or, where
+ * none does, the lowest grant lock: lock * 65536 + literals * 16 + operations, with the number of
+ * literals in the product that opened and the lock's operations, 8 among them in a deny lock. Of
+ * any other operation the answer has no meaning.
+ */
+uint32_t rotundaaloe_check(const uint16_t thread[17][8], const uint32_t products[8][8],
+                           uint32_t operation);
+
 #ifdef __cplusplus
 }
 #endif

@@ -1,0 +1,16 @@
+-- The access's answer as a number. Assumes nothing.
+use borrow.Author.Needs.{needs}
+use Rattle.abi.proofs.Telling.{tells}
+use Rattle.abi.proofs.calls.rotundaaloe_access.Statement.{statement}
+use Rattle.abi.proofs.calls.rotundaaloe_access.Tie as tie
+
+returns : tie.Need-returns
+returns c = λ makers text. tells _ _ _ _ (c .before .access .ensures makers text) (c .answer-number .ensures)
+
+pub rotundaaloe-access-spec : {M : Type 1} → statement M
+rotundaaloe-access-spec =
+    tie.close
+    (tie.spec
+    (λ c κs. search needs)  -- access-requires
+    (λ c κs. search needs)  -- answer-number-requires
+    returns)

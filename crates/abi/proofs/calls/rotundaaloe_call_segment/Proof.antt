@@ -1,0 +1,16 @@
+-- The call's answer as a number. Assumes nothing.
+use borrow.Author.Needs.{needs}
+use Rattle.abi.proofs.Telling.{tells}
+use Rattle.abi.proofs.calls.rotundaaloe_call_segment.Statement.{statement}
+use Rattle.abi.proofs.calls.rotundaaloe_call_segment.Tie as tie
+
+returns : tie.Need-returns
+returns c = λ makers text. tells _ _ _ _ (c .before .call-segment .ensures makers text) (c .answer-number .ensures)
+
+pub rotundaaloe-call-segment-spec : {M : Type 1} → statement M
+rotundaaloe-call-segment-spec =
+    tie.close
+    (tie.spec
+    (λ c κs. search needs)  -- call-segment-requires
+    (λ c κs. search needs)  -- answer-number-requires
+    returns)

@@ -1,0 +1,16 @@
+-- The return's answer as a number. Assumes nothing.
+use borrow.Author.Needs.{needs}
+use Rattle.abi.proofs.Telling.{tells}
+use Rattle.abi.proofs.calls.rotundaaloe_return_call.Statement.{statement}
+use Rattle.abi.proofs.calls.rotundaaloe_return_call.Tie as tie
+
+returns : tie.Need-returns
+returns c = λ registry makers segments locks text. tells _ _ _ _ (c .before .return-call .ensures registry makers segments locks text) (c .answer-number .ensures)
+
+pub rotundaaloe-return-call-spec : {M : Type 1} → statement M
+rotundaaloe-return-call-spec =
+    tie.close
+    (tie.spec
+    (λ c κs. search needs)  -- return-call-requires
+    (λ c κs. search needs)  -- answer-number-requires
+    returns)
