@@ -1,0 +1,5 @@
+pub mod Decimals
+pub mod Putting
+pub mod Writing
+pub mod Enough
+pub mod Trials
