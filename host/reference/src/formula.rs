@@ -28,7 +28,7 @@ pub struct Literal {
 }
 
 /// A set of literals, in order and without repeats.
-#[derive(Debug, PartialEq, Eq)]
+#[derive(Clone, Debug, PartialEq, Eq)]
 pub struct Product {
     literals: Vec<Literal>,
 }

@@ -4,13 +4,22 @@
 //! the proved guard, and where one can choose it takes another road: sets and
 //! vectors, a tree on the heap, no fixed arrays. Obvious comes before fast.
 //!
-//! So far it holds two layers that know nothing of each other: [`formula`],
-//! from a formula text to a sum of products, and [`journal`], the file of call
-//! records.
+//! Two layers know nothing of each other: [`formula`], from a formula text to a
+//! sum of products, and [`journal`], the file of call records. Over the first
+//! stands the [`guard`], and [`replay`] joins the two. The [`history`] is a
+//! second opinion on what a guard grants, read from calls and answers alone.
+//! [`random`], [`calls`] and [`trials`] are input for tests.
 
+pub mod calls;
 pub mod formula;
+pub mod guard;
+pub mod history;
 pub mod journal;
 pub mod random;
+mod replay;
+pub mod trials;
+
+pub use replay::replay;
 
 /// What a key stands for. The order is the order of a product's keys.
 #[derive(Clone, Copy, Debug, PartialEq, Eq, PartialOrd, Ord)]

@@ -1,0 +1,418 @@
+//! The guard: a protection state (document 01: desk) and the twelve calls.
+//!
+//! Users, segments and defined keys are never struck, so a number is a place in
+//! a vector. Threads end and locks are dropped, so these are looked for by
+//! number. Each call's method asks its conditions in the order of document 01's
+//! table and then makes its change, so a refusal changes nothing.
+
+mod refusal;
+
+pub use refusal::Refusal;
+
+use crate::formula::{self, Product};
+use crate::{Issued, Key, Kind};
+
+/// The most users.
+pub const MAX_USERS: usize = 32;
+/// The most live threads at a time.
+pub const MAX_LIVE_THREADS: usize = 64;
+/// The most segments.
+pub const MAX_SEGMENTS: usize = 64;
+/// The most defined keys.
+pub const MAX_DEFINED_KEYS: usize = 1_024;
+/// The most keys in an object key list, the segment's own included.
+pub const MAX_LIST_KEYS: usize = 8;
+/// The most products in all standing locks of a segment.
+pub const MAX_SEGMENT_PRODUCTS: usize = 8;
+/// The most frames of a thread.
+pub const MAX_FRAMES: usize = 16;
+/// The thread numbers, and as many lock numbers, that are ever handed out.
+pub const NUMBERS: u32 = 65_536;
+
+pub const EXECUTE: u16 = 1;
+pub const READ: u16 = 2;
+pub const WRITE: u16 = 4;
+/// Stands among a lock's operations where it is a deny lock.
+pub const DENY: u16 = 8;
+
+/// A call's answer, or why it is refused.
+pub type Answer = Result<u16, Refusal>;
+
+/// A live thread (document 01: run).
+#[derive(Clone, Debug, PartialEq, Eq)]
+pub struct Thread {
+    number: u16,
+    user: u16,
+    /// The open calls, the newest last.
+    frames: Vec<Frame>,
+}
+
+/// An open call, and the keys that it handed over: the segment's own, and the
+/// defined keys that were in the segment's list when it was made.
+#[derive(Clone, Debug, PartialEq, Eq)]
+struct Frame {
+    segment: u16,
+    defined: Vec<u16>,
+}
+
+impl Thread {
+    /// Whether the key is in the thread's key set.
+    pub fn holds(&self, key: Key) -> bool {
+        let number = key.number;
+        match key.kind {
+            Kind::User => self.user == number,
+            Kind::Thread => self.number == number,
+            Kind::Segment => self.frames.iter().any(|frame| frame.segment == number),
+            Kind::Defined => self
+                .frames
+                .iter()
+                .any(|frame| frame.defined.contains(&number)),
+        }
+    }
+}
+
+#[derive(Clone, Copy, Debug, PartialEq, Eq)]
+pub enum SegmentKind {
+    Code,
+    Sheet,
+}
+
+#[derive(Clone, Debug, PartialEq, Eq)]
+pub struct Segment {
+    owner: u16,
+    kind: SegmentKind,
+    /// The object key list without the segment's own key, in the order of
+    /// giving.
+    defined: Vec<u16>,
+    /// The standing locks, by rising number.
+    locks: Vec<Lock>,
+}
+
+impl Segment {
+    /// The operations that it takes.
+    fn operations(&self) -> u16 {
+        match self.kind {
+            SegmentKind::Code => EXECUTE,
+            SegmentKind::Sheet => READ | WRITE,
+        }
+    }
+
+    /// The length of the object key list.
+    fn list_length(&self) -> usize {
+        1 + self.defined.len()
+    }
+
+    fn products(&self) -> usize {
+        self.locks.iter().map(|lock| lock.products.len()).sum()
+    }
+}
+
+#[derive(Clone, Debug, PartialEq, Eq)]
+struct Lock {
+    number: u16,
+    operations: u16,
+    products: Vec<Product>,
+}
+
+impl Lock {
+    fn denies(&self) -> bool {
+        self.operations & DENY != 0
+    }
+
+    fn is_opened_by(&self, thread: &Thread) -> bool {
+        self.products.iter().any(|product| {
+            product
+                .literals()
+                .iter()
+                .all(|literal| thread.holds(literal.key) != literal.barred)
+        })
+    }
+}
+
+/// Judges one operation of a thread on a segment: the lowest grant lock that
+/// opens, unless a deny lock does.
+pub fn check(thread: &Thread, segment: &Segment, operation: u16) -> Answer {
+    let lowest_open = |denies: bool| {
+        segment.locks.iter().find(|lock| {
+            lock.denies() == denies && lock.operations & operation != 0 && lock.is_opened_by(thread)
+        })
+    };
+    if let Some(lock) = lowest_open(true) {
+        return Err(Refusal::Denied(lock.number));
+    }
+    match lowest_open(false) {
+        Some(lock) => Ok(lock.number),
+        None => Err(Refusal::NotGranted),
+    }
+}
+
+/// A protection state. The empty one is [`Guard::new`].
+#[derive(Clone, Debug, Default, PartialEq, Eq)]
+pub struct Guard {
+    /// How many users were handed out.
+    users: usize,
+    /// Each defined key's maker.
+    makers: Vec<u16>,
+    segments: Vec<Segment>,
+    /// The live threads, by rising number.
+    threads: Vec<Thread>,
+    /// How many threads were ever started.
+    threads_started: u32,
+    /// How many locks were ever made.
+    locks_made: u32,
+}
+
+impl Guard {
+    pub fn new() -> Guard {
+        Guard::default()
+    }
+
+    /// One call by its letter. What the call doesn't name must be 0, and only L
+    /// has a text.
+    pub fn call(&mut self, letter: u8, a: u16, b: u16, c: u16, text: &[u8]) -> Answer {
+        match (letter, a, b, c, text) {
+            (b'U', 0, 0, 0, []) => self.new_user(),
+            (b'S', _, 0, 0, []) => self.start_thread(a),
+            (b'E', _, 0, 0, []) => self.end_thread(a),
+            (b'N', _, _, 0, []) => self.new_segment(a, b),
+            (b'K', _, 0, 0, []) => self.new_key(a),
+            (b'G', _, _, _, []) => self.give_key(a, b, c),
+            (b'T', _, _, _, []) => self.take_key(a, b, c),
+            (b'L', _, _, _, _) => self.make_lock(a, b, c, text),
+            (b'D', _, _, 0, []) => self.drop_lock(a, b),
+            (b'C', _, _, 0, []) => self.call_segment(a, b),
+            (b'R', _, 0, 0, []) => self.return_call(a),
+            (b'A', _, _, _, []) => self.access(a, b, c),
+            _ => Err(Refusal::Corrupt),
+        }
+    }
+
+    /// U. Answers the user.
+    pub fn new_user(&mut self) -> Answer {
+        let user = self.users;
+        below_limit(user, MAX_USERS)?;
+        self.users += 1;
+        Ok(user as u16)
+    }
+
+    /// S. Answers the thread.
+    pub fn start_thread(&mut self, user: u16) -> Answer {
+        self.known_user(user)?;
+        below_limit(self.threads.len(), MAX_LIVE_THREADS)?;
+        let number = next_number(self.threads_started)?;
+        self.threads_started += 1;
+        self.threads.push(Thread {
+            number,
+            user,
+            frames: Vec::new(),
+        });
+        Ok(number)
+    }
+
+    /// E. Answers how many open calls it closes.
+    pub fn end_thread(&mut self, thread: u16) -> Answer {
+        let place = self.place_of_thread(thread)?;
+        let ended = self.threads.remove(place);
+        Ok(ended.frames.len() as u16)
+    }
+
+    /// N. Answers the segment.
+    pub fn new_segment(&mut self, user: u16, kind: u16) -> Answer {
+        self.known_user(user)?;
+        let kind = match kind {
+            0 => SegmentKind::Code,
+            1 => SegmentKind::Sheet,
+            _ => return Err(Refusal::Unfit),
+        };
+        let segment = self.segments.len();
+        below_limit(segment, MAX_SEGMENTS)?;
+        self.segments.push(Segment {
+            owner: user,
+            kind,
+            defined: Vec::new(),
+            locks: Vec::new(),
+        });
+        Ok(segment as u16)
+    }
+
+    /// K. Answers the defined key.
+    pub fn new_key(&mut self, user: u16) -> Answer {
+        self.known_user(user)?;
+        let key = self.makers.len();
+        below_limit(key, MAX_DEFINED_KEYS)?;
+        self.makers.push(user);
+        Ok(key as u16)
+    }
+
+    /// G. Answers how many keys are now in the segment's list.
+    pub fn give_key(&mut self, user: u16, segment: u16, key: u16) -> Answer {
+        self.known_user(user)?;
+        self.known_segment(segment)?;
+        let maker = self.maker_of(key)?;
+        let segment = self.owned_segment(user, segment)?;
+        if maker != user {
+            return Err(Refusal::NotOwner);
+        }
+        if segment.defined.contains(&key) {
+            return Err(Refusal::AlreadyPresent);
+        }
+        below_limit(segment.list_length(), MAX_LIST_KEYS)?;
+        segment.defined.push(key);
+        Ok(segment.list_length() as u16)
+    }
+
+    /// T. Answers how many keys are now in the segment's list. The key may be
+    /// anyone's.
+    pub fn take_key(&mut self, user: u16, segment: u16, key: u16) -> Answer {
+        self.known_user(user)?;
+        self.known_segment(segment)?;
+        self.maker_of(key)?;
+        let segment = self.owned_segment(user, segment)?;
+        let place = segment.defined.iter().position(|given| *given == key);
+        segment.defined.remove(place.ok_or(Refusal::NotPresent)?);
+        Ok(segment.list_length() as u16)
+    }
+
+    /// L. Answers the lock.
+    pub fn make_lock(&mut self, user: u16, segment: u16, operations: u16, text: &[u8]) -> Answer {
+        self.known_user(user)?;
+        self.known_segment(segment)?;
+        let issued = self.issued();
+        let number = next_number(self.locks_made);
+        let segment = self.owned_segment(user, segment)?;
+        let taken = segment.operations();
+        if operations & !(taken | DENY) != 0 || operations & taken == 0 {
+            return Err(Refusal::Unfit);
+        }
+        let products = formula::compile(text, &issued)?;
+        if segment.products() + products.len() > MAX_SEGMENT_PRODUCTS {
+            return Err(Refusal::Full);
+        }
+        let number = number?;
+        segment.locks.push(Lock {
+            number,
+            operations,
+            products,
+        });
+        self.locks_made += 1;
+        Ok(number)
+    }
+
+    /// D. Answers how many products it removes.
+    pub fn drop_lock(&mut self, user: u16, lock: u16) -> Answer {
+        self.known_user(user)?;
+        let (segment, place) = self.place_of_lock(lock)?;
+        let segment = self.owned_segment(user, segment)?;
+        let dropped = segment.locks.remove(place);
+        Ok(dropped.products.len() as u16)
+    }
+
+    /// C. Answers the lock that opened.
+    pub fn call_segment(&mut self, thread: u16, segment: u16) -> Answer {
+        let place = self.place_of_thread(thread)?;
+        let called = self.known_segment(segment)?;
+        if called.kind != SegmentKind::Code {
+            return Err(Refusal::Unfit);
+        }
+        let lock = check(&self.threads[place], called, EXECUTE)?;
+        below_limit(self.threads[place].frames.len(), MAX_FRAMES)?;
+        let defined = called.defined.clone();
+        self.threads[place].frames.push(Frame { segment, defined });
+        Ok(lock)
+    }
+
+    /// R. Answers the segment that is left.
+    pub fn return_call(&mut self, thread: u16) -> Answer {
+        let place = self.place_of_thread(thread)?;
+        let newest = self.threads[place].frames.pop();
+        Ok(newest.ok_or(Refusal::NotPresent)?.segment)
+    }
+
+    /// A. Answers the lock that opened.
+    pub fn access(&self, thread: u16, segment: u16, operation: u16) -> Answer {
+        let thread = self.thread(thread)?;
+        let segment = self.known_segment(segment)?;
+        if ![READ, WRITE].contains(&operation) || segment.operations() & operation == 0 {
+            return Err(Refusal::Unfit);
+        }
+        check(thread, segment, operation)
+    }
+
+    /// A live thread.
+    pub fn thread(&self, number: u16) -> Result<&Thread, Refusal> {
+        Ok(&self.threads[self.place_of_thread(number)?])
+    }
+
+    /// A segment that is handed out.
+    pub fn known_segment(&self, number: u16) -> Result<&Segment, Refusal> {
+        let segment = self.segments.get(usize::from(number));
+        segment.ok_or(Refusal::NoSegment)
+    }
+
+    /// How many keys of each kind were handed out; an ended thread's may still
+    /// be named.
+    fn issued(&self) -> Issued {
+        Issued {
+            users: self.users as u32,
+            threads: self.threads_started,
+            segments: self.segments.len() as u32,
+            defined: self.makers.len() as u32,
+        }
+    }
+
+    fn known_user(&self, user: u16) -> Result<(), Refusal> {
+        if usize::from(user) < self.users {
+            Ok(())
+        } else {
+            Err(Refusal::UnknownUser)
+        }
+    }
+
+    fn maker_of(&self, key: u16) -> Result<u16, Refusal> {
+        let maker = self.makers.get(usize::from(key));
+        maker.copied().ok_or(Refusal::NoKey)
+    }
+
+    /// The segment, where it is this user's.
+    fn owned_segment(&mut self, user: u16, segment: u16) -> Result<&mut Segment, Refusal> {
+        let segment = &mut self.segments[usize::from(segment)];
+        if segment.owner == user {
+            Ok(segment)
+        } else {
+            Err(Refusal::NotOwner)
+        }
+    }
+
+    fn place_of_thread(&self, number: u16) -> Result<usize, Refusal> {
+        self.threads
+            .binary_search_by_key(&number, |thread| thread.number)
+            .map_err(|_| Refusal::NoThread)
+    }
+
+    /// The segment that a standing lock is on, and its place there.
+    fn place_of_lock(&self, number: u16) -> Result<(u16, usize), Refusal> {
+        for (segment, on) in self.segments.iter().enumerate() {
+            if let Some(place) = on.locks.iter().position(|lock| lock.number == number) {
+                return Ok((segment as u16, place));
+            }
+        }
+        Err(Refusal::NoLock)
+    }
+}
+
+fn below_limit(count: usize, limit: usize) -> Result<(), Refusal> {
+    if count < limit {
+        Ok(())
+    } else {
+        Err(Refusal::Full)
+    }
+}
+
+/// The number that follows this many.
+fn next_number(count: u32) -> Result<u16, Refusal> {
+    if count < NUMBERS {
+        Ok(count as u16)
+    } else {
+        Err(Refusal::Full)
+    }
+}

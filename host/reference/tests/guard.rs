@@ -1,0 +1,59 @@
+//! The reference guard against the worked examples.
+
+use reference::guard::{Answer, EXECUTE, Guard, WRITE, check};
+use reference::trials::{self, TRIALS};
+
+/// A guard that is compared with itself before each refusal.
+struct Watched {
+    guard: Guard,
+}
+
+impl trials::Guard for Watched {
+    fn call(&mut self, letter: u8, [a, b, c]: [u16; 3], text: &[u8]) -> Answer {
+        let before = self.guard.clone();
+        let answer = self.guard.call(letter, a, b, c, text);
+        if answer.is_err() {
+            assert!(self.guard == before, "a refusal changes nothing");
+        }
+        answer
+    }
+}
+
+#[test]
+fn worked_examples() {
+    for (name, trial) in TRIALS {
+        println!("{name}");
+        let guard = Guard::new();
+        trial(&mut Watched { guard });
+    }
+}
+
+#[test]
+fn a_check_is_what_a_call_and_an_access_ask() {
+    let mut guard = Guard::new();
+    let calls: [(u8, [u16; 3], &[u8]); 7] = [
+        (b'U', [0, 0, 0], b""),
+        (b'N', [0, 0, 0], b""),
+        (b'N', [0, 1, 0], b""),
+        (b'L', [0, 0, 1], b"U0"),
+        (b'L', [0, 1, 4], b"S0"),
+        (b'L', [0, 1, 12], b"S0&R0"),
+        (b'S', [0, 0, 0], b""),
+    ];
+    // R0 is handed out by the last of them.
+    let accepted = calls.map(|(letter, [a, b, c], text)| guard.call(letter, a, b, c, text).is_ok());
+    assert_eq!(accepted, [true, true, true, true, true, false, true]);
+    let asked = |guard: &Guard, segment, operation| {
+        let thread = guard.thread(0).expect("it is live");
+        let segment = guard.known_segment(segment).expect("it is there");
+        check(thread, segment, operation).map_err(|refusal| refusal.number())
+    };
+    assert_eq!(asked(&guard, 1, WRITE), Err(15));
+    assert_eq!(asked(&guard, 0, EXECUTE), Ok(0));
+    assert_eq!(guard.call_segment(0, 0), Ok(0));
+    assert_eq!(asked(&guard, 1, WRITE), Ok(1));
+    assert_eq!(guard.make_lock(0, 1, 12, b"S0&R0"), Ok(2));
+    assert_eq!(asked(&guard, 1, WRITE), Err(14));
+    assert_eq!(guard.return_call(0), Ok(0));
+    assert_eq!(asked(&guard, 1, WRITE), Err(15));
+}
