@@ -1,8 +1,15 @@
 //! The proved guard as Rust sees it: its declarations, a safe wrapper for each,
 //! and the translation between its rows and numbers and the reference's products
-//! and keys. The journal's are in [`journal`].
+//! and keys. The journal's are in [`journal`], the guard's own in [`guard`].
+//! [`office`] is the office program; [`scratch`], [`texts`] and [`timing`] are
+//! what the measurements share.
 
+pub mod guard;
 pub mod journal;
+pub mod office;
+pub mod scratch;
+pub mod texts;
+pub mod timing;
 
 use reference::formula::{Literal, MAX_LITERALS, Product};
 use reference::{Issued, Key, Kind};

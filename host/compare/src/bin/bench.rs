@@ -1,24 +1,22 @@
 //! Times both guards on the same formula texts and journals, in one run, and
 //! prints a table of each.
 //!
-//! Run it in `host/` with `cargo run --offline --release --bin bench`. It fails where the proved
-//! guard takes more than [`LIMIT`] times as long as the reference on a row
-//! that is marked.
+//! `bench/run` at the top of the repository runs it. It fails where the proved
+//! guard takes more than [`LIMIT`] times as long as the reference on a row that
+//! is marked.
 
 use compare::Rows;
 use compare::journal::{ACCEPTED, CELLS, END, RECORD};
+use compare::texts::{Line, lines};
+use compare::timing::{ROUNDS, Times, measure};
 use reference::Issued;
 use reference::journal::{HEAD_BYTES, Record, Step, append, check, record_at, write};
 use reference::random::Random;
 use std::hint::black_box;
 use std::process::ExitCode;
-use std::time::{Duration, Instant};
 
 /// The most that proved time / reference time may be on a marked row.
 const LIMIT: f64 = 1.5;
-const ROUNDS: usize = 25;
-/// How long one side's round lasts, or a little more.
-const ROUND: Duration = Duration::from_millis(4);
 
 const ISSUED: Issued = Issued {
     users: 65_536,
@@ -26,65 +24,6 @@ const ISSUED: Issued = Issued {
     segments: 65_536,
     defined: 65_536,
 };
-
-struct Line {
-    text: String,
-    marked: bool,
-}
-
-fn lines() -> Vec<Line> {
-    let every_way = "(D0|!D0)&(D1|!D1)&(D2|!D2)";
-    let deep = "((((((((D0&D1)|D2)&D3)|D4)&D5)|D6)&D7))";
-    let deep_not = "!(D0&!(D1&!(D2&!(D3&!(D4&!(D5&!(D6&!(D7&D8))))))))";
-    let cycle = |operator: &str, keys: &[&str], count: usize| {
-        let keys: Vec<&str> = keys.iter().copied().cycle().take(count).collect();
-        keys.join(operator)
-    };
-    let eight = ["D0", "D1", "D2", "D3", "D4", "D5", "D6", "D7"];
-    let long_numbers = ["D65535", "S65534", "R65533", "U65532"];
-
-    // 91 to 96 bytes each, and accepted.
-    let longest = [
-        cycle("&", &["D0"], 32),
-        cycle("&", &eight[..6], 32),
-        cycle("|", &eight, 32),
-        format!("{}D0", "!".repeat(94)),
-        format!("{}|U0", cycle("|", &long_numbers, 13)),
-        format!("{deep}|{}|D0&D1&D3&D5&D7", deep.replace('D', "U")),
-        format!("{deep_not}|{}", deep_not.replace("&!(D7&D8)", "&D7")),
-        format!(
-            "({})&({})&({})&(D2|D2|D2|D2|D2)",
-            cycle("|", &eight, 8).replace('D', "U"),
-            cycle("|", &["D0"], 8),
-            cycle("|", &["D1"], 8),
-        ),
-        format!("({every_way})&({every_way})&({every_way})&(D0|D0)"),
-        format!("{every_way}&{every_way}&{every_way}&(D0|!D0)&!!!!D0"),
-    ];
-    assert!(longest.iter().all(|text| (91..=96).contains(&text.len())));
-    // As long, and refused: 11 for the last byte, 12 for the first bracket,
-    // 13 after all. The reference makes no products for the first.
-    let refused = [
-        format!("{}&", cycle("&", &["D0"], 32)),
-        format!("(D0|D1|D2)&(D3|D4|D5)&{}", cycle("&", &["D6"], 24)),
-        format!("{}&!D0&!D0", cycle("&", &eight[..6], 29)),
-    ];
-
-    let marked = |text| Line { text, marked: true };
-    let unmarked = |text| Line {
-        text,
-        marked: false,
-    };
-    let mut lines = vec![
-        marked("S0&S1".to_string()),
-        unmarked("D0".to_string()),
-        unmarked(cycle("|", &eight, 8)),
-        unmarked("(D0|D1)&(D2|D3)&(D4|D5)".to_string()),
-    ];
-    lines.extend(longest.map(marked));
-    lines.extend(refused.map(unmarked));
-    lines
-}
 
 fn proved(text: &[u8], rows: &mut Rows) {
     black_box(compare::compile(black_box(text), black_box(&ISSUED), rows));
@@ -96,52 +35,6 @@ fn reference(text: &[u8]) {
         black_box(text),
         black_box(&ISSUED),
     ));
-}
-
-/// Nanoseconds a call, over `calls` calls.
-fn mean(calls: u32, mut call: impl FnMut()) -> f64 {
-    let start = Instant::now();
-    for _ in 0..calls {
-        call();
-    }
-    start.elapsed().as_nanos() as f64 / f64::from(calls)
-}
-
-/// As many calls as take [`ROUND`].
-fn calls_for_a_round(mut call: impl FnMut()) -> u32 {
-    let mut calls = 16;
-    while mean(calls, &mut call) * f64::from(calls) < ROUND.as_nanos() as f64 {
-        calls *= 2;
-    }
-    calls
-}
-
-/// The least means, in nanoseconds a call.
-struct Times {
-    proved: f64,
-    reference: f64,
-}
-
-impl Times {
-    fn ratio(&self) -> f64 {
-        self.proved / self.reference
-    }
-}
-
-/// Measures both sides. Their rounds alternate, so that a slow spell of the
-/// machine falls on both.
-fn measure(mut proved: impl FnMut(), mut reference: impl FnMut()) -> Times {
-    let proved_calls = calls_for_a_round(&mut proved);
-    let reference_calls = calls_for_a_round(&mut reference);
-    let mut least = Times {
-        proved: f64::MAX,
-        reference: f64::MAX,
-    };
-    for _ in 0..ROUNDS {
-        least.proved = least.proved.min(mean(proved_calls, &mut proved));
-        least.reference = least.reference.min(mean(reference_calls, &mut reference));
-    }
-    least
 }
 
 /// Prints a table's row, with the number that the table has in its third

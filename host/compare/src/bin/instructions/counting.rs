@@ -1,0 +1,167 @@
+//! A scene played on both guards, and its instructions counted.
+
+use crate::callgrind;
+use crate::scenes::{Counted, Scene, place};
+use compare::guard::{Guard, check, coded, coded_head};
+use reference::guard::{Answer, Segment, Thread};
+use reference::journal::Record;
+use std::ffi::CString;
+use std::hint::black_box;
+
+/// The count of nothing at all.
+pub const EMPTY: &str = "nothing";
+
+/// The two guards, as counts are named.
+pub const PROVED: &str = "proved";
+pub const REFERENCE: &str = "reference";
+
+/// The name of a guard's count.
+pub fn count_name(guard: &str, scene: &str) -> String {
+    format!("{guard}: {scene}")
+}
+
+/// Both guards in a scene's state.
+struct Stage {
+    proved: Guard,
+    reference: reference::guard::Guard,
+}
+
+impl Stage {
+    fn of(scene: &Scene) -> Stage {
+        let mut stage = Stage {
+            proved: Guard::new(),
+            reference: reference::guard::Guard::new(),
+        };
+        for record in &scene.before {
+            let [proved, reference] = stage.call(record);
+            let name = &scene.name;
+            assert_eq!(proved, reference, "the answers to {record:?} in {name}");
+            assert!(proved < 65_536, "{record:?} is refused in {name}");
+        }
+        stage
+    }
+
+    fn call(&mut self, record: &Record) -> [u32; 2] {
+        let Record {
+            letter, a, b, c, ..
+        } = *record;
+        let reference = self.reference.call(letter, a, b, c, &record.text);
+        [
+            self.proved.call(letter, a, b, c, &record.text),
+            coded(reference),
+        ]
+    }
+}
+
+fn asserted(scene: &Scene, answers: [u32; 2]) {
+    assert_eq!(answers, [u32::from(scene.expected); 2], "{}", scene.name);
+}
+
+/// The answers of both are the expected one, and the thread stands where it is
+/// said to. Nothing is counted.
+pub fn tried(scene: &Scene) {
+    let mut stage = Stage::of(scene);
+    let answers = match &scene.counted {
+        Counted::Check {
+            thread,
+            segment,
+            operation,
+        } => {
+            let reference = reference::guard::check(
+                stage.reference.thread(*thread).expect("a live thread"),
+                stage.reference.known_segment(*segment).expect("a segment"),
+                *operation,
+            );
+            [
+                stage.proved.check(place(*thread), *segment, *operation),
+                coded(reference),
+            ]
+        }
+        Counted::Direct(record) | Counted::Entry(record) => {
+            let before = stage.proved.cells().threads;
+            let answers = stage.call(record);
+            if b"CR".contains(&record.letter) {
+                let after = &stage.proved.cells().threads;
+                let changed = (0..before.len()).filter(|place| before[*place] != after[*place]);
+                assert!(changed.eq([place(record.a)]), "{}", scene.name);
+            }
+            answers
+        }
+    };
+    asserted(scene, answers);
+}
+
+/// Has the instructions of nothing counted, which are those of counting itself.
+pub fn count_nothing() {
+    let name = CString::new(EMPTY).expect("a name without a 0");
+    callgrind::count(&name, || ());
+}
+
+/// Has a scene's instructions counted, on each guard.
+///
+/// The reference's functions are called by pointers that the compiler can't see
+/// through, so that they aren't made for the arguments at hand. It can't see
+/// through the proved guard's either.
+pub fn count(scene: &Scene) {
+    let [proved_name, reference_name] = [PROVED, REFERENCE]
+        .map(|guard| CString::new(count_name(guard, &scene.name)).expect("a name without a 0"));
+    let mut stage = Stage::of(scene);
+    let answers = match &scene.counted {
+        Counted::Check {
+            thread,
+            segment,
+            operation,
+        } => {
+            let cells = stage.proved.cells();
+            let rows = black_box(&cells.threads[place(*thread)]);
+            let products = black_box(&cells.locks[usize::from(*segment)]);
+            let operation = black_box(*operation);
+            let proved = callgrind::count(&proved_name, || check(rows, products, operation));
+            let check: fn(&Thread, &Segment, u16) -> Answer = black_box(reference::guard::check);
+            let thread = black_box(stage.reference.thread(*thread).expect("a live thread"));
+            let segment = stage.reference.known_segment(*segment);
+            let segment = black_box(segment.expect("a segment"));
+            let reference = callgrind::count(&reference_name, || check(thread, segment, operation));
+            [coded_head(proved), coded(reference)]
+        }
+        Counted::Direct(record) => {
+            let [a, b, c] = black_box([record.a, record.b, record.c]);
+            let Stage { proved, reference } = black_box(&mut stage);
+            match record.letter {
+                b'C' => {
+                    type Call = fn(&mut reference::guard::Guard, u16, u16) -> Answer;
+                    let call: Call = black_box(reference::guard::Guard::call_segment);
+                    let proved = callgrind::count(&proved_name, || proved.call_segment(a, b));
+                    let reference = callgrind::count(&reference_name, || call(reference, a, b));
+                    [proved, coded(reference)]
+                }
+                b'R' => {
+                    type Call = fn(&mut reference::guard::Guard, u16) -> Answer;
+                    let call: Call = black_box(reference::guard::Guard::return_call);
+                    let proved = callgrind::count(&proved_name, || proved.return_call(a));
+                    let reference = callgrind::count(&reference_name, || call(reference, a));
+                    [proved, coded(reference)]
+                }
+                _ => {
+                    type Call = fn(&reference::guard::Guard, u16, u16, u16) -> Answer;
+                    let call: Call = black_box(reference::guard::Guard::access);
+                    let proved = callgrind::count(&proved_name, || proved.access(a, b, c));
+                    let reference = callgrind::count(&reference_name, || call(reference, a, b, c));
+                    [proved, coded(reference)]
+                }
+            }
+        }
+        Counted::Entry(record) => {
+            type Call = fn(&mut reference::guard::Guard, u8, u16, u16, u16, &[u8]) -> Answer;
+            let call: Call = black_box(reference::guard::Guard::call);
+            let [a, b, c] = black_box([record.a, record.b, record.c]);
+            let (letter, text) = black_box((record.letter, &record.text[..]));
+            let Stage { proved, reference } = black_box(&mut stage);
+            let proved = callgrind::count(&proved_name, || proved.call(letter, a, b, c, text));
+            let reference =
+                callgrind::count(&reference_name, || call(reference, letter, a, b, c, text));
+            [proved, coded(reference)]
+        }
+    };
+    asserted(scene, answers);
+}

@@ -1,0 +1,285 @@
+//! The tables of the counts, and which limits they pass.
+
+use crate::checks::{self, Case, DEPTHS, LITERALS, PRODUCTS};
+use crate::counting::{EMPTY, PROVED, REFERENCE, count_name};
+use crate::scenes::{AWAY, HOME, PAIRS, Pair, call_name, the_twelve, twelve_name};
+use std::collections::{BTreeSet, HashMap};
+
+/// The most instructions of one C with one inherited key and two products of
+/// two literals, and document 000's.
+const CALL_LIMIT: u64 = 230;
+const CALL_000: u64 = 305;
+/// The most instructions of one R, and document 000's.
+const RETURN_LIMIT: u64 = 30;
+const RETURN_000: u64 = 40;
+
+/// A scene's counts, less those of counting itself.
+#[derive(Clone, Copy)]
+struct Counts {
+    proved: u64,
+    reference: u64,
+}
+
+impl Counts {
+    fn ratio(self) -> f64 {
+        self.proved as f64 / self.reference as f64
+    }
+}
+
+/// Document 000's instructions of a check, for n products of m literals.
+fn document_000(m: u16, n: u16) -> f64 {
+    let (m, n) = (f64::from(m), f64::from(n));
+    (17.0 * m * m + 49.0 * m + 25.0) * n / 2.0 + 3.0
+}
+
+/// The cases among which each guard's dearest is sought.
+fn is_worst(case: Case) -> bool {
+    !matches!(case, Case::Barred | Case::FirstOpens)
+}
+
+/// Prints a row of the least and the greatest ratio of m and n, and how many
+/// aren't below 1.
+fn print_ratio_row(name: &str, depth: u16, counts: impl Fn(u16, u16) -> Counts) {
+    let points = LITERALS.flat_map(|m| PRODUCTS.map(move |n| (m, n)));
+    let ratios: Vec<f64> = points.map(|(m, n)| counts(m, n).ratio()).collect();
+    let least = ratios.iter().copied().fold(f64::MAX, f64::min);
+    let greatest = ratios.iter().copied().fold(0.0, f64::max);
+    let above = ratios.iter().filter(|ratio| **ratio >= 1.0).count();
+    println!("| {name} | {depth} | {least:.2} | {greatest:.2} | {above} |");
+}
+
+/// The threads of a row, and where they stand.
+fn threads_name(threads: &[u16]) -> String {
+    match threads {
+        [AWAY] => format!("{AWAY}, which stands elsewhere"),
+        home => {
+            let home: Vec<String> = home.iter().map(u16::to_string).collect();
+            home.join(", ")
+        }
+    }
+}
+
+fn listed(numbers: &BTreeSet<u64>) -> String {
+    let numbers: Vec<String> = numbers.iter().map(u64::to_string).collect();
+    numbers.join(", ")
+}
+
+pub struct Report {
+    counts: HashMap<String, u64>,
+    missed: Vec<String>,
+}
+
+impl Report {
+    pub fn new(counts: HashMap<String, u64>) -> Report {
+        Report {
+            counts,
+            missed: Vec::new(),
+        }
+    }
+
+    /// Prints every table. Answers how many limits are missed.
+    pub fn print(mut self) -> usize {
+        self.print_checks();
+        self.print_calls();
+        self.print_the_twelve();
+        if self.missed.is_empty() {
+            println!("\nEvery limit on instructions is kept.");
+        } else {
+            println!(
+                "\nLimits on instructions that are missed: {}.\n",
+                self.missed.len()
+            );
+            for missed in &self.missed {
+                println!("- {missed}");
+            }
+        }
+        self.missed.len()
+    }
+
+    fn counts(&self, scene: &str) -> Counts {
+        let count = |name: &str| *self.counts.get(name).expect(name);
+        let [proved, reference] =
+            [PROVED, REFERENCE].map(|guard| count(&count_name(guard, scene)) - count(EMPTY));
+        Counts { proved, reference }
+    }
+
+    /// A table of m and n. `cell` writes a place of it, and says whether the
+    /// limit is kept there.
+    fn print_grid(&mut self, title: &str, cell: impl Fn(&Report, u16, u16) -> (String, bool)) {
+        println!("\n{title}\n");
+        let columns: Vec<String> = PRODUCTS.map(|n| format!("n = {n}")).collect();
+        println!("| m | {} |", columns.join(" | "));
+        println!("|---|{}", "---:|".repeat(PRODUCTS.count()));
+        let mut missed = Vec::new();
+        for m in LITERALS {
+            let row: Vec<String> = PRODUCTS
+                .map(|n| {
+                    let (text, kept) = cell(self, m, n);
+                    if !kept {
+                        missed.push(format!("m {m}, n {n}"));
+                    }
+                    text + if kept { "" } else { " !" }
+                })
+                .collect();
+            println!("| {m} | {} |", row.join(" | "));
+        }
+        if !missed.is_empty() {
+            let places = missed.join("; ");
+            self.missed.push(format!(
+                "{title} Missed at {} of 48 points: {places}.",
+                missed.len()
+            ));
+        }
+    }
+
+    fn print_checks(&mut self) {
+        println!("### The check");
+        for case in [Case::FirstFails, Case::Barred] {
+            let limited = case == Case::FirstFails;
+            let limit = if limited {
+                ", below 1 for every m of 2 and more"
+            } else {
+                ", without a limit"
+            };
+            let name = case.name();
+            let title = format!("Depth 1, {name}. Proved / document 000 = ratio{limit}.");
+            self.print_grid(&title, |report, m, n| {
+                let proved = report.check(case, m, n, 1).proved as f64;
+                let theirs = document_000(m, n);
+                let text = format!("{proved} / {theirs} = {:.2}", proved / theirs);
+                (text, !limited || m < 2 || proved < theirs)
+            });
+        }
+        for depth in DEPTHS {
+            let title = format!(
+                "Depth {depth}, each guard in its own dearest scene of the first four cases below. \
+                 Proved / reference = ratio, below 1."
+            );
+            self.print_grid(&title, |report, m, n| {
+                let counts = report.worst(m, n, depth);
+                let Counts { proved, reference } = counts;
+                let text = format!("{proved} / {reference} = {:.2}", counts.ratio());
+                (text, proved < reference)
+            });
+        }
+        self.print_ratios();
+    }
+
+    /// The most that each guard takes at a point, in whichever scene that is.
+    fn worst(&self, m: u16, n: u16, depth: u16) -> Counts {
+        let cases = Case::ALL.into_iter().filter(|case| is_worst(*case));
+        cases
+            .filter(|case| case.depths().contains(&depth))
+            .map(|case| self.check(case, m, n, depth))
+            .reduce(|a, b| Counts {
+                proved: a.proved.max(b.proved),
+                reference: a.reference.max(b.reference),
+            })
+            .expect("a case for every depth")
+    }
+
+    fn check(&self, case: Case, m: u16, n: u16, depth: u16) -> Counts {
+        self.counts(&checks::name(case, m, n, depth))
+    }
+
+    /// The ratios of both guards on the same scene, case by case.
+    fn print_ratios(&self) {
+        println!(
+            "\nBoth guards on the same scene, without a limit: the ratios of 48 points each.\n"
+        );
+        println!("| Case | Depth | Least | Greatest | Points not below 1 |");
+        println!("|---|---:|---:|---:|---:|");
+        for case in Case::ALL {
+            for depth in case.depths() {
+                print_ratio_row(case.name(), *depth, |m, n| self.check(case, m, n, *depth));
+            }
+        }
+    }
+
+    fn print_calls(&mut self) {
+        println!("\n### C and R\n");
+        println!(
+            "| Call | Products | Thread | Proved | Limit | Document 000 | Reference | Ratio |"
+        );
+        println!("|---|---|---|---:|---:|---:|---:|---:|");
+        for pair in PAIRS {
+            self.print_call(b'C', pair, CALL_LIMIT, CALL_000);
+        }
+        self.print_call(b'R', PAIRS[0], RETURN_LIMIT, RETURN_000);
+    }
+
+    /// The rows of C or R, by its own function and by the entry.
+    fn print_call(&mut self, letter: u8, pair: Pair, limit: u64, theirs: u64) {
+        let products = pair.texts.map(|text| format!("`{text}`")).join(", ");
+        let name = char::from(letter);
+        for entry in [false, true] {
+            let call = match entry {
+                true => format!("{name} by its letter"),
+                false => name.to_string(),
+            };
+            for threads in [&HOME[..], &[AWAY]] {
+                let counts: Vec<Counts> = threads
+                    .iter()
+                    .map(|thread| self.counts(&call_name(letter, entry, pair, *thread)))
+                    .collect();
+                let proved: BTreeSet<u64> = counts.iter().map(|counts| counts.proved).collect();
+                let reference: BTreeSet<u64> =
+                    counts.iter().map(|counts| counts.reference).collect();
+                let ratio = counts
+                    .iter()
+                    .map(|counts| counts.ratio())
+                    .fold(0.0, f64::max);
+                let limited = !entry && threads != [AWAY];
+                let kept = !limited || (proved.len() == 1 && proved.iter().all(|n| *n <= limit));
+                if !kept {
+                    let proved = listed(&proved);
+                    self.missed
+                        .push(format!("{call}, {products}: {proved}, limit {limit}."));
+                }
+                let [limit, theirs] = match limited {
+                    true => [limit, theirs].map(|number| number.to_string()),
+                    false => Default::default(),
+                };
+                println!(
+                    "| {call} | {products} | {} | {}{} | {limit} | {theirs} | {} | {ratio:.2} |",
+                    threads_name(threads),
+                    listed(&proved),
+                    if kept { "" } else { " !" },
+                    listed(&reference),
+                );
+            }
+        }
+    }
+
+    fn print_the_twelve(&self) {
+        println!("\n### The twelve calls\n");
+        println!("| Call | Proved | Reference | Ratio |");
+        println!("|---|---:|---:|---:|");
+        for (record, _) in the_twelve() {
+            for entry in [true, false] {
+                let name = twelve_name(record.letter, entry);
+                if !self.counts.contains_key(&count_name(PROVED, &name)) {
+                    continue;
+                }
+                let counts = self.counts(&name);
+                let mut call = format!(
+                    "{} {} {} {}",
+                    char::from(record.letter),
+                    record.a,
+                    record.b,
+                    record.c
+                );
+                if !record.text.is_empty() {
+                    call += &format!(" `{}`", record.text.escape_ascii());
+                }
+                println!(
+                    "| {call}{} | {} | {} | {:.2} |",
+                    if entry { "" } else { ", by its own function" },
+                    counts.proved,
+                    counts.reference,
+                    counts.ratio()
+                );
+            }
+        }
+    }
+}

@@ -1,0 +1,62 @@
+//! The formula texts that both guards are timed on.
+
+pub struct Line {
+    pub text: String,
+    /// Whether the times on it are limited.
+    pub marked: bool,
+}
+
+/// The texts, the longest of each shape among them. They name keys up to 65,535.
+pub fn lines() -> Vec<Line> {
+    let every_way = "(D0|!D0)&(D1|!D1)&(D2|!D2)";
+    let deep = "((((((((D0&D1)|D2)&D3)|D4)&D5)|D6)&D7))";
+    let deep_not = "!(D0&!(D1&!(D2&!(D3&!(D4&!(D5&!(D6&!(D7&D8))))))))";
+    let cycle = |operator: &str, keys: &[&str], count: usize| {
+        let keys: Vec<&str> = keys.iter().copied().cycle().take(count).collect();
+        keys.join(operator)
+    };
+    let eight = ["D0", "D1", "D2", "D3", "D4", "D5", "D6", "D7"];
+    let long_numbers = ["D65535", "S65534", "R65533", "U65532"];
+
+    // 91 to 96 bytes each, and accepted.
+    let longest = [
+        cycle("&", &["D0"], 32),
+        cycle("&", &eight[..6], 32),
+        cycle("|", &eight, 32),
+        format!("{}D0", "!".repeat(94)),
+        format!("{}|U0", cycle("|", &long_numbers, 13)),
+        format!("{deep}|{}|D0&D1&D3&D5&D7", deep.replace('D', "U")),
+        format!("{deep_not}|{}", deep_not.replace("&!(D7&D8)", "&D7")),
+        format!(
+            "({})&({})&({})&(D2|D2|D2|D2|D2)",
+            cycle("|", &eight, 8).replace('D', "U"),
+            cycle("|", &["D0"], 8),
+            cycle("|", &["D1"], 8),
+        ),
+        format!("({every_way})&({every_way})&({every_way})&(D0|D0)"),
+        format!("{every_way}&{every_way}&{every_way}&(D0|!D0)&!!!!D0"),
+    ];
+    assert!(longest.iter().all(|text| (91..=96).contains(&text.len())));
+    // As long, and refused: 11 for the last byte, 12 for the first bracket,
+    // 13 after all. The reference makes no products for the first.
+    let refused = [
+        format!("{}&", cycle("&", &["D0"], 32)),
+        format!("(D0|D1|D2)&(D3|D4|D5)&{}", cycle("&", &["D6"], 24)),
+        format!("{}&!D0&!D0", cycle("&", &eight[..6], 29)),
+    ];
+
+    let marked = |text| Line { text, marked: true };
+    let unmarked = |text| Line {
+        text,
+        marked: false,
+    };
+    let mut lines = vec![
+        marked("S0&S1".to_string()),
+        unmarked("D0".to_string()),
+        unmarked(cycle("|", &eight, 8)),
+        unmarked("(D0|D1)&(D2|D3)&(D4|D5)".to_string()),
+    ];
+    lines.extend(longest.map(marked));
+    lines.extend(refused.map(unmarked));
+    lines
+}

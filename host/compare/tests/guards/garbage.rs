@@ -1,0 +1,258 @@
+//! The proved guard on arrays that no list of calls leads to. Whatever numbers
+//! are in them, a call comes back, with an outcome that its letter can have; a
+//! refusal changes no cell; an accepted call changes nothing but what it is
+//! about; and C, R and A are the same by the entry and by their own functions.
+//!
+//! With `-- --nocapture` it also prints how often each letter came to each
+//! outcome.
+
+use super::OPERATIONS;
+use super::tally::Tally;
+use compare::guard::{Cells, Guard, outcome};
+use reference::calls::{Caller, WORLDS};
+use reference::journal::Record;
+use reference::random::Random;
+
+const ARRAYS: usize = 12_000;
+const CALLS_EACH: usize = 100;
+
+/// Numbers around which something could break: counts, limits, places, codes of
+/// keys, and the ends of a cell.
+const EDGES: [u32; 26] = [
+    0,
+    1,
+    2,
+    3,
+    4,
+    7,
+    8,
+    9,
+    15,
+    16,
+    17,
+    31,
+    32,
+    33,
+    63,
+    64,
+    65,
+    1_023,
+    1_024,
+    1_088,
+    32_767,
+    32_768,
+    65_535,
+    65_536,
+    65_537,
+    u32::MAX,
+];
+
+/// How the cells are filled.
+#[derive(Clone, Copy)]
+enum Filling {
+    /// Any numbers.
+    Anything,
+    /// Numbers at the edges.
+    Edges,
+    /// Small numbers, so that calls find what they name.
+    Small,
+    /// A state that calls lead to, with some cells overwritten.
+    Damaged,
+}
+
+const FILLINGS: [Filling; 4] = [
+    Filling::Anything,
+    Filling::Edges,
+    Filling::Small,
+    Filling::Damaged,
+];
+
+impl Filling {
+    fn number(self, random: &mut Random) -> u32 {
+        match self {
+            Filling::Anything => random.bits() as u32,
+            Filling::Edges => random.pick(&EDGES),
+            Filling::Small => {
+                let limit = random.pick(&[2, 4, 20, 70]);
+                random.below(limit) as u32
+            }
+            Filling::Damaged => match random.below(3) {
+                0 => random.bits() as u32,
+                1 => random.pick(&EDGES),
+                _ => random.below(70) as u32,
+            },
+        }
+    }
+
+    fn fill(self, random: &mut Random, cells: &mut Cells) {
+        // Of a damaged state one cell in 2 to 1,024 is another.
+        let share = match self {
+            Filling::Damaged => 2 << random.below(10),
+            _ => 1,
+        };
+        let large = cells.locks.as_flattened_mut().as_flattened_mut();
+        for cell in cells.registry.iter_mut().chain(large) {
+            if random.one_in(share) {
+                *cell = self.number(random);
+            }
+        }
+        let segments = cells.segments.as_flattened_mut().as_flattened_mut();
+        let threads = cells.threads.as_flattened_mut().as_flattened_mut();
+        for cell in cells.makers.iter_mut().chain(segments).chain(threads) {
+            if random.one_in(share) {
+                *cell = self.number(random) as u16;
+            }
+        }
+    }
+}
+
+/// Has the guard come from the empty state to one that the caller knows.
+fn make_calls(guard: &mut Guard, caller: &mut Caller, calls: usize) {
+    for _ in 0..calls {
+        let record = caller.next();
+        let answer = guard.call(record.letter, record.a, record.b, record.c, &record.text);
+        if outcome(answer) == 0 {
+            caller.learn(&record, answer as u16);
+        }
+    }
+}
+
+/// Has a call name numbers that are in the cells, or at the edges.
+fn aim(random: &mut Random, record: &mut Record, cells: &Cells) {
+    let letter = record.letter;
+    let mut number = |right: u16| match random.below(6) {
+        0 => cells.threads[random.below(64)][0][random.below(3)],
+        1 => (cells.locks[random.below(64)][random.below(8)][0] / 65_536) as u16,
+        2 => random.below(64) as u16,
+        3 => random.pick(&EDGES) as u16,
+        _ => right,
+    };
+    if letter != b'U' {
+        record.a = number(record.a);
+    }
+    if b"GTLDCA".contains(&letter) {
+        record.b = number(record.b);
+    }
+    if b"GT".contains(&letter) {
+        record.c = number(record.c);
+    }
+    if b"GTL".contains(&letter) && !random.one_in(4) {
+        // A segment has one owner among 65,536 numbers.
+        record.b %= 64;
+        record.a = cells.segments[usize::from(record.b)][0][0];
+    }
+}
+
+/// The places where two arrays differ.
+fn differences<T: PartialEq>(before: &[T], after: &[T]) -> Vec<usize> {
+    let places = 0..before.len();
+    places.filter(|n| before[*n] != after[*n]).collect()
+}
+
+/// An accepted call may change this much and no more.
+fn assert_confined(record: &Record, answer: u16, before: &Cells, after: &Cells) {
+    let letter = record.letter;
+    let segment = usize::from(record.b);
+    let mut confined = b"USNKL".contains(&letter) || before.registry == after.registry;
+    let makers = differences(&before.makers, &after.makers);
+    confined &= match letter {
+        b'K' => makers.iter().all(|place| *place == usize::from(answer)),
+        _ => makers.is_empty(),
+    };
+    let segments = differences(&before.segments, &after.segments);
+    confined &= match letter {
+        b'N' => segments.iter().all(|place| *place == usize::from(answer)),
+        b'G' | b'T' => segments.iter().all(|place| *place == segment),
+        _ => segments.is_empty(),
+    };
+    let locks = differences(&before.locks, &after.locks);
+    confined &= match letter {
+        b'N' => locks.iter().all(|place| *place == usize::from(answer)),
+        b'L' => locks.iter().all(|place| *place == segment),
+        b'D' => locks.len() <= 1,
+        _ => locks.is_empty(),
+    };
+    let threads = differences(&before.threads, &after.threads);
+    confined &= match letter {
+        b'S' | b'E' | b'C' | b'R' => threads.len() <= 1,
+        _ => threads.is_empty(),
+    };
+    assert!(confined, "{record:?} changes what it is not about");
+}
+
+/// One call on arrays of any numbers. Answers the outcome.
+fn tried(guard: &mut Guard, record: &Record) -> u32 {
+    let Record {
+        letter, a, b, c, ..
+    } = *record;
+    let text = &record.text[..];
+    let before = guard.clone();
+    let answer = guard.call(letter, a, b, c, text);
+    match outcome(answer) {
+        0 => assert_confined(record, answer as u16, before.cells(), guard.cells()),
+        14 => assert!(guard.cells() == before.cells(), "{record:?}"),
+        refusal => {
+            assert_eq!(answer, refusal * 65_536, "the second number on {record:?}");
+            assert!(guard.cells() == before.cells(), "{record:?}");
+        }
+    }
+    let mut direct = before;
+    let directly = match (letter, b, c, text) {
+        (b'C', _, 0, []) => direct.call_segment(a, b),
+        (b'R', 0, 0, []) => direct.return_call(a),
+        (b'A', _, _, []) => direct.access(a, b, c),
+        _ => return outcome(answer),
+    };
+    assert_eq!(directly, answer, "{record:?} by its own function");
+    assert!(
+        direct.cells() == guard.cells(),
+        "{record:?} by its own function"
+    );
+    outcome(answer)
+}
+
+#[test]
+fn any_numbers_in_the_arrays() {
+    let mut random = Random::new(31);
+    let mut tally = Tally::default();
+    for turn in 0..ARRAYS {
+        let filling = FILLINGS[turn % FILLINGS.len()];
+        let world = &WORLDS[random.below(WORLDS.len())];
+        let mut callers = Random::new(random.bits());
+        let mut guard = Guard::new();
+        let mut caller = match filling {
+            Filling::Damaged => {
+                let mut caller = Caller::new(&mut callers, world);
+                make_calls(&mut guard, &mut caller, random.between(20, 300));
+                caller
+            }
+            _ => Caller::of_a_full_state(&mut callers, world),
+        };
+        let mut cells = Box::new(guard.cells().clone());
+        filling.fill(&mut random, &mut cells);
+        let mut guard = Guard::with_cells(cells);
+        for _ in 0..CALLS_EACH {
+            let mut record = caller.next();
+            if random.one_in(2) {
+                aim(&mut random, &mut record, guard.cells());
+            }
+            let outcome = tried(&mut guard, &record);
+            tally.add(record.letter, outcome);
+        }
+        let before = guard.clone();
+        for _ in 0..CALLS_EACH / 10 {
+            let place = random.below(64);
+            let segment = random.below(64) as u16;
+            for operation in OPERATIONS {
+                let outcome = outcome(guard.check(place, segment, operation));
+                assert!([0, 14, 15].contains(&outcome), "a check comes to {outcome}");
+            }
+        }
+        assert!(
+            guard.cells() == before.cells(),
+            "a check has changed a cell"
+        );
+    }
+    println!("arrays of any numbers: {tally}");
+    tally.assert_complete(10);
+}
