@@ -1,6 +1,6 @@
 //! A second guard, in plain Rust, to compare the proved one with.
 //!
-//! It is written from document 01 alone. It shares no code and no tables with
+//! It is written from document 01 (docs/DECISIONS.md, 49). It shares no code and no tables with
 //! the proved guard, and where one can choose it takes another road: sets and
 //! vectors, a tree on the heap, no fixed arrays. Obvious comes before fast.
 //!
