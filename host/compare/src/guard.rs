@@ -1,99 +1,20 @@
-//! The proved guard as Rust sees it: the declarations, and a guard that owns the
-//! arrays which they work on.
+//! The proved guard as numbers: its arrays, and its answers as they are.
 
 use reference::guard::Answer;
+use rotundaaloe::raw;
+pub use rotundaaloe::raw::Cells;
 
-/// The five arrays of a protection state. Every cell 0 is the empty state; what
-/// a cell means is the proved guard's own matter.
-#[derive(Clone, Debug)]
-#[repr(C)]
-pub struct Cells {
-    pub registry: [u32; 8],
-    pub makers: [u16; 1_024],
-    pub segments: [[[u16; 8]; 2]; 64],
-    pub locks: [[[u32; 8]; 8]; 64],
-    pub threads: [[[u16; 8]; 17]; 64],
-}
-
-// No byte of it is padding.
-const _: () = assert!(size_of::<Cells>() == 4 * 8 + 2 * 1_024 + 64 * (2 * 16 + 8 * 32 + 17 * 16));
-
-impl Cells {
-    /// Every cell with the same bytes.
-    pub fn filled_with(byte: u8) -> Box<Cells> {
-        let small = u16::from_ne_bytes([byte; 2]);
-        let large = u32::from_ne_bytes([byte; 4]);
-        Box::new(Cells {
-            registry: [large; 8],
-            makers: [small; 1_024],
-            segments: [[[small; 8]; 2]; 64],
-            locks: [[[large; 8]; 8]; 64],
-            threads: [[[small; 8]; 17]; 64],
-        })
-    }
-
-    /// All cells, to be compared at once.
-    pub fn bytes(&self) -> &[u8] {
-        // SAFETY: the cells are numbers without padding between them, and
-        // borrowed for as long as the bytes are.
-        unsafe { std::slice::from_raw_parts((&raw const *self).cast(), size_of::<Cells>()) }
-    }
-}
-
-impl PartialEq for Cells {
-    fn eq(&self, other: &Cells) -> bool {
-        self.bytes() == other.bytes()
-    }
-}
-
-impl Eq for Cells {}
-
-unsafe extern "C" {
-    fn rotundaaloe_empty(
-        registry: *mut u32,
-        makers: *mut u16,
-        segments: *mut [[u16; 8]; 2],
-        locks: *mut [[u32; 8]; 8],
-        threads: *mut [[u16; 8]; 17],
-    );
-
-    fn rotundaaloe_call(
-        registry: *mut u32,
-        makers: *mut u16,
-        segments: *mut [[u16; 8]; 2],
-        locks: *mut [[u32; 8]; 8],
-        threads: *mut [[u16; 8]; 17],
-        letter: u8,
-        a: u16,
-        b: u16,
-        c: u16,
-        text: *const u8,
-        length: usize,
-    ) -> u32;
-
-    fn rotundaaloe_check(thread: *const [u16; 8], products: *const [u32; 8], operation: u32)
-    -> u32;
-
-    fn rotundaaloe_call_segment(
-        registry: *const u32,
-        segments: *const [[u16; 8]; 2],
-        locks: *const [[u32; 8]; 8],
-        threads: *mut [[u16; 8]; 17],
-        a: u16,
-        b: u16,
-    ) -> u32;
-
-    fn rotundaaloe_return_call(threads: *mut [[u16; 8]; 17], a: u16) -> u32;
-
-    fn rotundaaloe_access(
-        registry: *const u32,
-        segments: *const [[u16; 8]; 2],
-        locks: *const [[u32; 8]; 8],
-        threads: *const [[u16; 8]; 17],
-        a: u16,
-        b: u16,
-        c: u16,
-    ) -> u32;
+/// Every cell with the same bytes.
+pub fn filled_with(byte: u8) -> Box<Cells> {
+    let small = u16::from_ne_bytes([byte; 2]);
+    let large = u32::from_ne_bytes([byte; 4]);
+    Box::new(Cells {
+        registry: [large; 8],
+        makers: [small; 1_024],
+        segments: [[[small; 8]; 2]; 64],
+        locks: [[[large; 8]; 8]; 64],
+        threads: [[[small; 8]; 17]; 64],
+    })
 }
 
 /// What the proved guard answers where the reference answers this: the answer,
@@ -120,19 +41,8 @@ pub struct Guard {
 impl Guard {
     /// A guard in the empty state, which it writes over what the arrays held.
     pub fn new() -> Guard {
-        let mut cells = Cells::filled_with(0xA5);
-        // SAFETY: the five arrays are valid for writing, of the sizes that the
-        // function writes, and no one else can see them meanwhile. The function
-        // keeps no pointer.
-        unsafe {
-            rotundaaloe_empty(
-                cells.registry.as_mut_ptr(),
-                cells.makers.as_mut_ptr(),
-                cells.segments.as_mut_ptr(),
-                cells.locks.as_mut_ptr(),
-                cells.threads.as_mut_ptr(),
-            );
-        }
+        let mut cells = filled_with(0xA5);
+        raw::empty(&mut cells);
         Guard { cells }
     }
 
@@ -148,68 +58,25 @@ impl Guard {
     /// One call by its letter.
     #[inline]
     pub fn call(&mut self, letter: u8, a: u16, b: u16, c: u16, text: &[u8]) -> u32 {
-        let cells = &mut *self.cells;
-        // SAFETY: the five arrays are valid for reading and writing, of the
-        // sizes that the function has, and `text` for reading its length; no one
-        // else can see the arrays meanwhile. The function keeps no pointer.
-        unsafe {
-            rotundaaloe_call(
-                cells.registry.as_mut_ptr(),
-                cells.makers.as_mut_ptr(),
-                cells.segments.as_mut_ptr(),
-                cells.locks.as_mut_ptr(),
-                cells.threads.as_mut_ptr(),
-                letter,
-                a,
-                b,
-                c,
-                text.as_ptr(),
-                text.len(),
-            )
-        }
+        raw::call(&mut self.cells, letter, a, b, c, text)
     }
 
     /// C without the entry.
     #[inline]
     pub fn call_segment(&mut self, thread: u16, segment: u16) -> u32 {
-        let cells = &mut *self.cells;
-        // SAFETY: as for `call`.
-        unsafe {
-            rotundaaloe_call_segment(
-                cells.registry.as_ptr(),
-                cells.segments.as_ptr(),
-                cells.locks.as_ptr(),
-                cells.threads.as_mut_ptr(),
-                thread,
-                segment,
-            )
-        }
+        raw::call_segment(&mut self.cells, thread, segment)
     }
 
     /// R without the entry.
     #[inline]
     pub fn return_call(&mut self, thread: u16) -> u32 {
-        // SAFETY: as for `call`.
-        unsafe { rotundaaloe_return_call(self.cells.threads.as_mut_ptr(), thread) }
+        raw::return_call(&mut self.cells, thread)
     }
 
     /// A without the entry.
     #[inline]
     pub fn access(&self, thread: u16, segment: u16, operation: u16) -> u32 {
-        let cells = &*self.cells;
-        // SAFETY: the four arrays are valid for reading, and no one writes to
-        // them meanwhile. The function keeps no pointer.
-        unsafe {
-            rotundaaloe_access(
-                cells.registry.as_ptr(),
-                cells.segments.as_ptr(),
-                cells.locks.as_ptr(),
-                cells.threads.as_ptr(),
-                thread,
-                segment,
-                operation,
-            )
-        }
+        raw::access(&self.cells, thread, segment, operation)
     }
 
     /// One check of the thread in a place of the array on a segment.
@@ -237,9 +104,7 @@ pub fn coded_head(head: u32) -> u32 {
 /// the high half and 8 set in a deny lock's.
 #[inline]
 pub fn check(thread: &[[u16; 8]; 17], products: &[[u32; 8]; 8], operation: u16) -> u32 {
-    // SAFETY: 17 rows and 8 rows of eight cells are valid for reading, and no
-    // one writes to them meanwhile. The function keeps no pointer.
-    unsafe { rotundaaloe_check(thread.as_ptr(), products.as_ptr(), u32::from(operation)) }
+    raw::check(thread, products, u32::from(operation))
 }
 
 impl Default for Guard {

@@ -1,14 +1,12 @@
-//! The proved guard's journals as Rust sees them: the declarations, a safe
-//! wrapper for each, and the cells that a step of the reference is written as.
+//! The proved guard's journals as numbers: its answers, and the cells that a
+//! step of the reference is written as.
 
 use reference::journal::{Record, Step};
 
-/// The cells that the proved guard writes a record to: its letter, a, b, c,
-/// where its text starts, and the cursor after it.
-pub const CELLS: usize = 6;
-
-/// A record as the proved guard writes it.
-pub type Cells = [u64; CELLS];
+pub use rotundaaloe::raw::Found as Cells;
+pub use rotundaaloe::raw::{
+    journal_check as check, journal_empty as empty, journal_record as record,
+};
 
 /// The proved guard's answer for what it accepts.
 pub const ACCEPTED: u32 = 0;
@@ -19,77 +17,12 @@ pub const RECORD: u32 = 1;
 /// The proved guard's answer where no whole record stands at a cursor.
 pub const CORRUPT: u32 = 18;
 
-unsafe extern "C" {
-    fn rotundaaloe_journal_check(file: *const u8, length: usize) -> u32;
-
-    fn rotundaaloe_journal_record(
-        file: *const u8,
-        length: usize,
-        cursor: usize,
-        record: *mut u64,
-    ) -> u32;
-
-    fn rotundaaloe_journal_empty(buffer: *mut u8, capacity: usize) -> u32;
-
-    fn rotundaaloe_journal_append(
-        buffer: *mut u8,
-        capacity: usize,
-        length: *mut usize,
-        letter: u8,
-        a: u16,
-        b: u16,
-        c: u16,
-        text: *const u8,
-        text_length: usize,
-    ) -> u32;
-}
-
-/// Whether the proved guard finds a file readable: [`ACCEPTED`], or the refusal
-/// 16, 17 or 18.
-pub fn check(file: &[u8]) -> u32 {
-    // SAFETY: `file` is valid for reading its length, and no one writes to it
-    // meanwhile. The function doesn't keep the pointer.
-    unsafe { rotundaaloe_journal_check(file.as_ptr(), file.len()) }
-}
-
-/// What the proved guard finds at a cursor: [`RECORD`], and the cells hold it;
-/// or [`END`] or [`CORRUPT`], and the cells are as they were.
-pub fn record(file: &[u8], cursor: usize, cells: &mut Cells) -> u32 {
-    // SAFETY: `file` is valid for reading its length and `cells` for writing
-    // six cells, which no one else can see meanwhile. The function keeps
-    // neither pointer.
-    unsafe { rotundaaloe_journal_record(file.as_ptr(), file.len(), cursor, cells.as_mut_ptr()) }
-}
-
-/// Has the proved guard write the file without records to the buffer's start:
-/// [`ACCEPTED`], or the refusal 10.
-pub fn empty(buffer: &mut [u8]) -> u32 {
-    // SAFETY: `buffer` is valid for reading and writing its length, and no one
-    // else can see it meanwhile. The function doesn't keep the pointer.
-    unsafe { rotundaaloe_journal_empty(buffer.as_mut_ptr(), buffer.len()) }
-}
-
 /// Has the proved guard append a record to the file in the buffer's first
 /// `length` bytes: [`ACCEPTED`], and `length` is the new one, or the refusal
 /// 10, 16, 17 or 18.
 pub fn append(buffer: &mut [u8], length: &mut usize, record: &Record) -> u32 {
-    // SAFETY: `buffer` is valid for reading and writing its length, `length`
-    // for reading and writing a number and the text for reading its length. The
-    // three don't overlap, since two are borrowed mutably, so no one else can
-    // see them meanwhile. The function keeps no pointer.
-    unsafe {
-        rotundaaloe_journal_append(
-            buffer.as_mut_ptr(),
-            buffer.len(),
-            length,
-            record.letter,
-            record.a,
-            record.b,
-            record.c,
-            record.text.as_ptr(),
-            record.text.len(),
-        )
-    }
+    let fields = [record.a, record.b, record.c];
+    rotundaaloe::raw::journal_append(buffer, length, record.letter, fields, &record.text)
 }
 
 /// The answer and the cells for a step of the reference, where `before` is what

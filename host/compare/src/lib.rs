@@ -1,8 +1,8 @@
-//! The proved guard as Rust sees it: its declarations, a safe wrapper for each,
-//! and the translation between its rows and numbers and the reference's products
-//! and keys. The journal's are in [`journal`], the guard's own in [`guard`].
-//! [`office`] is the office program; [`scratch`], [`texts`] and [`timing`] are
-//! what the measurements share.
+//! What comparing the proved guard with the reference takes: the translation
+//! between its rows and numbers and the reference's products and keys; the same
+//! for [`journal`]s and for the [`guard`] itself. [`office`] is the office
+//! program; [`scratch`], [`texts`] and [`timing`] are what the measurements
+//! share.
 
 pub mod guard;
 pub mod journal;
@@ -13,6 +13,9 @@ pub mod timing;
 
 use reference::formula::{Literal, MAX_LITERALS, Product};
 use reference::{Issued, Key, Kind};
+use rotundaaloe::raw;
+
+pub use rotundaaloe::raw::Rows;
 
 /// The rows that the proved guard writes to: one for each product that fits.
 pub const ROWS: usize = 8;
@@ -22,58 +25,11 @@ pub const CELLS: usize = 8;
 /// The cell with the number of literals.
 pub const COUNT_CELL: usize = 7;
 
-/// A sum of products as the proved guard writes it. Row i is product i: its
-/// literals in order from cell 0, and their number in [`COUNT_CELL`]. All other
-/// cells are 0.
-pub type Rows = [[u32; CELLS]; ROWS];
-
-unsafe extern "C" {
-    fn rotundaaloe_compile(
-        text: *const u8,
-        len: usize,
-        users: u32,
-        threads: u32,
-        segments: u32,
-        defined: u32,
-        rows: *mut [u32; CELLS],
-    ) -> u32;
-
-    fn rotundaaloe_opens(
-        rows: *const [u32; CELLS],
-        count: usize,
-        keys: *const u32,
-        keys_len: usize,
-    ) -> u32;
-}
-
 /// The proved guard's sum of products of a text. The answer is the number of
 /// products, 1 to 8, and the rows hold them; or it is the refusal 11, 12 or
 /// 13, and the rows are as they were.
 pub fn compile(text: &[u8], issued: &Issued, rows: &mut Rows) -> u32 {
-    // SAFETY: `text` is valid for reading its length and `rows` for writing
-    // eight rows of eight cells, which no one else can see meanwhile. The
-    // function keeps neither pointer.
-    unsafe {
-        rotundaaloe_compile(
-            text.as_ptr(),
-            text.len(),
-            issued.users,
-            issued.threads,
-            issued.segments,
-            issued.defined,
-            rows.as_mut_ptr(),
-        )
-    }
-}
-
-/// Whether the proved guard says that a key set, given by its keys' numbers,
-/// opens one of the first `count` products.
-pub fn opens(rows: &Rows, count: usize, keys: &[u32]) -> bool {
-    // SAFETY: `rows` is valid for reading eight rows of eight cells and `keys`
-    // for reading its length, and no one writes to either meanwhile. The
-    // function keeps neither pointer.
-    let answer = unsafe { rotundaaloe_opens(rows.as_ptr(), count, keys.as_ptr(), keys.len()) };
-    answer == 1
+    raw::compile(text, Kind::ALL.map(|kind| issued.count(kind)), rows)
 }
 
 /// A cell is its kind's place times this, plus twice the number, plus 1 if the

@@ -8,26 +8,43 @@ use crate::journal::Record;
 use crate::{Issued, Key, Kind};
 use std::collections::{BTreeMap, BTreeSet};
 
-struct Thread {
-    user: u16,
+/// A live thread.
+pub struct Thread {
+    pub user: u16,
     /// The open calls, the newest last.
-    open_calls: Vec<OpenCall>,
+    pub open_calls: Vec<OpenCall>,
 }
 
-struct OpenCall {
-    segment: u16,
-    list: Vec<Key>,
+/// An open call, and the keys that it handed over.
+pub struct OpenCall {
+    pub segment: u16,
+    pub list: Vec<Key>,
 }
 
-struct Segment {
-    sheet: bool,
-    list: Vec<Key>,
+/// A segment that is handed out.
+pub struct Segment {
+    pub owner: u16,
+    pub sheet: bool,
+    /// Its own S key, then the D keys in the order of giving.
+    pub list: Vec<Key>,
 }
 
-struct Lock {
-    segment: u16,
-    operations: u16,
-    formula: Formula,
+/// A standing lock.
+pub struct Lock {
+    pub segment: u16,
+    pub operations: u16,
+    pub formula: Formula,
+}
+
+impl Lock {
+    /// Whether it stands for an operation on a segment.
+    pub fn stands_for(&self, segment: u16, operation: u16) -> bool {
+        self.segment == segment && self.operations & operation == operation
+    }
+
+    pub fn denies(&self) -> bool {
+        self.operations & 8 == 8
+    }
 }
 
 /// What the history says of a live thread's fitting C or A.
@@ -74,6 +91,7 @@ impl History {
             }
             b'N' => {
                 let segment = Segment {
+                    owner: a,
                     sheet: b == 1,
                     list: vec![key(Kind::Segment, answer)],
                 };
@@ -145,13 +163,12 @@ impl History {
         if !call.text.is_empty() {
             return None;
         }
-        let keys = self.key_set(call.a, thread);
+        let keys = key_set(call.a, thread);
         // Locks come by rising number.
         let opening = |deny: bool| {
             self.standing.iter().find(|(_, lock)| {
-                lock.segment == call.b
-                    && lock.operations & operation == operation
-                    && (lock.operations & 8 == 8) == deny
+                lock.stands_for(call.b, operation)
+                    && lock.denies() == deny
                     && lock.formula.holds(&keys)
             })
         };
@@ -165,19 +182,24 @@ impl History {
         })
     }
 
-    fn key_set(&self, number: u16, thread: &Thread) -> BTreeSet<Key> {
-        let mut keys = BTreeSet::from([
-            Key {
-                kind: Kind::User,
-                number: thread.user,
-            },
-            Key {
-                kind: Kind::Thread,
-                number,
-            },
-        ]);
-        keys.extend(thread.open_calls.iter().flat_map(|call| &call.list));
-        keys
+    /// The key set of a live thread.
+    pub fn key_set(&self, thread: u16) -> Option<BTreeSet<Key>> {
+        Some(key_set(thread, self.live.get(&thread)?))
+    }
+
+    /// A live thread.
+    pub fn thread(&self, number: u16) -> Option<&Thread> {
+        self.live.get(&number)
+    }
+
+    /// A segment that is handed out.
+    pub fn segment(&self, number: u16) -> Option<&Segment> {
+        self.segments.get(&number)
+    }
+
+    /// The standing locks with their numbers, by rising number.
+    pub fn standing(&self) -> impl Iterator<Item = (u16, &Lock)> {
+        self.standing.iter().map(|(number, lock)| (*number, lock))
     }
 
     /// The live threads' numbers.
@@ -190,7 +212,8 @@ impl History {
         self.segments.keys().copied()
     }
 
-    fn issued(&self) -> Issued {
+    /// How many keys of each kind are handed out.
+    pub fn issued(&self) -> Issued {
         let count = |letter| self.accepted.get(&letter).copied().unwrap_or(0);
         Issued {
             users: count(b'U'),
@@ -209,4 +232,12 @@ impl History {
         let segment = self.segments.get_mut(&number);
         segment.expect("an accepted call names a segment that is handed out")
     }
+}
+
+/// A thread's user's key, its own, and what its open calls handed over.
+fn key_set(number: u16, thread: &Thread) -> BTreeSet<Key> {
+    let key = |kind, number| Key { kind, number };
+    let mut keys = BTreeSet::from([key(Kind::User, thread.user), key(Kind::Thread, number)]);
+    keys.extend(thread.open_calls.iter().flat_map(|call| &call.list));
+    keys
 }

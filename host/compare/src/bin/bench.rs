@@ -6,7 +6,7 @@
 //! is marked.
 
 use compare::Rows;
-use compare::journal::{ACCEPTED, CELLS, END, RECORD};
+use compare::journal::{ACCEPTED, Cells, END, RECORD};
 use compare::texts::{Line, lines};
 use compare::timing::{ROUNDS, Times, measure};
 use reference::Issued;
@@ -139,7 +139,7 @@ fn measure_check(file: &[u8]) -> Times {
 
 /// The proved guard from a file's first record to its end: how many there are.
 fn proved_walk(file: &[u8]) -> u32 {
-    let mut cells = [0; CELLS];
+    let mut cells = Cells::default();
     let (mut records, mut cursor) = (0, HEAD_BYTES);
     loop {
         match compare::journal::record(file, cursor, &mut cells) {

@@ -5,7 +5,7 @@
 
 use super::OPERATIONS;
 use super::tally::Tally;
-use compare::guard::{Cells, Guard, coded, outcome};
+use compare::guard::{Cells, Guard, coded, filled_with, outcome};
 use reference::guard::{Answer, check};
 use reference::journal::Record;
 use reference::trials;
@@ -27,7 +27,7 @@ impl Pair {
     /// Both in the empty state, which has 0 in every cell.
     pub fn new() -> Pair {
         let proved = Guard::new();
-        let expected = Cells::filled_with(0);
+        let expected = filled_with(0);
         assert!(*proved.cells() == *expected, "the empty state");
         Pair {
             reference: reference::guard::Guard::new(),

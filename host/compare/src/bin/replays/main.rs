@@ -7,12 +7,14 @@
 mod journals;
 
 use compare::guard::{Guard, coded};
-use compare::journal::{ACCEPTED, RECORD};
+use compare::journal::ACCEPTED;
 use compare::office;
 use compare::scratch::Directory;
 use compare::timing::{ROUNDS, measure};
 use journals::Journal;
 use reference::journal::{HEAD_BYTES, Step, check, record_at};
+use rotundaaloe::Record;
+use rotundaaloe::journal::Records;
 use std::env;
 use std::fs::{self, File};
 use std::hint::black_box;
@@ -33,13 +35,11 @@ fn proved_answers(file: &[u8], answers: &mut Vec<u32>) {
         return;
     }
     let mut guard = Guard::new();
-    let mut cursor = HEAD_BYTES;
-    let mut cells = [0; compare::journal::CELLS];
-    while compare::journal::record(file, cursor, &mut cells) == RECORD {
-        let [letter, a, b, c, start, end] = cells;
-        cursor = end as usize;
-        let text = &file[start as usize..cursor];
-        answers.push(guard.call(letter as u8, a as u16, b as u16, c as u16, text));
+    for record in Records::of(file) {
+        let Record {
+            letter, a, b, c, ..
+        } = record;
+        answers.push(guard.call(letter, a, b, c, record.text));
     }
 }
 

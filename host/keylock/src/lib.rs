@@ -1,0 +1,4 @@
+//! Journals for people: as text, and explained step by step. Every answer is the
+//! proved guard's.
+
+pub mod words;

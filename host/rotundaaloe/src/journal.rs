@@ -1,0 +1,133 @@
+//! Journals (document 01: desk files): files of call records, to be replayed.
+
+use crate::raw;
+use crate::refusal::{self, Refusal};
+
+/// The most bytes of a journal.
+pub const MAX_BYTES: usize = 65_535;
+/// The bytes before the first record.
+const HEAD_BYTES: usize = 7;
+
+/// A call as a journal records it: its letter, fields and text. Fields that the
+/// letter doesn't name are 0, and only L has a text.
+#[derive(Clone, Copy, Debug, PartialEq, Eq)]
+pub struct Record<'a> {
+    pub letter: u8,
+    pub a: u16,
+    pub b: u16,
+    pub c: u16,
+    pub text: &'a [u8],
+}
+
+/// A readable journal.
+#[derive(Clone, Debug)]
+pub struct Journal {
+    /// As long as a journal may be.
+    buffer: Box<[u8]>,
+    length: usize,
+}
+
+impl Journal {
+    /// The journal without records.
+    pub fn new() -> Journal {
+        let mut buffer = vec![0; MAX_BYTES].into_boxed_slice();
+        let answer = raw::journal_empty(&mut buffer);
+        assert_eq!(answer, 0, "the buffer holds the head");
+        Journal {
+            buffer,
+            length: HEAD_BYTES,
+        }
+    }
+
+    /// The journal of these bytes, if they are readable.
+    pub fn from_bytes(bytes: &[u8]) -> Result<Journal, refusal::Read> {
+        match raw::journal_check(bytes) {
+            0 => {
+                let mut buffer = vec![0; MAX_BYTES].into_boxed_slice();
+                buffer[..bytes.len()].copy_from_slice(bytes);
+                Ok(Journal {
+                    buffer,
+                    length: bytes.len(),
+                })
+            }
+            number => Err(refusal::Read::of(Refusal::of(number, 0))),
+        }
+    }
+
+    /// Appends a record. A refusal changes nothing.
+    pub fn append(&mut self, record: &Record) -> Result<(), refusal::Append> {
+        let fields = [record.a, record.b, record.c];
+        let (buffer, length) = (&mut self.buffer, &mut self.length);
+        match raw::journal_append(buffer, length, record.letter, fields, record.text) {
+            0 => Ok(()),
+            number => Err(refusal::Append::of(Refusal::of(number, 0))),
+        }
+    }
+
+    /// The records in order.
+    pub fn records(&self) -> Records<'_> {
+        Records::of(self.as_bytes())
+    }
+
+    /// The bytes of the file.
+    pub fn as_bytes(&self) -> &[u8] {
+        &self.buffer[..self.length]
+    }
+}
+
+impl Default for Journal {
+    fn default() -> Journal {
+        Journal::new()
+    }
+}
+
+impl PartialEq for Journal {
+    fn eq(&self, other: &Journal) -> bool {
+        self.as_bytes() == other.as_bytes()
+    }
+}
+
+impl Eq for Journal {}
+
+/// Walks over the records of a file, whether or not it is readable, up to its
+/// end or to where no whole record stands.
+#[derive(Clone, Debug)]
+pub struct Records<'a> {
+    file: &'a [u8],
+    cursor: usize,
+}
+
+impl<'a> Records<'a> {
+    /// Those of any bytes. The head isn't looked at.
+    pub fn of(file: &'a [u8]) -> Records<'a> {
+        Records {
+            file,
+            cursor: HEAD_BYTES,
+        }
+    }
+
+    /// Where the next record starts, or would.
+    pub fn cursor(&self) -> usize {
+        self.cursor
+    }
+}
+
+impl<'a> Iterator for Records<'a> {
+    type Item = Record<'a>;
+
+    fn next(&mut self) -> Option<Record<'a>> {
+        let mut found = raw::Found::default();
+        if raw::journal_record(self.file, self.cursor, &mut found) != 1 {
+            return None;
+        }
+        let [letter, a, b, c, start, end] = found;
+        self.cursor = end as usize;
+        Some(Record {
+            letter: letter as u8,
+            a: a as u16,
+            b: b as u16,
+            c: c as u16,
+            text: &self.file[start as usize..self.cursor],
+        })
+    }
+}

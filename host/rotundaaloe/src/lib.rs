@@ -1,0 +1,40 @@
+//! The proved guard for a host in Rust.
+//!
+//! A [`Guard`] owns the protection state, so no array can have the wrong length
+//! and nobody else can write to it during a call. Numbers have a type for each
+//! kind, and each call has an enum of the refusals that it can give
+//! ([`refusal`]). [`Journal`]s are the files that an office replays, and
+//! [`formula`] shows what a lock's text compiles to. [`raw`] has the proved
+//! functions as they are.
+//!
+//! ```
+//! use rotundaaloe::{Access, Guard, Kind, Operations, refusal};
+//!
+//! # fn main() -> Result<(), rotundaaloe::Refusal> {
+//! let mut guard = Guard::new();
+//! let owner = guard.new_user()?;
+//! let loader = guard.new_segment(owner, Kind::Code)?;
+//! let totals = guard.new_segment(owner, Kind::Sheet)?;
+//! guard.add_lock(owner, loader, Operations::EXECUTE, "U0")?;
+//! let lock = guard.add_lock(owner, totals, Operations::WRITE, "S0")?;
+//!
+//! let thread = guard.start_thread(owner)?;
+//! let refused = guard.access(thread, totals, Access::Write);
+//! assert_eq!(refused, Err(refusal::Access::NotGranted));
+//! guard.call_segment(thread, loader)?;
+//! assert_eq!(guard.access(thread, totals, Access::Write), Ok(lock));
+//! # Ok(())
+//! # }
+//! ```
+
+pub mod formula;
+mod guard;
+pub mod journal;
+mod numbers;
+pub mod raw;
+pub mod refusal;
+
+pub use guard::Guard;
+pub use journal::{Journal, Record};
+pub use numbers::{Access, Defined, Kind, Lock, Operations, Segment, Thread, User};
+pub use refusal::Refusal;
