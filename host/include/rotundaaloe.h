@@ -2,7 +2,8 @@
  * The proved guard for C: link target/staticlib/libabi.a, which `rt staticlib abi` makes.
  * A pointer must be valid for the length that goes with it, or for the array that is declared, and
  * never NULL, even with a length of 0. What is written to must overlap nothing else that is passed.
- * No pointer is kept.
+ * No pointer is kept. Arrays of arrays have no const where they are only read, since C before C23
+ * lets nobody pass them so; what is only read says so.
  */
 #ifndef ROTUNDAALOE_H
 #define ROTUNDAALOE_H
@@ -13,6 +14,39 @@
 #ifdef __cplusplus
 extern "C" {
 #endif
+
+/* What N makes of a segment, in its field b. */
+enum { ROTUNDAALOE_CODE = 0, ROTUNDAALOE_SHEET = 1 };
+
+/* The operations in L's field c, added up, and in A's: read or write. */
+enum {
+    ROTUNDAALOE_EXECUTE = 1,
+    ROTUNDAALOE_READ = 2,
+    ROTUNDAALOE_WRITE = 4,
+    ROTUNDAALOE_DENY = 8 /* in L alone: the lock denies */
+};
+
+/* The refusals, with document 01's words. */
+enum {
+    ROTUNDAALOE_UNKNOWN_USER = 1,    /* stranger */
+    ROTUNDAALOE_NO_THREAD = 2,       /* no run */
+    ROTUNDAALOE_NO_SEGMENT = 3,      /* no segment */
+    ROTUNDAALOE_NO_KEY = 4,          /* no key */
+    ROTUNDAALOE_NO_LOCK = 5,         /* no lock */
+    ROTUNDAALOE_NOT_OWNER = 6,       /* not yours */
+    ROTUNDAALOE_UNFIT = 7,           /* unfit */
+    ROTUNDAALOE_ALREADY_PRESENT = 8, /* already in */
+    ROTUNDAALOE_NOT_PRESENT = 9,     /* not there */
+    ROTUNDAALOE_FULL = 10,           /* full */
+    ROTUNDAALOE_MALFORMED = 11,      /* misspelt */
+    ROTUNDAALOE_TOO_WIDE = 12,       /* too wide */
+    ROTUNDAALOE_UNSATISFIABLE = 13,  /* void */
+    ROTUNDAALOE_DENIED = 14,         /* barred */
+    ROTUNDAALOE_NOT_GRANTED = 15,    /* no way in */
+    ROTUNDAALOE_NOT_JOURNAL = 16,    /* not a desk file */
+    ROTUNDAALOE_OTHER_VERSION = 17,  /* other version */
+    ROTUNDAALOE_CORRUPT = 18         /* broken file */
+};
 
 /*
  * The products of a formula text (document 01: lock text).
@@ -40,7 +74,7 @@ uint32_t rotundaaloe_compile(const uint8_t *text, size_t length, uint32_t users,
  * Answer: 1 if it opens one, 0 if none. A count above 8 is that of a sum that is too wide,
  * which no key set opens. No cell is changed.
  */
-uint32_t rotundaaloe_opens(const uint32_t rows[8][8], size_t count, const uint32_t *keys,
+uint32_t rotundaaloe_opens(uint32_t rows[8][8], size_t count, const uint32_t *keys,
                            size_t keys_count);
 
 /*
@@ -103,6 +137,15 @@ uint32_t rotundaaloe_journal_append(uint8_t *buffer, size_t capacity, size_t *le
  * refusal * 65536 + second, document 01's two numbers, and then no cell is changed.
  */
 
+/* The five arrays, for a host that keeps them together. */
+struct rotundaaloe_state {
+    uint32_t registry[8];
+    uint16_t makers[1024];
+    uint16_t segments[64][2][8];
+    uint32_t locks[64][8][8];
+    uint16_t threads[64][17][8];
+};
+
 /*
  * Writes the empty state: 0 to every cell.
  */
@@ -120,12 +163,12 @@ uint32_t rotundaaloe_call(uint32_t registry[8], uint16_t makers[1024], uint16_t 
                           uint16_t a, uint16_t b, uint16_t c, const uint8_t *text, size_t length);
 
 /*
- * C (call), without the entry: thread a calls segment b.
+ * C (call), without the entry: thread a calls segment b. Only threads is written to.
  *
  * Answer: the lock that opened, or a refusal, as above.
  */
-uint32_t rotundaaloe_call_segment(const uint32_t registry[8], const uint16_t segments[64][2][8],
-                                  const uint32_t locks[64][8][8], uint16_t threads[64][17][8],
+uint32_t rotundaaloe_call_segment(const uint32_t registry[8], uint16_t segments[64][2][8],
+                                  uint32_t locks[64][8][8], uint16_t threads[64][17][8],
                                   uint16_t a, uint16_t b);
 
 /*
@@ -141,8 +184,8 @@ uint32_t rotundaaloe_return_call(uint16_t threads[64][17][8], uint16_t a);
  *
  * Answer: the lock that opened, or a refusal, as above.
  */
-uint32_t rotundaaloe_access(const uint32_t registry[8], const uint16_t segments[64][2][8],
-                            const uint32_t locks[64][8][8], const uint16_t threads[64][17][8],
+uint32_t rotundaaloe_access(const uint32_t registry[8], uint16_t segments[64][2][8],
+                            uint32_t locks[64][8][8], uint16_t threads[64][17][8],
                             uint16_t a, uint16_t b, uint16_t c);
 
 /*
@@ -154,7 +197,7 @@ uint32_t rotundaaloe_access(const uint32_t registry[8], const uint16_t segments[
  * literals in the product that opened and the lock's operations, 8 among them in a deny lock. Of
  * any other operation the answer has no meaning.
  */
-uint32_t rotundaaloe_check(const uint16_t thread[17][8], const uint32_t products[8][8],
+uint32_t rotundaaloe_check(uint16_t thread[17][8], uint32_t products[8][8],
                            uint32_t operation);
 
 #ifdef __cplusplus

@@ -1,0 +1,221 @@
+//! The host library in Rust against the reference: the twelve calls by their
+//! typed functions, journals, and the products of formula texts.
+
+use compare::texts;
+use reference::calls::{Caller, WORLDS};
+use reference::journal::{Record, write};
+use reference::random::Random;
+use reference::{Key as ReferenceKey, Kind as ReferenceKind};
+use rotundaaloe::formula::{Issued, Key, Literal, compile};
+use rotundaaloe::{
+    Access, Defined, Guard, Journal, Kind, Lock, Operations, Refusal, Segment, Thread, User,
+};
+use std::collections::BTreeSet;
+
+fn lent(record: &Record) -> rotundaaloe::Record<'_> {
+    let Record {
+        letter, a, b, c, ..
+    } = *record;
+    let text = &record.text;
+    rotundaaloe::Record {
+        letter,
+        a,
+        b,
+        c,
+        text,
+    }
+}
+
+/// A number in its type, or a refusal of its call, as document 01's numbers.
+fn numbers<T, E: Into<Refusal>>(
+    answer: Result<T, E>,
+    number: impl FnOnce(T) -> u16,
+) -> Result<u16, (u32, u16)> {
+    answer.map(number).map_err(|refusal| {
+        let refusal = refusal.into();
+        (refusal.number(), refusal.second())
+    })
+}
+
+/// A call by its typed function, or by its letter where no typed one can say it.
+fn typed(guard: &mut Guard, record: &Record) -> Result<u16, (u32, u16)> {
+    let Record {
+        letter, a, b, c, ..
+    } = *record;
+    match (letter, b, c, &record.text[..]) {
+        (b'U', 0, 0, b"") if a == 0 => numbers(guard.new_user(), |User(n)| n),
+        (b'S', 0, 0, b"") => numbers(guard.start_thread(User(a)), |Thread(n)| n),
+        (b'E', 0, 0, b"") => numbers(guard.end_thread(Thread(a)), |n| n),
+        (b'N', 0, 0, b"") => numbers(guard.new_segment(User(a), Kind::Code), |Segment(n)| n),
+        (b'N', 1, 0, b"") => numbers(guard.new_segment(User(a), Kind::Sheet), |Segment(n)| n),
+        (b'K', 0, 0, b"") => numbers(guard.new_key(User(a)), |Defined(n)| n),
+        (b'G', _, _, b"") => numbers(guard.give_key(User(a), Segment(b), Defined(c)), |n| n),
+        (b'T', _, _, b"") => numbers(guard.take_key(User(a), Segment(b), Defined(c)), |n| n),
+        (b'L', _, _, text) if text.is_ascii() => {
+            let text = str::from_utf8(text).expect("ASCII");
+            let lock = guard.add_lock(User(a), Segment(b), Operations(c), text);
+            numbers(lock, |Lock(n)| n)
+        }
+        (b'D', _, 0, b"") => numbers(guard.drop_lock(User(a), Lock(b)), |n| n),
+        (b'C', _, 0, b"") => numbers(guard.call_segment(Thread(a), Segment(b)), |Lock(n)| n),
+        (b'R', 0, 0, b"") => numbers(guard.return_call(Thread(a)), |Segment(n)| n),
+        (b'A', _, 2, b"") => {
+            let answer = guard.access(Thread(a), Segment(b), Access::Read);
+            numbers(answer, |Lock(n)| n)
+        }
+        (b'A', _, 4, b"") => {
+            let answer = guard.access(Thread(a), Segment(b), Access::Write);
+            numbers(answer, |Lock(n)| n)
+        }
+        _ => numbers(guard.call(&lent(record)), |n| n),
+    }
+}
+
+#[test]
+fn calls_by_their_types() {
+    let mut random = Random::new(7);
+    let mut seen = BTreeSet::new();
+    for list in 0..400 {
+        let mut guard = Guard::new();
+        let mut reference = reference::guard::Guard::new();
+        let mut caller = Caller::new(&mut random, &WORLDS[list % WORLDS.len()]);
+        for _ in 0..caller.length() {
+            let record = caller.next();
+            let answer = reference.call(record.letter, record.a, record.b, record.c, &record.text);
+            let expected = answer.map_err(|refusal| (refusal.number(), refusal.second()));
+            let before = expected.is_err().then(|| guard.clone());
+            assert_eq!(typed(&mut guard, &record), expected, "{record:?}");
+            if let Some(before) = before {
+                assert!(guard == before, "{record:?} is refused and changes a cell");
+            }
+            seen.insert((
+                record.letter,
+                expected.err().map_or(0, |(number, _)| number),
+            ));
+            if let Ok(answer) = answer {
+                caller.learn(&record, answer);
+            }
+        }
+    }
+    for letter in reference::calls::LETTERS {
+        for outcome in reference::calls::outcomes(letter) {
+            let came = seen.contains(&(letter, *outcome));
+            assert!(came, "{} never came to {outcome}", char::from(letter));
+        }
+    }
+}
+
+#[test]
+fn journals_append_and_read() {
+    let mut random = Random::new(8);
+    for list in 0..200 {
+        let mut caller = Caller::new(&mut random, &WORLDS[list % WORLDS.len()]);
+        let mut journal = Journal::new();
+        let mut records = Vec::new();
+        for _ in 0..caller.length().min(500) {
+            let record = caller.next();
+            let fits = reference::journal::fits(&record);
+            let answer = journal.append(&lent(&record));
+            let expected = match fits {
+                true => Ok(()),
+                false => Err(rotundaaloe::refusal::Append::Corrupt),
+            };
+            assert_eq!(answer, expected, "{record:?}");
+            if fits {
+                records.push(record);
+            }
+        }
+        let file = write(&records);
+        assert!(journal.as_bytes() == file);
+        assert!(journal.records().eq(records.iter().map(lent)));
+        assert_eq!(Journal::from_bytes(&file).as_ref(), Ok(&journal));
+    }
+}
+
+#[test]
+fn a_full_journal_takes_no_more() {
+    let record = rotundaaloe::Record {
+        letter: b'L',
+        a: 0,
+        b: 0,
+        c: 0,
+        text: &[b'!'; 96],
+    };
+    let mut journal = Journal::new();
+    for _ in 0..624 {
+        assert_eq!(journal.append(&record), Ok(()));
+    }
+    let before = journal.clone();
+    let full = Err(rotundaaloe::refusal::Append::Full);
+    assert_eq!(journal.append(&record), full);
+    assert_eq!(journal, before);
+    assert_eq!(journal.as_bytes().len(), 65_527);
+}
+
+fn key(key: ReferenceKey) -> Key {
+    let number = key.number;
+    match key.kind {
+        ReferenceKind::User => Key::User(User(number)),
+        ReferenceKind::Thread => Key::Thread(Thread(number)),
+        ReferenceKind::Segment => Key::Segment(Segment(number)),
+        ReferenceKind::Defined => Key::Defined(Defined(number)),
+    }
+}
+
+#[test]
+fn products_and_what_opens_them() {
+    let all = reference::Issued {
+        users: 65_536,
+        threads: 65_536,
+        segments: 65_536,
+        defined: 65_536,
+    };
+    let issued = Issued {
+        users: 65_536,
+        threads: 65_536,
+        segments: 65_536,
+        defined: 65_536,
+    };
+    let mut random = Random::new(9);
+    let (mut opened, mut shut) = (0, 0);
+    for line in texts::lines() {
+        let text = line.text.as_bytes();
+        let expected = reference::formula::compile(text, &all);
+        let given = compile(text, issued);
+        let (Ok(expected), Ok(given)) = (&expected, &given) else {
+            let expected = expected.err().map(|refusal| refusal.number());
+            let given = given.err().map(|refusal| Refusal::from(refusal).number());
+            assert_eq!(given, expected, "{}", line.text);
+            continue;
+        };
+        assert_eq!(given.len(), expected.len(), "{}", line.text);
+        for (given, expected) in given.iter().zip(expected) {
+            let literals = expected
+                .literals()
+                .iter()
+                .map(|literal| match literal.barred {
+                    true => Literal::Barred(key(literal.key)),
+                    false => Literal::Plain(key(literal.key)),
+                });
+            assert!(
+                given.literals().iter().copied().eq(literals),
+                "{}",
+                line.text
+            );
+            for _ in 0..50 {
+                // Mostly as the product asks, so that some sets open it.
+                let held: BTreeSet<ReferenceKey> = expected
+                    .literals()
+                    .iter()
+                    .filter(|literal| literal.barred == random.one_in(8))
+                    .map(|literal| literal.key)
+                    .collect();
+                let keys: Vec<Key> = held.iter().map(|held| key(*held)).collect();
+                let opens = expected.is_opened_by(&held);
+                assert_eq!(given.opens(&keys), opens, "{keys:?}: {}", line.text);
+                *if opens { &mut opened } else { &mut shut } += 1;
+            }
+        }
+    }
+    assert!(opened > 500 && shut > 500, "{opened} opened, {shut} shut");
+}
