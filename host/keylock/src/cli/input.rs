@@ -103,8 +103,7 @@ impl Input {
                 journal: text.journal.clone(),
                 text: Some(text),
             }),
-            Err(mistakes) if is_binary(&bytes) => Err(neither(&name, &bytes, &mistakes)),
-            Err(mistakes) => Err(mistakes::failure(&name, &bytes, &mistakes)),
+            Err(mistakes) => Err(wrong(&name, &bytes, &mistakes)),
         }
     }
 }
@@ -112,12 +111,6 @@ impl Input {
 /// Whether the bytes begin as a journal does.
 pub fn is_journal(bytes: &[u8]) -> bool {
     bytes.starts_with(MARK)
-}
-
-/// Whether there is something that no text has.
-fn is_binary(bytes: &[u8]) -> bool {
-    let text = |byte: &u8| *byte >= b' ' || matches!(byte, b'\t' | b'\n' | b'\r');
-    !bytes.iter().all(text)
 }
 
 /// The journal of these bytes, or where they are broken.
@@ -135,9 +128,25 @@ pub fn parse(bytes: &[u8]) -> Result<Text, Vec<Mistake>> {
     text::parse_with(bytes, |line| progress.at(line))
 }
 
-fn neither(name: &Name, bytes: &[u8], mistakes: &[Mistake]) -> Failure {
+/// Mistakes, where the bytes could have been either form.
+fn wrong(name: &Name, bytes: &[u8], mistakes: &[Mistake]) -> Failure {
     let mut failure = mistakes::failure(name, bytes, mistakes);
-    let what = "neither a journal (16: no mark KLD) nor a text journal; as a text:";
-    failure.report = format!("keylock: {name}: {what}\n{}", failure.report);
+    if is_binary(bytes) || is_all_wrong(bytes, mistakes) {
+        let what = "neither a journal (16: no mark KLD) nor a text journal; as a text:";
+        failure.report = format!("keylock: {name}: {what}\n{}", failure.report);
+    }
     failure
+}
+
+/// Whether there is something that no text has.
+fn is_binary(bytes: &[u8]) -> bool {
+    let text = |byte: &u8| *byte >= b' ' || matches!(byte, b'\t' | b'\n' | b'\r');
+    !bytes.iter().all(text)
+}
+
+/// Whether several lines are calls and none is right.
+fn is_all_wrong(bytes: &[u8], mistakes: &[Mistake]) -> bool {
+    let lines = text::lines(bytes).map(<[u8]>::trim_ascii_start);
+    let calls = lines.filter(|line| !line.is_empty() && line[0] != b'#');
+    mistakes.len() > 1 && mistakes.len() == calls.count()
 }
