@@ -6,5 +6,6 @@ pub mod damage;
 mod figures;
 mod letters;
 pub mod progress;
+pub mod shown;
 pub mod text;
 pub mod words;

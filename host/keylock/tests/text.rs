@@ -477,6 +477,70 @@ fn random_journals_to_text_and_back() {
     }
 }
 
+/// A text of right and wrong lines, some bytes of it changed.
+fn random_lines(random: &mut Random) -> Vec<u8> {
+    let mut text = Vec::new();
+    for _ in 0..random.between(1, 6) {
+        let record = random_record(random);
+        let record = rotundaaloe::Record {
+            letter: record.letter,
+            a: record.a,
+            b: record.b,
+            c: record.c,
+            text: &record.text,
+        };
+        text.extend(text::call(&record).into_bytes());
+        text.extend(random.pick(&[&b"\n"[..], b"\r\n", b" -> ok 1\n", b" # \xFF\n"]));
+    }
+    for _ in 0..random.below(4) {
+        let place = random.below(text.len());
+        text[place] = match random.below(2) {
+            0 => random.bits() as u8,
+            _ => random.pick(b"\"\\#->\n\t 0"),
+        };
+    }
+    text
+}
+
+#[test]
+fn mistakes_of_random_texts_are_in_their_lines() {
+    let mut random = Random::new(4);
+    let (mut right, mut wrong) = (0, 0);
+    for _ in 0..20_000 {
+        let text = random_lines(&mut random);
+        let Err(mistakes) = text::parse(&text) else {
+            right += 1;
+            continue;
+        };
+        wrong += 1;
+        let lines: Vec<&[u8]> = text::lines(&text).collect();
+        assert!(mistakes.is_sorted_by(|one, next| one.line < next.line));
+        for mistake in mistakes {
+            let line = String::from_utf8_lossy(lines[mistake.line - 1]);
+            let most = line.chars().count() + 1;
+            assert!((1..=most).contains(&mistake.column), "{mistake:?}: {line}");
+        }
+    }
+    assert!(right > 2_000 && wrong > 2_000, "{right} and {wrong}");
+}
+
+/// A line is right or wrong whatever the other lines are.
+#[test]
+fn each_line_is_judged_alone() {
+    let mut random = Random::new(5);
+    for _ in 0..2_000 {
+        let text = random_lines(&mut random);
+        let mistakes = text::parse(&text).err().unwrap_or_default();
+        for (place, line) in text::lines(&text).enumerate() {
+            let alone = text::parse(line).err().unwrap_or_default();
+            let alone = alone.into_iter().map(|m| (m.column, m.message));
+            let among = mistakes.iter().filter(|m| m.line == place + 1);
+            let among = among.map(|m| (m.column, m.message.clone()));
+            assert!(alone.eq(among), "{}", line.escape_ascii());
+        }
+    }
+}
+
 #[test]
 fn every_byte_alone_to_text_and_back() {
     for byte in 0..=255 {

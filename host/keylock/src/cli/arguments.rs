@@ -3,6 +3,7 @@
 use super::failure::Failure;
 use super::input::Source;
 use super::output::Target;
+use keylock::shown::escaped;
 use std::ffi::{OsStr, OsString};
 use std::os::unix::ffi::OsStrExt;
 
@@ -179,7 +180,7 @@ impl Rest {
 }
 
 fn shown(argument: &OsStr) -> String {
-    format!("'{}'", argument.to_string_lossy().escape_debug())
+    format!("'{}'", escaped(&argument.to_string_lossy()))
 }
 
 fn unknown_option(topic: Option<Topic>, option: &OsStr) -> Failure {

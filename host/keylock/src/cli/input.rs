@@ -4,6 +4,7 @@ use super::failure::Failure;
 use super::mistakes;
 use keylock::damage;
 use keylock::progress::Progress;
+use keylock::shown::escaped;
 use keylock::text::{self, Mistake, Text};
 use rotundaaloe::Journal;
 use std::ffi::OsString;
@@ -60,19 +61,13 @@ impl Source {
     }
 }
 
-/// What messages call a file. Shown without control characters.
+/// What messages call a file.
 #[derive(Clone)]
 pub struct Name(pub String);
 
 impl fmt::Display for Name {
     fn fmt(&self, f: &mut fmt::Formatter) -> fmt::Result {
-        for character in self.0.chars() {
-            match character.is_control() {
-                true => write!(f, "{}", character.escape_default())?,
-                false => write!(f, "{character}")?,
-            }
-        }
-        Ok(())
+        f.write_str(&escaped(&self.0))
     }
 }
 

@@ -2,6 +2,7 @@
 
 use super::failure::{Failure, Status};
 use super::input::Name;
+use keylock::shown::is_plain;
 use keylock::text::{self, Mistake};
 
 /// The most mistakes that are shown.
@@ -43,8 +44,11 @@ pub fn failure(name: &Name, text: &[u8], mistakes: &[Mistake]) -> Failure {
 fn excerpt(line: &[u8], character: usize) -> String {
     let line = String::from_utf8_lossy(line);
     let characters: Vec<char> = line.chars().map(shown).collect();
-    let start = character.saturating_sub(WIDEST / 2);
-    let start = if character < WIDEST { 0 } else { start };
+    let character = character.min(characters.len());
+    let start = match character < WIDEST {
+        true => 0,
+        false => character - WIDEST / 2,
+    };
     let end = characters.len().min(start + WIDEST);
     let before = if start > 0 { "..." } else { "" };
     let after = if end < characters.len() { "..." } else { "" };
@@ -54,21 +58,17 @@ fn excerpt(line: &[u8], character: usize) -> String {
     format!("  {before}{part}{after}\n  {caret}^\n")
 }
 
-/// A character that takes its columns and does nothing else to a terminal.
 fn shown(character: char) -> char {
     match character {
         '\t' => ' ',
-        '\u{200B}'..='\u{200F}' | '\u{2028}'..='\u{202E}' | '\u{2060}'..='\u{206F}' => '\u{FFFD}',
-        '\u{FEFF}' => '\u{FFFD}',
-        other if other.is_control() => '\u{FFFD}',
-        other => other,
+        other if is_plain(other) => other,
+        _ => char::REPLACEMENT_CHARACTER,
     }
 }
 
-/// The columns of a character on most terminals.
+/// The columns of a plain character on most terminals.
 fn width(character: char) -> usize {
     match character {
-        '\u{300}'..='\u{36F}' => 0,
         '\u{1100}'..='\u{115F}'
         | '\u{2E80}'..='\u{A4CF}'
         | '\u{AC00}'..='\u{D7A3}'
