@@ -374,6 +374,22 @@ fn a_full_disk() {
     refused(&keylock(&["asm", &text, "-o", "/dev/full"], b""), 2, right);
 }
 
+/// Where no file may grow, an old one stays and no other is left.
+#[test]
+fn a_file_that_cannot_grow() {
+    let directory = Directory::new("grow");
+    let [text, out] = ["a.txt", "out"].map(|name| directory.file(name));
+    fs::write(&text, "U").unwrap();
+    fs::write(&out, "old").unwrap();
+    let limited = "trap '' XFSZ; ulimit -f 0; exec \"$0\" asm \"$1\" -o \"$2\"";
+    let mut shell = Command::new("sh");
+    let keylock = env!("CARGO_BIN_EXE_keylock");
+    let ran = commands::run(shell.args(["-c", limited, keylock, &text, &out]));
+    refused(&ran, 2, &format!("keylock: {out}: File too large\n"));
+    assert_eq!(fs::read(&out).unwrap(), b"old");
+    assert_eq!(directory.names(), ["a.txt", "out"]);
+}
+
 #[test]
 fn what_cannot_be_read_or_written() {
     let directory = Directory::new("unwritable");
