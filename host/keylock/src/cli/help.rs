@@ -1,0 +1,140 @@
+//! What `--help` shows.
+
+use super::arguments::Topic;
+
+pub fn text(topic: Option<Topic>) -> &'static str {
+    match topic {
+        None => COMMAND,
+        Some(Topic::Asm) => ASM,
+        Some(Topic::Dis) => DIS,
+        Some(Topic::Run) => RUN,
+        Some(Topic::Trace) => TRACE,
+    }
+}
+
+const COMMAND: &str = "\
+Usage: keylock SUBCOMMAND [OPTION]... [FILE]...
+
+Writes, reads, replays and explains the guard's journals. Every answer is the
+proved guard's.
+
+Subcommands:
+  asm    a text journal to a journal
+  dis    a journal to a text journal
+  run    the guard's answer to each call
+  trace  each call explained, as text or as a page
+
+Options:
+  -h, --help     show this; 'keylock SUBCOMMAND --help' tells more
+  -V, --version  show the version
+
+A FILE that is missing or '-' is standard input. '--' ends the options.
+
+Exit status:
+  0  fine
+  1  the input is at fault
+  2  the command was called wrongly, or couldn't read or write
+
+Example:
+  keylock asm office.txt -o office.kld && keylock run office.kld
+";
+
+const ASM: &str = r#"Usage: keylock asm [FILE] [-o OUT]
+
+Makes the journal of a text journal. All mistakes of the text are told with
+their line and column; where there are any, nothing is written.
+
+A text journal has one call a line: its letter, the fields that it names, for L
+the lock's text, and if you like the answer that 'keylock run' has to expect.
+
+  # a comment runs to the end of the line
+  U                          a new user
+  S USER                     start a thread
+  E THREAD                   end it
+  N USER KIND                a new segment: 0 code, 1 sheet
+  K USER                     a new key
+  G USER SEGMENT KEY         give the key to the segment
+  T USER SEGMENT KEY         take it
+  L USER SEGMENT OPS TEXT    lock: 1 execute, 2 read, 4 write, and 8 to deny
+  D USER LOCK                drop the lock
+  C THREAD SEGMENT           call
+  R THREAD                   return
+  A THREAD SEGMENT OP        access: 2 read, 4 write
+  A 0 2 4 -> no 15 0         expects a refusal; '-> ok 2' an answer
+
+A lock's text is bare, S0&S1, or in quotes, "S0 & \x00", with \" \\ and \xHH.
+
+Options:
+  -o, --output OUT  write to this file; '-' and none is standard output
+  -h, --help        show this
+  -V, --version     show the version
+
+Exit status: 0 fine, 1 mistakes in the text, 2 called wrongly, or couldn't read
+or write.
+
+Example:
+  keylock asm office.txt -o office.kld
+"#;
+
+const DIS: &str = "\
+Usage: keylock dis [FILE] [-o OUT]
+
+Makes the text of a journal: a call a line, with its place and what it asks for
+in a comment. 'keylock asm' makes the same journal of it again, byte for byte.
+Where the guard refuses the file, it tells at which byte and why, and writes
+nothing.
+
+Options:
+  -o, --output OUT  write to this file; '-' and none is standard output
+  -h, --help        show this
+  -V, --version     show the version
+
+Exit status: 0 fine, 1 the file is refused, 2 called wrongly, or couldn't read
+or write.
+
+Example:
+  keylock dis office.kld -o office.txt
+";
+
+const RUN: &str = "\
+Usage: keylock run [FILE]...
+
+Replays journals or text journals, each from the empty state, and prints the
+guard's answers as the office program does: place, letter, and 'ok N' or
+'no N M'. Before each of several files stands a line '== FILE =='.
+
+Answers that a text expects are compared: those that aren't given are told on
+standard error, and so is how many there were.
+
+Options:
+  -h, --help     show this
+  -V, --version  show the version
+
+Colours are for terminals only, and not where NO_COLOR is set.
+
+Exit status: 0 fine, 1 an input is at fault (then nothing is run) or an expected
+answer isn't given, 2 called wrongly, or couldn't read or write.
+
+Example:
+  printf 'U\\nS 0 -> ok 0\\n' | keylock run
+";
+
+const TRACE: &str = "\
+Usage: keylock trace [--html] [FILE] [-o OUT]
+
+Explains a journal or a text journal step by step: what each call asks for, the
+guard's answer, and the state after it. The text's comments and expected answers
+stand beside the steps.
+
+Options:
+      --html        a page for a browser, in one file
+  -o, --output OUT  write to this file; '-' and none is standard output
+  -h, --help        show this
+  -V, --version     show the version
+
+Exit status: 0 fine, 1 the input is at fault, 2 called wrongly, or couldn't read
+or write.
+
+Example:
+  keylock trace --html office.txt -o office.html
+";

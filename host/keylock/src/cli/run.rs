@@ -1,0 +1,110 @@
+//! `keylock run`: the guard's answers, as the office program prints them.
+
+use super::failure::{Failure, Status};
+use super::input::{Input, Source};
+use super::output::{self, Target};
+use keylock::answer::Answer;
+use keylock::progress::Progress;
+use rotundaaloe::{Guard, Journal};
+use std::env;
+use std::io::{self, IsTerminal};
+
+pub fn run(sources: &[Source]) -> Result<Status, Failure> {
+    let inputs = read_all(sources)?;
+    let colour = wants_colour();
+    let mut status = Status::Fine;
+    for input in &inputs {
+        let answers = answers(&input.journal);
+        let mut printed = String::new();
+        if inputs.len() > 1 {
+            printed += &format!("== {} ==\n", input.name);
+        }
+        printed += &lines(&input.journal, &answers, colour);
+        Target::StandardOutput.write(printed.as_bytes())?;
+        status = status.max(compare(input, &answers));
+    }
+    Ok(status)
+}
+
+/// Nothing is run where one of the inputs is at fault.
+fn read_all(sources: &[Source]) -> Result<Vec<Input>, Failure> {
+    let mut inputs = Vec::new();
+    let mut status = Status::Fine;
+    let mut report = String::new();
+    for source in sources {
+        match Input::read(source) {
+            Ok(input) => inputs.push(input),
+            Err(failure) => {
+                status = status.max(failure.status);
+                report += &failure.report;
+            }
+        }
+    }
+    match status {
+        Status::Fine => Ok(inputs),
+        _ => Err(Failure { status, report }),
+    }
+}
+
+fn answers(journal: &Journal) -> Vec<Answer> {
+    let mut guard = Guard::new();
+    let mut progress = Progress::new(journal.records().count(), "records");
+    let mut answers = Vec::new();
+    for record in journal.records() {
+        answers.push(guard.call(&record).into());
+        progress.at(answers.len());
+    }
+    answers
+}
+
+fn lines(journal: &Journal, answers: &[Answer], colour: bool) -> String {
+    let mut lines = String::new();
+    for (place, (record, answer)) in journal.records().zip(answers).enumerate() {
+        let letter = char::from(record.letter);
+        let [start, end] = match (colour, answer) {
+            (false, _) => ["", ""],
+            (true, Answer::Ok(_)) => ["\x1b[32m", "\x1b[0m"],
+            (true, Answer::No { .. }) => ["\x1b[31m", "\x1b[0m"],
+        };
+        lines += &format!("{place} {letter} {start}{answer}{end}\n");
+    }
+    lines
+}
+
+fn wants_colour() -> bool {
+    let no_colour = env::var_os("NO_COLOR").is_some_and(|value| !value.is_empty());
+    let dumb = env::var_os("TERM").is_some_and(|term| term == "dumb");
+    io::stdout().is_terminal() && !no_colour && !dumb
+}
+
+/// Tells which expected answers aren't given.
+fn compare(input: &Input, answers: &[Answer]) -> Status {
+    let Input { name, text, .. } = input;
+    let Some(text) = text else {
+        return Status::Fine;
+    };
+    let mut report = String::new();
+    let mut missed = 0;
+    for (line, answer) in text.lines.iter().zip(answers) {
+        if let Some(expected) = line.expected
+            && expected != *answer
+        {
+            missed += 1;
+            let number = line.number;
+            report +=
+                &format!("{name}:{number}: expected {expected}, the guard answers {answer}\n");
+        }
+    }
+    let summary = match (text.expected(), missed) {
+        (0, _) => return Status::Fine,
+        (1, 0) => "1 expected answer, given".to_string(),
+        (all, 0) => format!("{all} expected answers, all given"),
+        (1, _) => "1 expected answer, not given".to_string(),
+        (all, missed) => format!("{all} expected answers, {missed} not given"),
+    };
+    output::complain(&format!("{report}{name}: {summary}\n"));
+    match missed {
+        0 => Status::Fine,
+        _ => Status::Input,
+    }
+}

@@ -1,0 +1,166 @@
+//! Where and why a file that the proved check refuses is broken. The verdict is
+//! the check's; this only explains it.
+
+use crate::figures::{counted, grouped};
+use crate::letters;
+use rotundaaloe::Refusal;
+use rotundaaloe::journal::{MAX_BYTES, Records};
+use rotundaaloe::refusal::Read;
+use std::fmt;
+
+const MARK: &[u8] = b"KLD";
+const VERSION: usize = 3;
+const COUNT: usize = 5;
+const HEAD_BYTES: usize = 7;
+const RECORD_HEAD_BYTES: usize = 9;
+const MAX_TEXT_BYTES: usize = 96;
+
+/// Where a file is broken, and why.
+#[derive(Clone, Debug, PartialEq, Eq)]
+pub struct Damage {
+    /// From 0.
+    pub byte: usize,
+    /// From 0, where it is in a record.
+    pub record: Option<usize>,
+    pub sentence: String,
+    pub refusal: Refusal,
+}
+
+impl fmt::Display for Damage {
+    fn fmt(&self, f: &mut fmt::Formatter) -> fmt::Result {
+        write!(f, "byte {}", self.byte)?;
+        if let Some(record) = self.record {
+            write!(f, ", record {record}")?;
+        }
+        let (number, word) = (self.refusal.number(), self.refusal.word());
+        write!(f, ": {} ({number} {word})", self.sentence)
+    }
+}
+
+/// A place and what is wrong there.
+type Finding = (usize, Option<usize>, String);
+
+/// Explains why the check refuses these bytes.
+pub fn explain(bytes: &[u8], refusal: Read) -> Damage {
+    let (byte, record, sentence) = match refusal {
+        Read::NotJournal => no_mark(bytes),
+        Read::OtherVersion => other_version(bytes),
+        Read::Corrupt => broken(bytes),
+    };
+    Damage {
+        byte,
+        record,
+        sentence,
+        refusal: refusal.into(),
+    }
+}
+
+/// The number of 16 bits at a place, 0 where the file is shorter.
+fn number_at(bytes: &[u8], place: usize) -> usize {
+    match bytes.get(place..place + 2) {
+        Some(&[low, high]) => usize::from(u16::from_le_bytes([low, high])),
+        _ => 0,
+    }
+}
+
+fn no_mark(bytes: &[u8]) -> Finding {
+    let same = bytes
+        .iter()
+        .zip(MARK)
+        .take_while(|(byte, mark)| byte == mark);
+    let sentence = "no mark: a journal begins with KLD".to_string();
+    (same.count(), None, sentence)
+}
+
+fn other_version(bytes: &[u8]) -> Finding {
+    let version = number_at(bytes, VERSION);
+    let sentence = format!("version {version}, only version 1 is known");
+    (VERSION, None, sentence)
+}
+
+fn broken(bytes: &[u8]) -> Finding {
+    let length = bytes.len();
+    if length < HEAD_BYTES {
+        let sentence = format!("cut short: {length} of the head's {HEAD_BYTES} bytes");
+        return (length, None, sentence);
+    }
+    if length > MAX_BYTES {
+        let [length, most] = [length, MAX_BYTES].map(grouped);
+        return (MAX_BYTES, None, format!("{length} bytes, over {most}"));
+    }
+    let count = number_at(bytes, COUNT);
+    let mut records = Records::of(bytes);
+    let whole = records.by_ref().take(count).count();
+    let cursor = records.cursor();
+    if whole == count {
+        return left_over(bytes, records, count);
+    }
+    if cursor == length {
+        let [ends, says] = [whole, count].map(|number| counted(number, "record"));
+        let sentence = format!("the file ends after {ends}, its count says {says}");
+        return (cursor, None, sentence);
+    }
+    let (place, sentence) = unfit(&bytes[cursor..]);
+    (cursor + place, Some(whole), sentence)
+}
+
+/// What stands behind as many records as the count says.
+fn left_over(bytes: &[u8], mut records: Records, count: usize) -> Finding {
+    let cursor = records.cursor();
+    let more = records.by_ref().count();
+    let says = counted(count, "record");
+    let sentence = if records.cursor() == bytes.len() {
+        let stand = grouped(count + more);
+        format!("the count says {says}, but {stand} stand in the file")
+    } else {
+        let left = counted(bytes.len() - cursor, "byte");
+        match count {
+            0 => format!("{left} left over after the head, the count says {says}"),
+            _ => format!("{left} left over after record {}, the last", count - 1),
+        }
+    };
+    (cursor, None, sentence)
+}
+
+/// Why no whole record stands at the start of these bytes, and at which of them.
+fn unfit(record: &[u8]) -> (usize, String) {
+    let length = record.len();
+    let letter = record.first().copied().unwrap_or(0);
+    let Some(named) = letters::fields(letter) else {
+        return (0, format!("{} is no call's letter", byte_shown(letter)));
+    };
+    let name = char::from(letter);
+    if length < RECORD_HEAD_BYTES {
+        let sentence = format!("cut short: {length} of {RECORD_HEAD_BYTES} bytes before the text");
+        return (length, sentence);
+    }
+    for (place, field) in "abc".chars().enumerate().skip(named.len()) {
+        let at = 1 + 2 * place;
+        let value = number_at(record, at);
+        if value != 0 {
+            return (at, format!("field {field} is {value}, but {name} has none"));
+        }
+    }
+    let text = number_at(record, RECORD_HEAD_BYTES - 2);
+    let there = length - RECORD_HEAD_BYTES;
+    let wrong = match letter {
+        b'L' if !(1..=MAX_TEXT_BYTES).contains(&text) => {
+            format!("the text's length is {text}, but L's is 1 to {MAX_TEXT_BYTES}")
+        }
+        b'L' => {
+            return (
+                length,
+                format!("cut short: {there} of the text's {text} bytes"),
+            );
+        }
+        _ => format!("the text's length is {text}, but {name} has no text"),
+    };
+    (RECORD_HEAD_BYTES - 2, wrong)
+}
+
+fn byte_shown(byte: u8) -> String {
+    match byte.is_ascii_graphic() {
+        true => format!("'{}'", char::from(byte)),
+        false => format!("byte 0x{byte:02X}"),
+    }
+}

@@ -1,0 +1,428 @@
+//! The command as it is run: what it writes where, and its exit status.
+
+mod commands;
+
+use commands::{Directory, OFFICE_LINES, Ran, TRIAL, keylock};
+use std::ffi::OsStr;
+use std::fs::{self, File};
+use std::os::unix::ffi::OsStrExt;
+use std::os::unix::fs::{FileTypeExt, PermissionsExt, symlink};
+use std::process::{Command, Stdio};
+
+const ONE_USER: &[u8] = b"KLD\x01\0\x01\0U\0\0\0\0\0\0\0\0";
+
+/// Nothing on standard output, this status, and this on standard error.
+#[track_caller]
+fn refused(ran: &Ran, status: i32, complaint: &str) {
+    assert_eq!(ran.complaint, complaint);
+    assert_eq!(ran.printed(), "");
+    assert_eq!(ran.status, status);
+}
+
+#[track_caller]
+fn fine(ran: &Ran, printed: &str) {
+    assert_eq!(ran.complaint, "");
+    assert_eq!(ran.printed(), printed);
+    assert_eq!(ran.status, 0);
+}
+
+#[test]
+fn asm_and_dis_through_pipes() {
+    let ran = keylock(&["asm"], b"U");
+    assert_eq!((ran.output.as_slice(), ran.status), (ONE_USER, 0));
+    fine(&keylock(&["dis"], ONE_USER), "U  # 0: a new user\n");
+    fine(
+        &keylock(&["dis", "-", "-o", "-"], ONE_USER),
+        "U  # 0: a new user\n",
+    );
+    let ran = keylock(&["asm", "-"], TRIAL.as_bytes());
+    let text = keylock(&["dis"], &ran.output);
+    assert_eq!(keylock(&["asm"], &text.output).output, ran.output);
+}
+
+#[test]
+fn asm_and_dis_to_files() {
+    let directory = Directory::new("files");
+    let [text, out] = ["a.txt", "a.kld"].map(|name| directory.file(name));
+    fs::write(&text, "U").unwrap();
+    for option in [&["-o", &out][..], &["--output", &out]] {
+        let ran = keylock(&[&["asm", text.as_str()], option].concat(), b"");
+        fine(&ran, "");
+        assert_eq!(fs::read(&out).unwrap(), ONE_USER);
+        fs::remove_file(&out).unwrap();
+    }
+    for option in [format!("-o{out}"), format!("--output={out}")] {
+        fine(&keylock(&["asm", &option, &text], b""), "");
+        assert_eq!(fs::read(&out).unwrap(), ONE_USER);
+        fs::write(&out, "an old one, and longer than the new").unwrap();
+    }
+    fine(&keylock(&["asm", &text, "-o", &out], b""), "");
+    assert_eq!(fs::read(&out).unwrap(), ONE_USER);
+    // In place.
+    fine(&keylock(&["dis", &out, "-o", &out], b""), "");
+    assert_eq!(fs::read_to_string(&out).unwrap(), "U  # 0: a new user\n");
+    assert_eq!(directory.names(), ["a.kld", "a.txt"]);
+}
+
+#[test]
+fn run_prints_what_the_office_program_prints() {
+    fine(&keylock(&["run"], TRIAL.as_bytes()), OFFICE_LINES);
+    let file = keylock(&["asm"], TRIAL.as_bytes()).output;
+    fine(&keylock(&["run"], &file), OFFICE_LINES);
+    fine(&keylock(&["run", "-"], &file), OFFICE_LINES);
+    fine(&keylock(&["run"], b"KLD\x01\0\0\0"), "");
+    fine(&keylock(&["run"], b"# nothing\n"), "");
+    fine(
+        &keylock(&["run"], b"S 0\nR 0\n"),
+        "0 S no 1 0\n1 R no 2 0\n",
+    );
+}
+
+#[test]
+fn run_takes_several_files() {
+    let directory = Directory::new("several");
+    let [text, file, bad] = ["a.txt", "b", "bad"].map(|name| directory.file(name));
+    fs::write(&text, "U -> ok 1\nS 0").unwrap();
+    fs::write(&file, ONE_USER).unwrap();
+    fs::write(&bad, "U\nZ").unwrap();
+    let ran = keylock(&["run", &file, &text, "-"], b"R 0");
+    let right = format!(
+        "== {file} ==\n0 U ok 0\n== {text} ==\n0 U ok 0\n1 S ok 0\n\
+         == standard input ==\n0 R no 2 0\n"
+    );
+    assert_eq!(ran.printed(), right);
+    let right = format!(
+        "{text}:1: expected ok 1, the guard answers ok 0\n\
+         {text}: 1 expected answer, not given\n"
+    );
+    assert_eq!((ran.complaint.as_str(), ran.status), (right.as_str(), 1));
+    // One at fault, and nothing is run.
+    let ran = keylock(&["run", &file, &bad], b"");
+    assert_eq!((ran.printed().as_str(), ran.status), ("", 1));
+    assert!(ran.complaint.starts_with(&format!("keylock: {bad}:2:1: ")));
+    let ran = keylock(&["run", &bad, "/no/such/file"], b"");
+    assert_eq!((ran.printed().as_str(), ran.status), ("", 2));
+    let ran = keylock(&["run", "-", "-"], b"U");
+    assert_eq!((ran.printed().as_str(), ran.status), ("", 2));
+}
+
+#[test]
+fn expected_answers() {
+    let ran = keylock(&["run"], b"U -> ok 0\nS 0 -> ok 0\nC 0 0 -> no 3 0\n");
+    assert_eq!(ran.printed(), "0 U ok 0\n1 S ok 0\n2 C no 3 0\n");
+    let right = "standard input: 3 expected answers, all given\n";
+    assert_eq!((ran.complaint.as_str(), ran.status), (right, 0));
+
+    let ran = keylock(
+        &["run"],
+        b"\nU\n\nS 1 -> ok 0\nR 0 -> no 2 1\nE 0 -> no 2 0",
+    );
+    assert_eq!(
+        ran.printed(),
+        "0 U ok 0\n1 S no 1 0\n2 R no 2 0\n3 E no 2 0\n"
+    );
+    let right = "standard input:4: expected ok 0, the guard answers no 1 0\n\
+        standard input:5: expected no 2 1, the guard answers no 2 0\n\
+        standard input: 3 expected answers, 2 not given\n";
+    assert_eq!((ran.complaint.as_str(), ran.status), (right, 1));
+}
+
+#[test]
+fn mistakes_are_shown_and_nothing_is_written() {
+    let directory = Directory::new("mistakes");
+    let [text, out] = ["a.txt", "out"].map(|name| directory.file(name));
+    fs::write(&text, "U\nC 0\nN\t007 1\n").unwrap();
+    fs::write(&out, "old").unwrap();
+    let right = format!(
+        "keylock: {text}:2:4: C needs a segment (field b) here\n  C 0\n     ^\n\
+         keylock: {text}:3:3: leading zero in 007\n  N 007 1\n    ^\n\
+         2 mistakes; nothing was written\n"
+    );
+    refused(&keylock(&["asm", &text, "-o", &out], b""), 1, &right);
+    refused(&keylock(&["asm", &text], b""), 1, &right);
+    refused(&keylock(&["run", &text], b""), 1, &right);
+    refused(&keylock(&["trace", &text, "-o", &out], b""), 1, &right);
+    assert_eq!(fs::read(&out).unwrap(), b"old");
+    assert_eq!(directory.names(), ["a.txt", "out"]);
+
+    let right = "keylock: standard input:1:2: S needs a user (field a) here\n  S\n   ^\n";
+    refused(&keylock(&["asm", "-o", &out], b"S"), 1, right);
+    assert_eq!(fs::read(&out).unwrap(), b"old");
+}
+
+#[test]
+fn many_mistakes_are_cut() {
+    let ran = keylock(&["asm"], &b"Z\n".repeat(25));
+    assert_eq!(ran.complaint.matches("is no call's letter").count(), 20);
+    let end = "\nand 5 more\n25 mistakes; nothing was written\n";
+    assert!(ran.complaint.ends_with(end));
+    let ran = keylock(&["asm"], &b"Z\n".repeat(20));
+    assert_eq!(ran.complaint.matches("is no call's letter").count(), 20);
+    assert!(!ran.complaint.contains("more"));
+}
+
+#[test]
+fn refused_files() {
+    let file = [&ONE_USER[..10], b"\x05", &ONE_USER[11..]].concat();
+    let right = "keylock: standard input: byte 10, record 0: \
+        field b is 5, but U has none (18 broken file)\n";
+    for command in ["dis", "run", "trace"] {
+        refused(&keylock(&[command], &file), 1, right);
+    }
+    let right = "keylock: standard input: byte 3: \
+        version 2, only version 1 is known (17 other version)\n";
+    refused(&keylock(&["dis"], b"KLD\x02\0\0\0"), 1, right);
+}
+
+#[test]
+fn no_bytes() {
+    let right = "keylock: standard input: no bytes: not a journal (16)\n";
+    for command in ["dis", "run", "trace"] {
+        refused(&keylock(&[command], b""), 1, right);
+    }
+    assert_eq!(keylock(&["asm"], b"").output, b"KLD\x01\0\0\0");
+}
+
+#[test]
+fn the_wrong_form() {
+    let right = "keylock: standard input: byte 0: no mark: \
+        a journal begins with KLD (16 not a desk file)\n";
+    refused(&keylock(&["dis"], b"Zebra\n"), 1, right);
+    let hint = "It is a text journal already: 'keylock asm' makes it a journal.\n";
+    refused(&keylock(&["dis"], b"U\n"), 1, &format!("{right}{hint}"));
+    let right = "keylock: standard input: no text, it begins with KLD: \
+        'keylock dis' makes a journal a text\n";
+    refused(&keylock(&["asm"], ONE_USER), 1, right);
+    let neither = "keylock: standard input: neither a journal (16: no mark KLD) \
+        nor a text journal; as a text:\nkeylock: standard input:1:1: ";
+    for command in ["run", "trace"] {
+        for bytes in [&b"\x89PNG\r\n\x1A\n\0\0"[..], b"Dear reader,\nhello.\n"] {
+            let ran = keylock(&[command], bytes);
+            assert!(ran.complaint.starts_with(neither), "{}", ran.complaint);
+            assert_eq!((ran.printed().as_str(), ran.status), ("", 1));
+        }
+    }
+    let endless = File::open("/dev/zero").unwrap();
+    let ran = commands::run(
+        Command::new(env!("CARGO_BIN_EXE_keylock"))
+            .arg("run")
+            .stdin(endless),
+    );
+    let right = "keylock: standard input: over 8 MiB: no journal, nor the text of one\n";
+    refused(&ran, 1, right);
+}
+
+#[test]
+fn help_and_version() {
+    let mut seen = Vec::new();
+    for arguments in [
+        &["--help"][..],
+        &["asm", "--help"],
+        &["dis", "-h"],
+        &["run", "-h"],
+    ] {
+        seen.push(keylock(arguments, b""));
+    }
+    seen.push(keylock(&["trace", "x", "--help", "--nonsense"], b""));
+    for (ran, usage) in seen
+        .iter()
+        .zip(["SUBCOMMAND", "asm", "dis", "run", "trace"])
+    {
+        fine(ran, &ran.printed());
+        let printed = ran.printed();
+        assert!(printed.starts_with(&format!("Usage: keylock {usage} ")));
+        for part in ["Options:", "--help", "Exit status:", "Example:"] {
+            assert!(printed.contains(part), "{usage}: {part}");
+        }
+        assert!(printed.lines().all(|line| line.len() <= 80), "{usage}");
+    }
+    fine(&keylock(&["help", "dis"], b""), &seen[2].printed());
+    fine(&keylock(&["help"], b""), &seen[0].printed());
+    for arguments in [&["--version"][..], &["-V"], &["run", "--version"]] {
+        fine(&keylock(arguments, b""), "keylock 0.1.0\n");
+    }
+}
+
+/// The calls in `keylock asm --help` have the fields that they need.
+#[test]
+fn the_help_is_right() {
+    let help = keylock(&["asm", "--help"], b"").printed();
+    let call = |line: &str| {
+        let (letter, names) = line.strip_prefix("  ")?.split_once(' ')?;
+        let names = names.split("  ").next()?.split(' ');
+        let names = names.filter(|name| name.starts_with(char::is_uppercase));
+        let call = format!("{letter}{}\n", " 1".repeat(names.count()));
+        (letter.len() == 1 && !["A\n", "#\n"].contains(&call.as_str())).then_some(call)
+    };
+    let text: String = help.lines().filter_map(call).collect();
+    let printed = keylock(&["run"], text.as_bytes()).printed();
+    let letters = printed.lines().filter_map(|line| line.split(' ').nth(1));
+    assert_eq!(letters.collect::<String>(), "USENKGTLDCRA");
+}
+
+#[test]
+fn called_wrongly() {
+    let see = |topic: &str| format!("See 'keylock{topic} --help'.\n");
+    let wrong = |arguments: &[&str], topic: &str, message: &str| {
+        let right = format!("keylock: {message}\n{}", see(topic));
+        refused(&keylock(arguments, b"U"), 2, &right);
+    };
+    wrong(&[], "", "what to do? asm, dis, run or trace");
+    wrong(
+        &["asn"],
+        "",
+        "no subcommand is called 'asn'; is 'asm' meant?",
+    );
+    wrong(
+        &["Trace"],
+        "",
+        "no subcommand is called 'Trace'; is 'trace' meant?",
+    );
+    wrong(
+        &["rnu"],
+        "",
+        "no subcommand is called 'rnu'; is 'run' meant?",
+    );
+    wrong(&["frobnicate"], "", "no subcommand is called 'frobnicate'");
+    wrong(&["help", "me"], "", "no subcommand is called 'me'");
+    wrong(&["--frob"], "", "unknown option '--frob'");
+    wrong(&["asm", "--frob"], " asm", "unknown option '--frob'");
+    wrong(&["asm", "-x"], " asm", "unknown option '-x'");
+    wrong(&["dis", "--html"], " dis", "unknown option '--html'");
+    wrong(&["run", "-o", "x"], " run", "unknown option '-o'");
+    wrong(&["asm", "-o"], " asm", "-o needs the name of a file");
+    wrong(&["asm", "--output="], " asm", "-o needs the name of a file");
+    wrong(&["asm", "-o-", "-o-"], " asm", "-o is given twice");
+    wrong(
+        &["dis", "a", "b"],
+        " dis",
+        "dis takes one file, 'b' is one more",
+    );
+}
+
+#[test]
+fn names_of_any_kind() {
+    let directory = Directory::new("names");
+    let odd = [
+        OsStr::new("-o"),
+        OsStr::from_bytes(b"\xFF\n\x1B"),
+        OsStr::new("--"),
+    ];
+    for name in odd {
+        fs::write(directory.path().join(name), "U\n").unwrap();
+        let mut command = Command::new(env!("CARGO_BIN_EXE_keylock"));
+        command.current_dir(directory.path());
+        fine(
+            &commands::run(command.args(["run", "--"]).arg(name)),
+            "0 U ok 0\n",
+        );
+        fs::write(directory.path().join(name), "Z\n").unwrap();
+        let ran = commands::run(&mut command);
+        let shown = name
+            .to_string_lossy()
+            .replace('\n', "\\n")
+            .replace('\x1B', "\\u{1b}");
+        let start = format!("keylock: {shown}:1:1: ");
+        assert!(ran.complaint.starts_with(&start), "{}", ran.complaint);
+    }
+    let mut command = Command::new(env!("CARGO_BIN_EXE_keylock"));
+    command.current_dir(directory.path()).arg("asm");
+    let out = OsStr::from_bytes(b"-oout\xFE");
+    fs::write(directory.path().join("in"), "U").unwrap();
+    fine(&commands::run(command.arg(out).arg("in")), "");
+    let out = directory.path().join(OsStr::from_bytes(b"out\xFE"));
+    assert_eq!(fs::read(out).unwrap(), ONE_USER);
+}
+
+#[test]
+fn a_reader_that_goes_away() {
+    let mut child = Command::new(env!("CARGO_BIN_EXE_keylock"))
+        .arg("run")
+        .stdin(Stdio::piped())
+        .stdout(Stdio::piped())
+        .stderr(Stdio::piped())
+        .spawn()
+        .unwrap();
+    drop(child.stdout.take());
+    commands::feed(&mut child, &b"U\n".repeat(7_280));
+    let output = child.wait_with_output().unwrap();
+    assert_eq!(String::from_utf8_lossy(&output.stderr), "");
+    assert_eq!(output.status.code(), Some(0));
+}
+
+#[test]
+fn a_full_disk() {
+    let directory = Directory::new("full");
+    let text = directory.file("a.txt");
+    fs::write(&text, "U").unwrap();
+    for command in ["asm", "run"] {
+        let full = File::options().write(true).open("/dev/full").unwrap();
+        let mut program = Command::new(env!("CARGO_BIN_EXE_keylock"));
+        let output = program
+            .args([command, &text])
+            .stdout(full)
+            .output()
+            .unwrap();
+        let complaint = String::from_utf8_lossy(&output.stderr);
+        assert_eq!(
+            complaint,
+            "keylock: standard output: No space left on device\n"
+        );
+        assert_eq!(output.status.code(), Some(2));
+    }
+    let right = "keylock: /dev/full: No space left on device\n";
+    refused(&keylock(&["asm", &text, "-o", "/dev/full"], b""), 2, right);
+}
+
+/// Where no file may grow, an old one stays and no other is left.
+#[test]
+fn a_file_that_cannot_grow() {
+    let directory = Directory::new("grow");
+    let [text, out] = ["a.txt", "out"].map(|name| directory.file(name));
+    fs::write(&text, "U").unwrap();
+    fs::write(&out, "old").unwrap();
+    let limited = "trap '' XFSZ; ulimit -f 0; exec \"$0\" asm \"$1\" -o \"$2\"";
+    let mut shell = Command::new("sh");
+    let keylock = env!("CARGO_BIN_EXE_keylock");
+    let ran = commands::run(shell.args(["-c", limited, keylock, &text, &out]));
+    refused(&ran, 2, &format!("keylock: {out}: File too large\n"));
+    assert_eq!(fs::read(&out).unwrap(), b"old");
+    assert_eq!(directory.names(), ["a.txt", "out"]);
+}
+
+#[test]
+fn what_cannot_be_read_or_written() {
+    let directory = Directory::new("unwritable");
+    let path = directory.file("");
+    let missing = directory.file("no/such");
+    let right = format!("keylock: {missing}: No such file or directory\n");
+    refused(&keylock(&["run", &missing], b""), 2, &right);
+    refused(&keylock(&["asm", "-o", &missing], b"U"), 2, &right);
+    let right = format!("keylock: {path}: Is a directory\n");
+    refused(&keylock(&["dis", &path], b""), 2, &right);
+    refused(&keylock(&["asm", "-o", &path], b"U"), 2, &right);
+    assert!(directory.names().is_empty());
+}
+
+#[test]
+fn an_old_file_keeps_its_kind() {
+    let directory = Directory::new("kinds");
+    let [real, link] = ["real", "link"].map(|name| directory.file(name));
+    fs::write(&real, "old").unwrap();
+    fs::set_permissions(&real, fs::Permissions::from_mode(0o640)).unwrap();
+    symlink(&real, &link).unwrap();
+    fine(&keylock(&["asm", "-o", &link], b"U"), "");
+    assert_eq!(fs::read(&real).unwrap(), ONE_USER);
+    assert!(fs::symlink_metadata(&link).unwrap().is_symlink());
+    assert_eq!(
+        fs::metadata(&real).unwrap().permissions().mode() & 0o777,
+        0o640
+    );
+    fine(&keylock(&["asm", "-o", "/dev/null"], b"U"), "");
+    let device = fs::symlink_metadata("/dev/null").unwrap().file_type();
+    assert!(device.is_char_device());
+    // Standard output by its other name, which leads to a pipe.
+    let ran = keylock(&["asm", "-o", "/dev/stdout"], b"U");
+    assert_eq!((ran.output.as_slice(), ran.status), (ONE_USER, 0));
+    assert!(fs::symlink_metadata("/dev/stdout").unwrap().is_symlink());
+}
