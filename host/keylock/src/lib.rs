@@ -3,7 +3,7 @@
 
 pub mod answer;
 pub mod damage;
-mod figures;
+pub mod figures;
 mod letters;
 pub mod progress;
 pub mod shown;

@@ -145,7 +145,8 @@ fn mistakes_are_shown_and_nothing_is_written() {
     assert_eq!(fs::read(&out).unwrap(), b"old");
     assert_eq!(directory.names(), ["a.txt", "out"]);
 
-    let right = "keylock: standard input:1:2: S needs a user (field a) here\n  S\n   ^\n";
+    let right = "keylock: standard input:1:2: S needs a user (field a) here\n  S\n   ^\n\
+                 1 mistake; nothing was written\n";
     refused(&keylock(&["asm", "-o", &out], b"S"), 1, right);
     assert_eq!(fs::read(&out).unwrap(), b"old");
 }
@@ -194,13 +195,14 @@ fn the_wrong_form() {
         'keylock dis' makes a journal a text\n";
     refused(&keylock(&["asm"], ONE_USER), 1, right);
     let neither = "keylock: standard input: neither a journal (16: no mark KLD) \
-        nor a text journal; as a text:\nkeylock: standard input:1:1: ";
+        nor a text journal";
     for command in ["run", "trace"] {
-        for bytes in [&b"\x89PNG\r\n\x1A\n\0\0"[..], b"Dear reader,\nhello.\n"] {
-            let ran = keylock(&[command], bytes);
-            assert!(ran.complaint.starts_with(neither), "{}", ran.complaint);
-            assert_eq!((ran.printed().as_str(), ran.status), ("", 1));
-        }
+        let right = format!("{neither}: line 1, column 1 is no call\n");
+        refused(&keylock(&[command], b"\x89PNG\r\n\x1A\n\0\0"), 1, &right);
+        let ran = keylock(&[command], b"Dear reader,\nhello.\n");
+        let right = format!("{neither}; as a text:\nkeylock: standard input:1:1: 'Dear' is no");
+        assert!(ran.complaint.starts_with(&right), "{}", ran.complaint);
+        assert_eq!((ran.printed().as_str(), ran.status), ("", 1));
     }
     let endless = File::open("/dev/zero").unwrap();
     let ran = commands::run(

@@ -38,3 +38,8 @@ pub use guard::Guard;
 pub use journal::{Journal, Record};
 pub use numbers::{Access, Defined, Kind, Lock, Operations, Segment, Thread, User};
 pub use refusal::Refusal;
+
+/// The programs of the page for hosts are tried too.
+#[cfg(doctest)]
+#[doc = include_str!("../../../docs/HOST.md")]
+mod page_for_hosts {}

@@ -125,10 +125,15 @@ pub fn parse(bytes: &[u8]) -> Result<Text, Vec<Mistake>> {
 
 /// Mistakes, where the bytes could have been either form.
 fn wrong(name: &Name, bytes: &[u8], mistakes: &[Mistake]) -> Failure {
+    const NEITHER: &str = "neither a journal (16: no mark KLD) nor a text journal";
+    if is_binary(bytes) {
+        let Mistake { line, column, .. } = mistakes[0];
+        let place = format!("line {line}, column {column} is no call");
+        return Failure::input(name, format!("{NEITHER}: {place}"));
+    }
     let mut failure = mistakes::failure(name, bytes, mistakes);
-    if is_binary(bytes) || is_all_wrong(bytes, mistakes) {
-        let what = "neither a journal (16: no mark KLD) nor a text journal; as a text:";
-        failure.report = format!("keylock: {name}: {what}\n{}", failure.report);
+    if is_all_wrong(bytes, mistakes) {
+        failure.report = format!("keylock: {name}: {NEITHER}; as a text:\n{}", failure.report);
     }
     failure
 }

@@ -2,6 +2,7 @@
 
 use super::failure::{Failure, Status};
 use super::input::Name;
+use keylock::figures::counted;
 use keylock::shown::is_plain;
 use keylock::text::{self, Mistake};
 
@@ -25,15 +26,11 @@ pub fn failure(name: &Name, text: &[u8], mistakes: &[Mistake]) -> Failure {
             report += &excerpt(source, column - 1);
         }
     }
-    match mistakes.len() {
-        0 | 1 => {}
-        many => {
-            if many > MOST {
-                report += &format!("and {} more\n", many - MOST);
-            }
-            report += &format!("{many} mistakes; nothing was written\n");
-        }
+    let many = mistakes.len();
+    if many > MOST {
+        report += &format!("and {} more\n", many - MOST);
     }
+    report += &format!("{}; nothing was written\n", counted(many, "mistake"));
     Failure {
         status: Status::Input,
         report,

@@ -1,0 +1,160 @@
+//! The lessons: their expected answers are the proved guard's, the reference's
+//! and those of a small guard, and each of five broken guards is caught by its
+//! own lesson and by no other.
+
+mod faults;
+
+use faults::{Fault, Guard};
+use keylock::answer::Answer;
+use keylock::text::{self, Text};
+use rotundaaloe::Record;
+use std::fs;
+use std::path::{Path, PathBuf};
+
+/// The lesson for each fault, in the order of [`Fault::ALL`].
+const LESSONS: [&str; 5] = [
+    "1-way-down.txt",
+    "2-off-route.txt",
+    "3-return.txt",
+    "4-twice.txt",
+    "5-dropped-lock.txt",
+];
+const ALL_FIVE: &str = "6-five-faults.txt";
+const ROUTE: &str = "route.txt";
+
+fn path(name: &str) -> PathBuf {
+    Path::new(env!("CARGO_MANIFEST_DIR"))
+        .join("../../lessons")
+        .join(name)
+}
+
+fn lesson(name: &str) -> Text {
+    let text = fs::read(path(name)).unwrap_or_else(|error| panic!("{name}: {error}"));
+    text::parse(&text).unwrap_or_else(|mistakes| panic!("{name}: {mistakes:?}"))
+}
+
+/// The places of the calls that a guard answers otherwise than expected, with
+/// its answers.
+fn differences(text: &Text, mut call: impl FnMut(&Record) -> Answer) -> Vec<(usize, Answer)> {
+    let answers = text.calls().map(|(line, record)| {
+        let expected = line.expected.expect("a lesson expects every answer");
+        (expected, call(&record))
+    });
+    let places = answers.enumerate();
+    places
+        .filter(|(_, (expected, given))| expected != given)
+        .map(|(place, (_, given))| (place, given))
+        .collect()
+}
+
+fn faulty(text: &Text, fault: Option<Fault>) -> Vec<(usize, Answer)> {
+    let mut guard = Guard::with(fault);
+    differences(text, |record| match guard.call(record) {
+        Ok(answer) => Answer::Ok(answer),
+        Err((refusal, second)) => Answer::No {
+            refusal: refusal as u16,
+            second,
+        },
+    })
+}
+
+/// The lessons in the folder, all of them.
+fn names() -> Vec<&'static str> {
+    let names: Vec<&str> = LESSONS.into_iter().chain([ALL_FIVE, ROUTE]).collect();
+    let folder = fs::read_dir(path("")).expect("the lessons");
+    let texts = folder.filter(|entry| {
+        let entry = entry.as_ref().expect("an entry").path();
+        entry
+            .extension()
+            .is_some_and(|extension| extension == "txt")
+    });
+    assert_eq!(texts.count(), names.len(), "a lesson is not in the list");
+    names
+}
+
+#[test]
+fn every_lesson_says_in_three_lines_what_it_catches() {
+    for name in names() {
+        assert_eq!(lesson(name).introduction.len(), 3, "{name}");
+    }
+}
+
+#[test]
+fn the_proved_guard_answers_as_expected() {
+    for name in names() {
+        let mut guard = rotundaaloe::Guard::new();
+        let differences = differences(&lesson(name), |record| guard.call(record).into());
+        assert_eq!(differences, [], "{name}");
+    }
+}
+
+#[test]
+fn the_reference_answers_as_expected() {
+    for name in names() {
+        let mut guard = reference::guard::Guard::new();
+        let differences = differences(&lesson(name), |record| {
+            match guard.call(record.letter, record.a, record.b, record.c, record.text) {
+                Ok(answer) => Answer::Ok(answer),
+                Err(refusal) => Answer::No {
+                    refusal: refusal.number() as u16,
+                    second: refusal.second(),
+                },
+            }
+        });
+        assert_eq!(differences, [], "{name}");
+    }
+}
+
+/// So what a broken one answers otherwise is its fault.
+#[test]
+fn the_small_guard_without_a_fault_answers_as_expected() {
+    for name in names() {
+        assert_eq!(faulty(&lesson(name), None), [], "{name}");
+    }
+}
+
+#[test]
+fn each_fault_is_caught_by_its_own_lesson_alone() {
+    for (fault, own) in Fault::ALL.into_iter().zip(LESSONS) {
+        let catches = |name: &&str| !faulty(&lesson(name), Some(fault)).is_empty();
+        let caught: Vec<&str> = LESSONS.into_iter().filter(catches).collect();
+        assert_eq!(caught, [own], "{fault:?}");
+    }
+}
+
+/// Each broken guard differs at one line, the one that says so, with the answer
+/// that stands there.
+#[test]
+fn the_sixth_lesson_shows_all_five() {
+    let text = lesson(ALL_FIVE);
+    for (fault, number) in Fault::ALL.into_iter().zip(1..) {
+        let announced: Vec<(usize, &str)> = text
+            .lines
+            .iter()
+            .enumerate()
+            .filter_map(|(place, line)| {
+                let comment = line.comment.as_deref()?;
+                Some((place, comment.strip_prefix(&format!("fault {number}: "))?))
+            })
+            .collect();
+        let given = faulty(&text, Some(fault));
+        let given: Vec<(usize, String)> = given
+            .into_iter()
+            .map(|(place, answer)| (place, answer.to_string()))
+            .collect();
+        assert_eq!(given.len(), 1, "{fault:?}");
+        assert!(
+            given
+                .iter()
+                .map(|(place, answer)| (*place, answer.as_str()))
+                .eq(announced),
+            "{fault:?}"
+        );
+    }
+}
+
+#[test]
+fn the_route_is_also_a_file() {
+    let file = fs::read(path("route.kld")).expect("the file");
+    assert!(lesson(ROUTE).journal.as_bytes() == file);
+}
