@@ -1,7 +1,6 @@
 //! Measured points, in files that the plot is drawn from: a line for each, with
 //! tabs between its fields.
 
-use std::path::PathBuf;
 use std::{env, fs, io};
 
 /// What a point is one of.
@@ -91,10 +90,7 @@ pub fn read(text: &str) -> Result<Vec<Point>, String> {
 /// one.
 pub fn write_to_argument(points: &[Point]) -> io::Result<()> {
     match env::args_os().nth(1) {
-        Some(file) => fs::write(
-            PathBuf::from(file),
-            points.iter().map(line).collect::<String>(),
-        ),
+        Some(file) => fs::write(file, points.iter().map(line).collect::<String>()),
         None => Ok(()),
     }
 }

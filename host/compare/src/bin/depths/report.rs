@@ -60,16 +60,15 @@ pub fn print(rows: &[Row], java: &Result<java::Times, String>) {
         "A thread with as many open calls writes to a sheet with one lock, which asks for two D \
          keys; the open call that is named has handed both over. Nanoseconds of one A by its own \
          function, the same over and over: the least mean of {ROUNDS} alternating rounds in each \
-         of two passes. There is no limit.\n"
+         of three passes. There is no limit.\n"
     );
     match java {
         Ok(java) => println!(
             "Java {} is `AccessController.checkPermission` with as many frames on the stack, each \
              of a protection domain of its own that grants the permission among eight; where it \
-             refuses, the oldest doesn't. It is measured between the two passes. The two don't do \
-             the same work: Java walks the real stack, asks every domain, and refuses by an \
-             exception. The guard keeps a stack of its own, which C and R pay for, and asks the \
-             sheet's lock.\n",
+             refuses, the oldest doesn't. It is run between the passes. The two don't do the same \
+             work: Java walks the real stack, asks every domain, and refuses by an exception. The \
+             guard keeps a stack of its own, which C and R pay for, and asks the sheet's lock.\n",
             java.version()
         ),
         Err(reason) => println!("Java's check of the stack isn't measured: {reason}.\n"),

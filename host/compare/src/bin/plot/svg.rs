@@ -18,7 +18,7 @@ const HEIGHT: f64 = 350.0;
 /// The field that the axes span, in a panel.
 const LEFT: f64 = 58.0;
 const TOP: f64 = 70.0;
-const WIDE: f64 = 250.0;
+const WIDE: f64 = 240.0;
 const HIGH: f64 = 220.0;
 /// The least distance of two lines' names.
 const NAME: f64 = 18.0;
@@ -27,15 +27,16 @@ const NAME: f64 = 18.0;
 /// so that it can be read on any page.
 const STYLE: &str = "
 .ground { fill: #ffffff; stroke: #d0d7de } .grid { stroke: #d8dee4 }
-text { font: 13px sans-serif; fill: #1f2328 } .title { font-weight: bold; font-size: 15px }
+text { font: 14px sans-serif; fill: #1f2328 } .title { font-weight: bold; font-size: 16px }
 .s0, .s4 { fill: #0550ae; stroke: #0550ae } .s1 { fill: #bc4c00; stroke: #bc4c00 }
 .s2 { fill: #6e7781; stroke: #6e7781 } .s3 { fill: #1a7f37; stroke: #1a7f37 }
-polyline { fill: none; stroke-width: 2.5 } .s4 polyline { stroke-dasharray: 6 4 } .name { stroke: none }
+polyline { fill: none; stroke-width: 2.5 } .s4 polyline { stroke-dasharray: 6 4 }
 @media (prefers-color-scheme: dark) {
 .ground { fill: #0d1117; stroke: #30363d } .grid { stroke: #2a313a } text { fill: #e6edf3 }
 .s0, .s4 { fill: #79c0ff; stroke: #79c0ff } .s1 { fill: #ffa657; stroke: #ffa657 }
 .s2 { fill: #a6aeb8; stroke: #a6aeb8 } .s3 { fill: #56d364; stroke: #56d364 }
 }
+.name { stroke: none }
 ";
 
 pub fn document(panels: &[Drawn]) -> String {
@@ -71,7 +72,7 @@ fn axes(panel: &Drawn) -> String {
             svg,
             "<line class=\"grid\" x2=\"{WIDE}\" y1=\"{y:.1}\" y2=\"{y:.1}\"/>"
         );
-        svg += &text("", "end", -8.0, y + 4.5, &tick.to_string());
+        svg += &text("", "end", -8.0, y + 5.0, &tick.to_string());
     }
     for tick in &panel.x.ticks {
         let x = WIDE * panel.x.place(*tick);
@@ -123,7 +124,7 @@ fn names_apart(mut names: Vec<(f64, usize, String)>) -> String {
         let y = y.max(least);
         least = y + NAME;
         let class = format!("s{number} name");
-        svg += &text(&class, "start", WIDE + 10.0, y + 4.5, &name);
+        svg += &text(&class, "start", WIDE + 10.0, y + 5.0, &name);
     }
     svg
 }
@@ -196,6 +197,6 @@ mod tests {
             .iter()
             .map(|at| &at[..at.find('"').unwrap()])
             .collect();
-        assert_eq!(places, ["54.5", "72.5", "204.5"]);
+        assert_eq!(places, ["55.0", "73.0", "205.0"]);
     }
 }
