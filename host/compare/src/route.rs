@@ -33,6 +33,19 @@ pub fn calls(depth: u16, holder: u16, texts: &[String]) -> Vec<Record> {
         .map(|text| lock(0, SHEET, WRITE, text.as_bytes()));
     calls.extend(locks);
     calls.push(call(b'S', 0, 0, 0));
-    calls.extend((0..depth).map(|segment| call(b'C', THREAD, segment, 0)));
+    calls.extend(entered(depth));
     calls
+}
+
+/// The thread's calls.
+pub fn entered(depth: u16) -> Vec<Record> {
+    let segments = 0..depth;
+    segments
+        .map(|segment| call(b'C', THREAD, segment, 0))
+        .collect()
+}
+
+/// The thread's returns from all of them.
+pub fn left(depth: u16) -> Vec<Record> {
+    vec![call(b'R', THREAD, 0, 0); usize::from(depth)]
 }

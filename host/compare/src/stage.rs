@@ -9,19 +9,23 @@ pub struct Stage {
 }
 
 impl Stage {
-    /// The state after these calls. Panics where a guard refuses one or the
-    /// answers differ.
+    /// The state after these calls on the empty one.
     pub fn after(calls: &[Record]) -> Stage {
         let mut stage = Stage {
             proved: Guard::new(),
             reference: reference::guard::Guard::new(),
         };
+        stage.accept(calls);
+        stage
+    }
+
+    /// Panics where a guard refuses one of these calls or the answers differ.
+    pub fn accept(&mut self, calls: &[Record]) {
         for record in calls {
-            let [proved, reference] = stage.call(record);
+            let [proved, reference] = self.call(record);
             assert_eq!(proved, reference, "the answers to {record:?}");
             assert!(proved < 65_536, "{record:?} is refused");
         }
-        stage
     }
 
     /// One call by its letter on each guard: the proved guard's answer and the

@@ -148,6 +148,8 @@ impl Scene {
 
     /// The returns come first, so that the state is the same before and after.
     fn route_times(self, stage: &mut Stage) -> Times {
+        stage.accept(&route::left(self.depth));
+        stage.accept(&route::entered(self.depth));
         let Stage { proved, reference } = stage;
         let leave: fn(&mut Guard, u16) -> Answer = black_box(Guard::return_call);
         let enter: fn(&mut Guard, u16, u16) -> Answer = black_box(Guard::call_segment);
