@@ -1,13 +1,16 @@
 //! What comparing the proved guard with the reference takes: the translation
 //! between its rows and numbers and the reference's products and keys; the same
 //! for [`journal`]s and for the [`guard`] itself. [`office`] is the office
-//! program; [`scratch`], [`texts`] and [`timing`] are what the measurements
-//! share.
+//! program; [`points`], [`route`], [`scratch`], [`stage`], [`texts`] and
+//! [`timing`] are what the measurements share.
 
 pub mod guard;
 pub mod journal;
 pub mod office;
+pub mod points;
+pub mod route;
 pub mod scratch;
+pub mod stage;
 pub mod texts;
 pub mod timing;
 

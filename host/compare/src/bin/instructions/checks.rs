@@ -2,15 +2,13 @@
 //! a lock, and a thread with some open calls.
 
 use crate::scenes::{Counted, Scene};
-use reference::calls::{call, lock};
+use compare::route::{self, DEPTHS, FIRST_LOCK, SHEET, THREAD, WRITE};
 use std::ops::RangeInclusive;
 
 /// The literals of a product.
 pub const LITERALS: RangeInclusive<u16> = 1..=6;
 /// The products on a segment.
 pub const PRODUCTS: RangeInclusive<u16> = 1..=8;
-/// The open calls of the thread.
-pub const DEPTHS: [u16; 4] = [1, 2, 4, 16];
 
 /// Which products of a check's scene open, where the others fail, and which
 /// open call has handed over the defined keys. The proved guard asks a
@@ -107,34 +105,20 @@ pub fn name(case: Case, literals: u16, products: u16, depth: u16) -> String {
     format!("check, {case}, {literals} literals, {products} products, depth {depth}")
 }
 
-/// A check of the operation write. One open call, the oldest unless the case
-/// says otherwise, has handed over its own key and seven defined ones, the
-/// others only their own.
+/// A check of the operation write.
 pub fn scene(case: Case, literals: u16, products: u16, depth: u16) -> Scene {
-    const CODE: u16 = 16;
-    const SHEET: u16 = CODE;
-    let mut before = vec![call(b'U', 0, 0, 0)];
-    before.extend(vec![call(b'N', 0, 0, 0); usize::from(CODE)]);
-    before.push(call(b'N', 0, 1, 0));
-    before.extend(vec![call(b'K', 0, 0, 0); 9]);
-    let holder = case.holder(depth);
-    before.extend((1..=7).map(|key| call(b'G', 0, holder, key)));
-    before.extend((0..CODE).map(|segment| lock(0, segment, 1, b"U0")));
     let opening = case.opening(products);
-    before.extend((0..products).map(|product| {
-        let text = case.product(product == opening, literals);
-        lock(0, SHEET, 4, text.as_bytes())
-    }));
-    before.push(call(b'S', 0, 0, 0));
-    before.extend((0..depth).map(|segment| call(b'C', 0, segment, 0)));
+    let texts: Vec<String> = (0..products)
+        .map(|product| case.product(product == opening, literals))
+        .collect();
     Scene {
         name: name(case, literals, products, depth),
-        before,
+        before: route::calls(depth, case.holder(depth), &texts),
         counted: Counted::Check {
-            thread: 0,
+            thread: THREAD,
             segment: SHEET,
-            operation: 4,
+            operation: WRITE,
         },
-        expected: CODE + opening,
+        expected: FIRST_LOCK + opening,
     }
 }

@@ -2,9 +2,9 @@
 
 use crate::callgrind;
 use crate::scenes::{Counted, Scene, place};
-use compare::guard::{Guard, check, coded, coded_head};
+use compare::guard::{check, coded, coded_head};
+use compare::stage::Stage;
 use reference::guard::{Answer, Segment, Thread};
-use reference::journal::Record;
 use std::ffi::CString;
 use std::hint::black_box;
 
@@ -20,39 +20,6 @@ pub fn count_name(guard: &str, scene: &str) -> String {
     format!("{guard}: {scene}")
 }
 
-/// Both guards in a scene's state.
-struct Stage {
-    proved: Guard,
-    reference: reference::guard::Guard,
-}
-
-impl Stage {
-    fn of(scene: &Scene) -> Stage {
-        let mut stage = Stage {
-            proved: Guard::new(),
-            reference: reference::guard::Guard::new(),
-        };
-        for record in &scene.before {
-            let [proved, reference] = stage.call(record);
-            let name = &scene.name;
-            assert_eq!(proved, reference, "the answers to {record:?} in {name}");
-            assert!(proved < 65_536, "{record:?} is refused in {name}");
-        }
-        stage
-    }
-
-    fn call(&mut self, record: &Record) -> [u32; 2] {
-        let Record {
-            letter, a, b, c, ..
-        } = *record;
-        let reference = self.reference.call(letter, a, b, c, &record.text);
-        [
-            self.proved.call(letter, a, b, c, &record.text),
-            coded(reference),
-        ]
-    }
-}
-
 fn asserted(scene: &Scene, answers: [u32; 2]) {
     assert_eq!(answers, [u32::from(scene.expected); 2], "{}", scene.name);
 }
@@ -60,7 +27,7 @@ fn asserted(scene: &Scene, answers: [u32; 2]) {
 /// The answers of both are the expected one, and the thread stands where it is
 /// said to. Nothing is counted.
 pub fn tried(scene: &Scene) {
-    let mut stage = Stage::of(scene);
+    let mut stage = Stage::after(&scene.before);
     let answers = match &scene.counted {
         Counted::Check {
             thread,
@@ -105,7 +72,7 @@ pub fn count_nothing() {
 pub fn count(scene: &Scene) {
     let [proved_name, reference_name] = [PROVED, REFERENCE]
         .map(|guard| CString::new(count_name(guard, &scene.name)).expect("a name without a 0"));
-    let mut stage = Stage::of(scene);
+    let mut stage = Stage::after(&scene.before);
     let answers = match &scene.counted {
         Counted::Check {
             thread,

@@ -4,7 +4,7 @@
 //! `bench/run` at the top of the repository runs it. It starts itself a second
 //! time under valgrind, which must be installed, and there the scenes are
 //! counted: the instructions from the call to its return, less those of
-//! counting itself.
+//! counting itself. With a file's name it writes the plot's points there.
 
 #[cfg(target_arch = "x86_64")]
 mod callgrind;
@@ -28,16 +28,23 @@ fn main() -> ExitCode {
         return ExitCode::SUCCESS;
     }
     scenes.iter().for_each(counting::tried);
-    match callgrind::run() {
-        Ok(counts) => match report::Report::new(counts).print() {
-            0 => ExitCode::SUCCESS,
-            _ => ExitCode::FAILURE,
-        },
+    match reported() {
+        Ok(0) => ExitCode::SUCCESS,
+        Ok(_) => ExitCode::FAILURE,
         Err(error) => {
             eprintln!("{error}");
             ExitCode::FAILURE
         }
     }
+}
+
+/// Prints the tables. Answers how many limits are missed, or what went wrong.
+#[cfg(target_arch = "x86_64")]
+fn reported() -> Result<usize, String> {
+    let report = report::Report::new(callgrind::run()?);
+    compare::points::write_to_argument(&report.points())
+        .map_err(|error| format!("the points can't be written: {error}"))?;
+    Ok(report.print())
 }
 
 #[cfg(not(target_arch = "x86_64"))]

@@ -1,8 +1,10 @@
 //! The tables of the counts, and which limits they pass.
 
-use crate::checks::{self, Case, DEPTHS, LITERALS, PRODUCTS};
+use crate::checks::{self, Case, LITERALS, PRODUCTS};
 use crate::counting::{EMPTY, PROVED, REFERENCE, count_name};
 use crate::scenes::{AWAY, HOME, PAIRS, Pair, call_name, the_twelve, twelve_name};
+use compare::points::{Panel, Point, Series};
+use compare::route::DEPTHS;
 use std::collections::{BTreeSet, HashMap};
 
 /// The most instructions of one C with one inherited key and two products of
@@ -12,6 +14,9 @@ const CALL_000: u64 = 305;
 /// The most instructions of one R, and document 000's.
 const RETURN_LIMIT: u64 = 30;
 const RETURN_000: u64 = 40;
+
+/// The products of a check whose instructions are plotted.
+const PLOTTED_PRODUCTS: u16 = 2;
 
 /// A scene's counts, less those of counting itself.
 #[derive(Clone, Copy)]
@@ -75,6 +80,28 @@ impl Report {
             counts,
             missed: Vec::new(),
         }
+    }
+
+    /// The plot's points: one check of [`PLOTTED_PRODUCTS`] at depth 1, each
+    /// guard in its dearest scene.
+    pub fn points(&self) -> Vec<Point> {
+        let mut points = Vec::new();
+        for m in LITERALS {
+            let Counts { proved, reference } = self.worst(m, PLOTTED_PRODUCTS, 1);
+            for (series, y) in [
+                (Series::Proved, proved as f64),
+                (Series::Reference, reference as f64),
+                (Series::Document000, document_000(m, PLOTTED_PRODUCTS)),
+            ] {
+                points.push(Point {
+                    panel: Panel::Instructions,
+                    series,
+                    x: f64::from(m),
+                    y,
+                });
+            }
+        }
+        points
     }
 
     /// Prints every table. Answers how many limits are missed.
