@@ -33,35 +33,31 @@ impl Guard {
 
     /// U: a new user.
     pub fn new_user(&mut self) -> Result<User, refusal::NewUser> {
-        let answer = self.entry(b'U', [0, 0, 0], b"");
+        let answer = self.call(&Record::new_user());
         answer.map(User).map_err(refusal::NewUser::of)
     }
 
     /// S: the user's new thread.
     pub fn start_thread(&mut self, user: User) -> Result<Thread, refusal::StartThread> {
-        let answer = self.entry(b'S', [user.0, 0, 0], b"");
+        let answer = self.call(&Record::start_thread(user));
         answer.map(Thread).map_err(refusal::StartThread::of)
     }
 
     /// E: ends the thread. Answers how many open calls that closes.
     pub fn end_thread(&mut self, thread: Thread) -> Result<u16, refusal::EndThread> {
-        let answer = self.entry(b'E', [thread.0, 0, 0], b"");
+        let answer = self.call(&Record::end_thread(thread));
         answer.map_err(refusal::EndThread::of)
     }
 
     /// N: the owner's new segment.
     pub fn new_segment(&mut self, owner: User, kind: Kind) -> Result<Segment, refusal::NewSegment> {
-        let kind = match kind {
-            Kind::Code => 0,
-            Kind::Sheet => 1,
-        };
-        let answer = self.entry(b'N', [owner.0, kind, 0], b"");
+        let answer = self.call(&Record::new_segment(owner, kind));
         answer.map(Segment).map_err(refusal::NewSegment::of)
     }
 
     /// K: a new key that the user defines.
     pub fn new_key(&mut self, maker: User) -> Result<Defined, refusal::NewKey> {
-        let answer = self.entry(b'K', [maker.0, 0, 0], b"");
+        let answer = self.call(&Record::new_key(maker));
         answer.map(Defined).map_err(refusal::NewKey::of)
     }
 
@@ -72,7 +68,7 @@ impl Guard {
         segment: Segment,
         key: Defined,
     ) -> Result<u16, refusal::GiveKey> {
-        let answer = self.entry(b'G', [user.0, segment.0, key.0], b"");
+        let answer = self.call(&Record::give_key(user, segment, key));
         answer.map_err(refusal::GiveKey::of)
     }
 
@@ -83,7 +79,7 @@ impl Guard {
         segment: Segment,
         key: Defined,
     ) -> Result<u16, refusal::TakeKey> {
-        let answer = self.entry(b'T', [user.0, segment.0, key.0], b"");
+        let answer = self.call(&Record::take_key(user, segment, key));
         answer.map_err(refusal::TakeKey::of)
     }
 
@@ -95,14 +91,13 @@ impl Guard {
         operations: Operations,
         text: &str,
     ) -> Result<Lock, refusal::AddLock> {
-        let fields = [user.0, segment.0, operations.0];
-        let answer = self.entry(b'L', fields, text.as_bytes());
+        let answer = self.call(&Record::add_lock(user, segment, operations, text));
         answer.map(Lock).map_err(refusal::AddLock::of)
     }
 
     /// D: drops the lock. Answers how many products that removes.
     pub fn drop_lock(&mut self, user: User, lock: Lock) -> Result<u16, refusal::DropLock> {
-        let answer = self.entry(b'D', [user.0, lock.0, 0], b"");
+        let answer = self.call(&Record::drop_lock(user, lock));
         answer.map_err(refusal::DropLock::of)
     }
 
@@ -133,21 +128,21 @@ impl Guard {
         segment: Segment,
         access: Access,
     ) -> Result<Lock, refusal::Access> {
-        let operation = match access {
-            Access::Read => Operations::READ,
-            Access::Write => Operations::WRITE,
-        };
-        let answer = told(raw::access(&self.cells, thread.0, segment.0, operation.0));
+        let operation = access as u16;
+        let answer = told(raw::access(&self.cells, thread.0, segment.0, operation));
         answer.map(Lock).map_err(refusal::Access::of)
     }
 
     /// Any call, as a journal records it. What the number in the answer is
     /// depends on the letter: a user, a lock, a count.
     pub fn call(&mut self, record: &Record) -> Result<u16, Refusal> {
-        self.entry(record.letter, [record.a, record.b, record.c], record.text)
-    }
-
-    fn entry(&mut self, letter: u8, [a, b, c]: [u16; 3], text: &[u8]) -> Result<u16, Refusal> {
+        let Record {
+            letter,
+            a,
+            b,
+            c,
+            text,
+        } = *record;
         told(raw::call(&mut self.cells, letter, a, b, c, text))
     }
 }

@@ -1,5 +1,6 @@
 //! Journals (document 01: desk files): files of call records, to be replayed.
 
+use crate::numbers::{Access, Defined, Kind, Lock, Operations, Segment, Thread, User};
 use crate::raw;
 use crate::refusal::{self, Refusal};
 
@@ -17,6 +18,77 @@ pub struct Record<'a> {
     pub b: u16,
     pub c: u16,
     pub text: &'a [u8],
+}
+
+/// A call without a text.
+const fn call<'a>(letter: char, a: u16, b: u16, c: u16) -> Record<'a> {
+    Record {
+        letter: letter as u8,
+        a,
+        b,
+        c,
+        text: b"",
+    }
+}
+
+/// The twelve calls. [`Guard`](crate::Guard) has a function of the same name for
+/// each.
+impl<'a> Record<'a> {
+    pub const fn new_user() -> Record<'a> {
+        call('U', 0, 0, 0)
+    }
+
+    pub const fn start_thread(user: User) -> Record<'a> {
+        call('S', user.0, 0, 0)
+    }
+
+    pub const fn end_thread(thread: Thread) -> Record<'a> {
+        call('E', thread.0, 0, 0)
+    }
+
+    pub const fn new_segment(owner: User, kind: Kind) -> Record<'a> {
+        call('N', owner.0, kind as u16, 0)
+    }
+
+    pub const fn new_key(maker: User) -> Record<'a> {
+        call('K', maker.0, 0, 0)
+    }
+
+    pub const fn give_key(user: User, segment: Segment, key: Defined) -> Record<'a> {
+        call('G', user.0, segment.0, key.0)
+    }
+
+    pub const fn take_key(user: User, segment: Segment, key: Defined) -> Record<'a> {
+        call('T', user.0, segment.0, key.0)
+    }
+
+    pub const fn add_lock(
+        user: User,
+        segment: Segment,
+        operations: Operations,
+        text: &'a str,
+    ) -> Record<'a> {
+        Record {
+            text: text.as_bytes(),
+            ..call('L', user.0, segment.0, operations.0)
+        }
+    }
+
+    pub const fn drop_lock(user: User, lock: Lock) -> Record<'a> {
+        call('D', user.0, lock.0, 0)
+    }
+
+    pub const fn call_segment(thread: Thread, segment: Segment) -> Record<'a> {
+        call('C', thread.0, segment.0, 0)
+    }
+
+    pub const fn return_call(thread: Thread) -> Record<'a> {
+        call('R', thread.0, 0, 0)
+    }
+
+    pub const fn access(thread: Thread, segment: Segment, access: Access) -> Record<'a> {
+        call('A', thread.0, segment.0, access as u16)
+    }
 }
 
 /// A readable journal.

@@ -35,16 +35,16 @@ numbers! {
 #[derive(Clone, Copy, Debug, PartialEq, Eq)]
 pub enum Kind {
     /// It is called.
-    Code,
+    Code = 0,
     /// It is read and written.
-    Sheet,
+    Sheet = 1,
 }
 
 /// What an access does.
 #[derive(Clone, Copy, Debug, PartialEq, Eq)]
 pub enum Access {
-    Read,
-    Write,
+    Read = Operations::READ.0 as isize,
+    Write = Operations::WRITE.0 as isize,
 }
 
 /// A lock's operations, and whether it grants or denies them.
