@@ -1,0 +1,246 @@
+//! A journal explained: for each call its answer, why it is so, and where the
+//! thread then stands. The proved guard gives the answers; the rest is read from
+//! the history of calls and answers.
+
+mod accepted;
+mod judgement;
+mod kept;
+mod refused;
+mod view;
+
+pub use judgement::{Holder, Judgement, Literal, Product, Tried};
+pub use view::{Change, Lock, OpenCall, Segment, Thread};
+
+use crate::words;
+use kept::Kept;
+use reference::history::History;
+use rotundaaloe::formula::{Issued, Key};
+use rotundaaloe::{Defined, Guard, Record, Refusal, User};
+
+/// An answer as the author of a journal expects it: the number, or the refusal
+/// and its second number.
+pub type Expected = Result<u16, (u32, u16)>;
+
+/// A call, with what its author wrote beside it.
+#[derive(Clone, Debug)]
+pub struct Entry<'a> {
+    pub record: Record<'a>,
+    /// Lines above the call: what the next few calls are about.
+    pub heading: Vec<String>,
+    /// A remark on the call.
+    pub note: Option<String>,
+    pub expected: Option<Expected>,
+}
+
+impl<'a> From<Record<'a>> for Entry<'a> {
+    fn from(record: Record<'a>) -> Entry<'a> {
+        Entry {
+            record,
+            heading: Vec::new(),
+            note: None,
+            expected: None,
+        }
+    }
+}
+
+/// A call, what came of it, and why.
+#[derive(Clone, Debug)]
+pub struct Step<'a> {
+    /// From 0, as a replay prints it.
+    pub place: usize,
+    pub entry: Entry<'a>,
+    pub answer: Result<u16, Refusal>,
+    /// One or two sentences.
+    pub reason: String,
+    /// What the call names, and what the notes call it: `segment 2`, `the totals sheet`.
+    pub names: Vec<(String, String)>,
+    /// Of a C or an A that the locks decide.
+    pub judgement: Option<Judgement>,
+    /// The thread of an S, E, C, R or A, after it.
+    pub thread: Option<Thread>,
+    /// The segment of an N, G, T, L or D, after it.
+    pub segment: Option<Segment>,
+    /// What the explanation and the guard's answer differ in. Never there,
+    /// unless this library is wrong.
+    pub disagreement: Option<String>,
+}
+
+impl Step<'_> {
+    /// The call as a journal in text has it: `A 0 2 4`.
+    pub fn written(&self) -> String {
+        let Record {
+            letter, a, b, c, ..
+        } = self.entry.record;
+        let fields = [a, b, c];
+        let named = match letter {
+            b'U' => 0,
+            b'S' | b'E' | b'K' | b'R' => 1,
+            b'N' | b'D' | b'C' => 2,
+            _ => 3,
+        };
+        let last = fields.iter().rposition(|field| *field != 0);
+        let shown = named.max(last.map_or(0, |last| last + 1));
+        let mut written = letter.escape_ascii().to_string();
+        for field in &fields[..shown] {
+            written += &format!(" {field}");
+        }
+        if !self.entry.record.text.is_empty() {
+            written += &format!(" {}", shown_text(self.entry.record.text));
+        }
+        written
+    }
+
+    pub fn call_in_words(&self) -> String {
+        words::call(&self.entry.record)
+    }
+
+    pub fn answer_in_words(&self) -> String {
+        words::answer(self.entry.record.letter, self.answer)
+    }
+
+    /// The answer as a replay prints it: `ok 2`, `no 15 0`.
+    pub fn printed(&self) -> String {
+        printed(self.given())
+    }
+
+    /// Whether the answer is the expected one, if one is expected.
+    pub fn as_expected(&self) -> Option<bool> {
+        let expected = self.entry.expected?;
+        Some(expected == self.given())
+    }
+
+    fn given(&self) -> Expected {
+        let told = |refusal: Refusal| (refusal.number(), refusal.second());
+        self.answer.map_err(told)
+    }
+}
+
+/// An answer as a replay prints it.
+pub fn printed(answer: Expected) -> String {
+    match answer {
+        Ok(number) => format!("ok {number}"),
+        Err((refusal, second)) => format!("no {refusal} {second}"),
+    }
+}
+
+/// A formula text, with bytes beyond printing as `\xHH`.
+pub fn shown_text(text: &[u8]) -> String {
+    let shown = |byte: &u8| match byte {
+        b' '..=b'~' => char::from(*byte).to_string(),
+        byte => format!("\\x{byte:02x}"),
+    };
+    text.iter().map(shown).collect()
+}
+
+/// Keys with blanks between.
+pub fn shown_keys(keys: &[Key]) -> String {
+    let shown: Vec<String> = keys.iter().map(Key::to_string).collect();
+    shown.join(" ")
+}
+
+/// The steps of a journal.
+pub fn explain<'a>(entries: impl IntoIterator<Item = Entry<'a>>) -> Vec<Step<'a>> {
+    let mut teller = Teller::default();
+    let entries = entries.into_iter().enumerate();
+    entries
+        .map(|(place, entry)| teller.step(place, entry))
+        .collect()
+}
+
+/// What stands before a call: the history, and what it doesn't keep.
+#[derive(Default)]
+struct Desk {
+    history: History,
+    kept: Kept,
+}
+
+#[derive(Default)]
+struct Teller {
+    guard: Guard,
+    desk: Desk,
+}
+
+impl Teller {
+    fn step<'a>(&mut self, place: usize, entry: Entry<'a>) -> Step<'a> {
+        let record = entry.record;
+        let answer = self.guard.call(&record);
+        let desk = &self.desk;
+        let judgement = judgement::of(desk, &record, answer);
+        let reason = match answer {
+            Ok(answer) => accepted::reason(desk, &record, answer, judgement.as_ref()),
+            Err(refusal) => refused::reason(desk, &record, refusal, judgement.as_ref()),
+        };
+        let disagreement = judgement::disagreement(desk, &record, answer, judgement.as_ref());
+        let names = desk.kept.names_in(&record);
+        let change = view::change(desk, &record, answer);
+        let number = view::segment_number(desk, &record, answer);
+        self.take_in(&entry, answer);
+        Step {
+            place,
+            answer,
+            reason,
+            names,
+            judgement,
+            thread: view::thread(&self.desk, &record, answer, change),
+            segment: number.and_then(|number| view::segment(&self.desk, number)),
+            disagreement,
+            entry,
+        }
+    }
+
+    fn take_in(&mut self, entry: &Entry, answer: Result<u16, Refusal>) {
+        let Ok(answer) = answer else { return };
+        let issued = self.desk.issued();
+        self.desk.kept.take_in(entry, answer, issued);
+        let record = for_history(&entry.record);
+        self.desk.history.feed(&record, Some(answer));
+    }
+}
+
+impl Desk {
+    fn issued(&self) -> Issued {
+        let issued = self.history.issued();
+        Issued {
+            users: issued.users,
+            threads: issued.threads,
+            segments: issued.segments,
+            defined: issued.defined,
+        }
+    }
+
+    /// A live thread's key set, in order.
+    fn key_set(&self, thread: u16) -> Vec<Key> {
+        let keys = self.history.key_set(thread).unwrap_or_default();
+        keys.into_iter().map(key).collect()
+    }
+
+    /// A segment's key list.
+    fn list(&self, segment: u16) -> Vec<Key> {
+        let segment = self.history.segment(segment);
+        segment.map_or(Vec::new(), |segment| keys(&segment.list))
+    }
+}
+
+fn key(key: reference::Key) -> Key {
+    let number = key.number;
+    match key.kind {
+        reference::Kind::User => Key::User(User(number)),
+        reference::Kind::Thread => Key::Thread(rotundaaloe::Thread(number)),
+        reference::Kind::Segment => Key::Segment(rotundaaloe::Segment(number)),
+        reference::Kind::Defined => Key::Defined(Defined(number)),
+    }
+}
+
+fn keys(list: &[reference::Key]) -> Vec<Key> {
+    list.iter().copied().map(key).collect()
+}
+
+fn for_history(record: &Record) -> reference::journal::Record {
+    reference::journal::Record {
+        letter: record.letter,
+        a: record.a,
+        b: record.b,
+        c: record.c,
+        text: record.text.to_vec(),
+    }
+}

@@ -1,0 +1,122 @@
+//! What an accepted call means for those after it, in a sentence or two.
+
+use super::{Desk, Judgement, shown_keys};
+use crate::words;
+use rotundaaloe::formula::{self, Key, Product};
+use rotundaaloe::{Defined, Record};
+
+/// Asked before the call is taken in.
+pub fn reason(desk: &Desk, record: &Record, answer: u16, judgement: Option<&Judgement>) -> String {
+    let Record { a, b, c, .. } = *record;
+    match record.letter {
+        b'U' => format!("Every thread of user {answer} holds U{answer}."),
+        b'S' => format!("It holds U{a}, its user's key, and R{answer}, its own, until it ends."),
+        b'E' => "Its open calls are closed, and nobody holds its keys any more.".to_string(),
+        b'N' if b == 1 => "Without a lock nobody may read or write it.".to_string(),
+        b'N' => format!("A call of it hands over S{answer}. Without a lock nobody may call it."),
+        b'K' => format!("Only user {a} can put D{answer} into a list, and only on own segments."),
+        b'G' => format!("Calls of segment {b} hand over D{c} from now on. Open ones don't."),
+        b'T' => taken(desk, b, c),
+        b'L' => locked(desk, record),
+        b'D' => "It opens for nobody any more, threads in mid-run included.".to_string(),
+        b'R' => returned(desk, a),
+        _ => judgement.map_or(String::new(), |judgement| granted(judgement, a)),
+    }
+}
+
+fn taken(desk: &Desk, segment: u16, key: u16) -> String {
+    let key_taken = Key::Defined(Defined(key));
+    let keeps = |thread: &u16| {
+        let thread = desk.history.thread(*thread);
+        let mut calls = thread.iter().flat_map(|thread| &thread.open_calls);
+        calls.any(|call| call.segment == segment && super::keys(&call.list).contains(&key_taken))
+    };
+    match desk.history.live_threads().filter(keeps).count() {
+        0 => format!("Calls of segment {segment} hand over no D{key} from now on."),
+        _ => format!(
+            "Calls of segment {segment} hand over no D{key} from now on. Calls that are open keep it until they return."
+        ),
+    }
+}
+
+fn locked(desk: &Desk, record: &Record) -> String {
+    let products = formula::compile(record.text, desk.issued()).unwrap_or_default();
+    let wanted: Vec<String> = products.iter().map(wanted).collect();
+    let verb = match record.c & 8 {
+        8 => "It denies",
+        _ => "It grants",
+    };
+    let operations = words::operations(record.c & 7);
+    format!(
+        "{verb} {operations} to a thread that {}.",
+        wanted.join(", or ")
+    )
+}
+
+/// What a product asks of a thread: `holds S0 and S1 and doesn't hold D0`.
+pub fn wanted(product: &Product) -> String {
+    let (mut plain, mut barred) = (Vec::new(), Vec::new());
+    for literal in product.literals() {
+        match literal {
+            formula::Literal::Plain(key) => plain.push(key.to_string()),
+            formula::Literal::Barred(key) => barred.push(key.to_string()),
+        }
+    }
+    match (plain.is_empty(), barred.is_empty()) {
+        (_, true) => format!("holds {}", plain.join(" and ")),
+        (true, _) => format!("doesn't hold {}", barred.join(" or ")),
+        (false, false) => {
+            let (plain, barred) = (plain.join(" and "), barred.join(" or "));
+            format!("holds {plain} but not {barred}")
+        }
+    }
+}
+
+/// Which keys go back with the newest open call, and which are still held.
+fn returned(desk: &Desk, number: u16) -> String {
+    let Some(thread) = desk.history.thread(number) else {
+        return String::new();
+    };
+    let Some((left, open)) = thread.open_calls.split_last() else {
+        return String::new();
+    };
+    let (still, gone): (Vec<_>, Vec<_>) = left
+        .list
+        .iter()
+        .partition(|key| open.iter().any(|call| call.list.contains(key)));
+    let shown = |list: Vec<&reference::Key>| {
+        shown_keys(
+            &list
+                .into_iter()
+                .copied()
+                .map(super::key)
+                .collect::<Vec<_>>(),
+        )
+    };
+    match (still.is_empty(), gone.is_empty()) {
+        (true, _) => format!("It gives back {}.", shown(gone)),
+        (_, true) => format!(
+            "{} stays held: another open call handed it over too.",
+            shown(still)
+        ),
+        _ => format!(
+            "It gives back {}. {} stays held: another open call handed it over too.",
+            shown(gone),
+            shown(still)
+        ),
+    }
+}
+
+fn granted(judgement: &Judgement, thread: u16) -> String {
+    let Some(lock) = judgement.decided else {
+        return String::new();
+    };
+    let locks = judgement.locks.iter();
+    let mut decided = locks.filter(|tried| tried.lock.number == lock);
+    let Some(tried) = decided.next() else {
+        return String::new();
+    };
+    let product = tried.products.iter().position(|product| product.opens);
+    let wanted = product.map_or(String::new(), |place| wanted(&tried.lock.products[place]));
+    format!("Lock {lock} opens: thread {thread} {wanted}.")
+}

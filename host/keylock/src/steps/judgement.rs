@@ -1,0 +1,242 @@
+//! How the locks decide a C or an A: each standing lock for the operation, and
+//! what the thread's keys do to each of its products.
+
+use super::view::{self, Lock};
+use super::{Desk, for_history, shown_keys};
+use rotundaaloe::formula::{self, Key};
+use rotundaaloe::{Record, Refusal, Thread, User};
+
+/// A C or an A of a live thread that its segment takes.
+#[derive(Clone, Debug)]
+pub struct Judgement {
+    pub segment: u16,
+    /// 1 execute, 2 read or 4 write.
+    pub operation: u16,
+    /// The thread's key set that was judged: the one before the call.
+    pub keys: Vec<Key>,
+    /// The standing locks for the operation, by rising number.
+    pub locks: Vec<Tried>,
+    /// The lock in the answer: the one that granted or denied.
+    pub decided: Option<u16>,
+}
+
+/// A lock that the keys were tried on.
+#[derive(Clone, Debug)]
+pub struct Tried {
+    pub lock: Lock,
+    pub products: Vec<Product>,
+}
+
+#[derive(Clone, Debug)]
+pub struct Product {
+    pub literals: Vec<Literal>,
+    /// As the proved function says.
+    pub opens: bool,
+}
+
+/// A literal, and who brought its key if it is held.
+#[derive(Clone, Debug)]
+pub struct Literal {
+    pub literal: formula::Literal,
+    /// The thread that was judged, and its user.
+    thread: (u16, u16),
+    /// The newest first. Empty if the key isn't held.
+    pub held_by: Vec<Holder>,
+}
+
+/// Where a held key comes from.
+#[derive(Clone, Copy, Debug, PartialEq, Eq)]
+pub enum Holder {
+    /// It is the thread's user's key, or its own.
+    Identity,
+    /// An open call of this segment handed it over.
+    Call(u16),
+}
+
+impl Tried {
+    pub fn opens(&self) -> bool {
+        self.products.iter().any(|product| product.opens)
+    }
+}
+
+impl Literal {
+    pub fn is_held(&self) -> bool {
+        !self.held_by.is_empty()
+    }
+
+    pub fn is_barred(&self) -> bool {
+        matches!(self.literal, formula::Literal::Barred(_))
+    }
+
+    /// Whether it lets its product open.
+    pub fn agrees(&self) -> bool {
+        self.is_held() != self.is_barred()
+    }
+
+    /// In a word or two: `held`, `missing`.
+    pub fn in_short(&self) -> &'static str {
+        match (self.is_barred(), self.is_held()) {
+            (false, true) => "held",
+            (false, false) => "missing",
+            (true, false) => "not held",
+            (true, true) => "held but barred",
+        }
+    }
+
+    /// In a sentence without its full stop.
+    pub fn in_words(&self) -> String {
+        let key = self.literal.key();
+        match (self.is_barred(), self.is_held()) {
+            (false, true) => format!("{key} is held: {}", self.source()),
+            (true, true) => format!("{key} is barred, but held: {}", self.source()),
+            (false, false) => format!("{key} is missing: {}", self.lack()),
+            (true, false) => format!("{key} is barred, and isn't held"),
+        }
+    }
+
+    fn source(&self) -> String {
+        match self.held_by.as_slice() {
+            [Holder::Call(segment)] => {
+                format!("the open call of segment {segment} handed it over")
+            }
+            [Holder::Call(segment), rest @ ..] => {
+                let count = rest.len() + 1;
+                format!("{count} open calls handed it over, the newest of segment {segment}")
+            }
+            _ => "it is an identity key of the thread".to_string(),
+        }
+    }
+
+    fn lack(&self) -> String {
+        let (thread, user) = self.thread;
+        match self.literal.key() {
+            Key::User(_) => format!("thread {thread} runs for user {user}"),
+            Key::Thread(_) => format!("this is thread {thread}"),
+            _ => "no open call hands it over".to_string(),
+        }
+    }
+}
+
+/// The operation of a C or an A that the locks decide: its thread is live, and
+/// its segment takes it.
+fn operation(desk: &Desk, record: &Record) -> Option<u16> {
+    desk.history.thread(record.a)?;
+    let segment = desk.history.segment(record.b)?;
+    if !record.text.is_empty() {
+        return None;
+    }
+    match (record.letter, record.c, segment.sheet) {
+        (b'C', 0, false) => Some(1),
+        (b'A', 2 | 4, true) => Some(record.c),
+        _ => None,
+    }
+}
+
+/// How the locks decide an answered call. Asked before it is taken in.
+pub fn of(desk: &Desk, record: &Record, answer: Result<u16, Refusal>) -> Option<Judgement> {
+    let operation = operation(desk, record)?;
+    let keys = desk.key_set(record.a);
+    let locks = view::locks(desk, record.b, operation).into_iter();
+    let locks = locks.map(|lock| tried(desk, record.a, &keys, lock));
+    Some(Judgement {
+        segment: record.b,
+        operation,
+        locks: locks.collect(),
+        keys,
+        decided: match answer {
+            Ok(lock) => Some(lock),
+            Err(Refusal::Denied(lock)) => Some(lock.0),
+            Err(_) => None,
+        },
+    })
+}
+
+fn tried(desk: &Desk, thread: u16, keys: &[Key], lock: Lock) -> Tried {
+    let user = desk.kept.user_of(thread).unwrap_or_default();
+    let literal = |literal: &formula::Literal| Literal {
+        literal: *literal,
+        thread: (thread, user),
+        held_by: holders(desk, thread, literal.key()),
+    };
+    let products = lock.products.iter().map(|product| Product {
+        literals: product.literals().iter().map(literal).collect(),
+        opens: product.opens(keys),
+    });
+    Tried {
+        products: products.collect(),
+        lock,
+    }
+}
+
+fn holders(desk: &Desk, number: u16, wanted: Key) -> Vec<Holder> {
+    let Some(thread) = desk.history.thread(number) else {
+        return Vec::new();
+    };
+    if wanted == Key::User(User(thread.user)) || wanted == Key::Thread(Thread(number)) {
+        return vec![Holder::Identity];
+    }
+    let newest_first = thread.open_calls.iter().rev();
+    newest_first
+        .filter(|call| super::keys(&call.list).contains(&wanted))
+        .map(|call| Holder::Call(call.segment))
+        .collect()
+}
+
+/// What the explanation of an answered call and the answer differ in. Asked
+/// before the call is taken in.
+pub fn disagreement(
+    desk: &Desk,
+    record: &Record,
+    answer: Result<u16, Refusal>,
+    judgement: Option<&Judgement>,
+) -> Option<String> {
+    let Some(judgement) = judgement else {
+        return unjudged_disagreement(desk, record, answer);
+    };
+    for lock in &judgement.locks {
+        for product in &lock.products {
+            if product.opens != product.literals.iter().all(Literal::agrees) {
+                let number = lock.lock.number;
+                let keys = shown_keys(&judgement.keys);
+                return Some(format!("lock {number}'s literals and products, on {keys}"));
+            }
+        }
+    }
+    let drawn = drawn(desk, record, judgement);
+    (drawn != answer).then(|| format!("the locks say {drawn:?}, the guard says {answer:?}"))
+}
+
+/// The answer that follows from the locks.
+fn drawn(desk: &Desk, record: &Record, judgement: &Judgement) -> Result<u16, Refusal> {
+    let opening = |denies: bool| {
+        let mut locks = judgement.locks.iter();
+        let lock = locks.find(|tried| tried.lock.denies() == denies && tried.opens());
+        lock.map(|tried| tried.lock.number)
+    };
+    let open_calls = desk.history.thread(record.a);
+    let open_calls = open_calls.map_or(0, |thread| thread.open_calls.len());
+    match (opening(true), opening(false)) {
+        (Some(lock), _) => Err(Refusal::Denied(rotundaaloe::Lock(lock))),
+        (None, None) => Err(Refusal::NotGranted),
+        (None, Some(_)) if record.letter == b'C' && open_calls >= 16 => Err(Refusal::Full),
+        (None, Some(lock)) => Ok(lock),
+    }
+}
+
+fn unjudged_disagreement(
+    desk: &Desk,
+    record: &Record,
+    answer: Result<u16, Refusal>,
+) -> Option<String> {
+    match answer {
+        Err(Refusal::Denied(_) | Refusal::NotGranted) => {
+            Some("the guard tried locks, the history doesn't".to_string())
+        }
+        Err(_) => None,
+        Ok(given) => {
+            let told = desk.history.answer(&for_history(record));
+            let differs = told != Some(u32::from(given));
+            differs.then(|| format!("the history says {told:?}, the guard says {given}"))
+        }
+    }
+}
