@@ -1,8 +1,8 @@
 //! The steps as text for a terminal.
 
 use crate::steps::{
-    Change, Holder, Judgement, Literal, Lock, OpenCall, Product, Segment, Step, Thread, Tried,
-    printed, shown_keys, shown_text,
+    Change, Judgement, Literal, Lock, OpenCall, Product, Segment, Step, Thread, Tried, printed,
+    shown_keys, shown_text,
 };
 use crate::words;
 use std::io::{self, Write};
@@ -202,7 +202,11 @@ impl<W: Write> Trace<'_, W> {
 fn open_call(call: &OpenCall) -> String {
     let name = call.name.iter().map(|name| format!(", {name}"));
     let name: String = name.collect();
-    format!("segment {}{name} [{}]", call.segment, shown_keys(&call.keys))
+    format!(
+        "segment {}{name} [{}]",
+        call.segment,
+        shown_keys(&call.keys)
+    )
 }
 
 fn lock(lock: &Lock) -> String {
@@ -217,10 +221,10 @@ fn product_line(product: &Product) -> String {
     let literals: Vec<String> = product.literals.iter().map(shown_literal).collect();
     let literals = literals.join(" & ");
     if product.opens {
-        let sources: Vec<String> = product.literals.iter().filter_map(source).collect();
+        let sources = product.sources();
         return match sources.is_empty() {
             true => format!("{literals}: opens"),
-            false => format!("{literals}: opens, {}", sources.join(", ")),
+            false => format!("{literals}: opens, {sources}"),
         };
     }
     let against = product.literals.iter().filter(|literal| !literal.agrees());
@@ -230,13 +234,4 @@ fn product_line(product: &Product) -> String {
 
 fn shown_literal(literal: &Literal) -> String {
     literal.literal.to_string()
-}
-
-/// Where a held key comes from, newest call first.
-fn source(literal: &Literal) -> Option<String> {
-    let key = literal.literal.key();
-    match literal.held_by.first()? {
-        Holder::Identity => Some(format!("{key} its own")),
-        Holder::Call(segment) => Some(format!("{key} from segment {segment}")),
-    }
 }

@@ -11,11 +11,13 @@ pub fn reason(desk: &Desk, record: &Record, answer: u16, judgement: Option<&Judg
     match record.letter {
         b'U' => format!("Every thread of user {answer} holds U{answer}."),
         b'S' => format!("It holds U{a}, its user's key, and R{answer}, its own, until it ends."),
-        b'E' => "Its open calls are closed, and nobody holds its keys any more.".to_string(),
+        b'E' => "Its open calls are closed, and it holds no key any more.".to_string(),
         b'N' if b == 1 => "Without a lock nobody may read or write it.".to_string(),
         b'N' => format!("A call of it hands over S{answer}. Without a lock nobody may call it."),
         b'K' => format!("Only user {a} can put D{answer} into a list, and only on own segments."),
-        b'G' => format!("Calls of segment {b} hand over D{c} from now on. Open ones don't."),
+        b'G' => format!(
+            "Calls of segment {b} hand over D{c} from now on. Those that are open already don't."
+        ),
         b'T' => taken(desk, b, c),
         b'L' => locked(desk, record),
         b'D' => "It opens for nobody any more, threads in mid-run included.".to_string(),

@@ -59,6 +59,21 @@ impl Tried {
     }
 }
 
+impl Product {
+    /// Where its held keys come from: `U0 of its own, S0 from segment 0`.
+    pub fn sources(&self) -> String {
+        let source = |literal: &Literal| {
+            let key = literal.literal.key();
+            match literal.held_by.first()? {
+                Holder::Identity => Some(format!("{key} of its own")),
+                Holder::Call(segment) => Some(format!("{key} from segment {segment}")),
+            }
+        };
+        let sources: Vec<String> = self.literals.iter().filter_map(source).collect();
+        sources.join(", ")
+    }
+}
+
 impl Literal {
     pub fn is_held(&self) -> bool {
         !self.held_by.is_empty()

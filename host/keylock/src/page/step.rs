@@ -1,0 +1,262 @@
+//! One step of the page: the call, the answer, why, and the thread's stack.
+
+use super::html::{escaped, sentence};
+use crate::steps::{
+    Change, Judgement, Literal, Lock, OpenCall, Product, Segment, Step, Thread, Tried, printed,
+    shown_keys, shown_text,
+};
+use crate::words;
+use rotundaaloe::formula::Key;
+
+pub fn section(step: &Step) -> String {
+    let class = if step.answer.is_ok() { "ok" } else { "no" };
+    let place = step.place;
+    let written = escaped(&step.written());
+    let call = sentence(&step.call_in_words()) + &formula(step, " if ");
+    let columns = step.judgement.as_ref().map_or(String::new(), judgement)
+        + &step.segment.as_ref().map_or(String::new(), segment)
+        + &step.thread.as_ref().map_or(String::new(), thread);
+    format!(
+        "<section class=\"step {class}\" id=\"step-{place}\" aria-labelledby=\"call-{place}\">\n\
+         {}<p class=\"where\">Place {place}: <code>{written}</code></p>\n\
+         <h2 id=\"call-{place}\">{call}</h2>\n{}{}{}\
+         <div class=\"cols\">\n{columns}</div>\n</section>\n",
+        chapter(step),
+        names(step),
+        answer(step),
+        alarms(step),
+    )
+}
+
+/// The text of an L, after some words.
+fn formula(step: &Step, words: &str) -> String {
+    match step.entry.record.text {
+        [] => String::new(),
+        text => format!("{words}<code>{}</code>", escaped(&shown_text(text))),
+    }
+}
+
+fn chapter(step: &Step) -> String {
+    let Some((first, rest)) = step.entry.heading.split_first() else {
+        return String::new();
+    };
+    let rest: String = rest
+        .iter()
+        .map(|line| format!("<br>{}", escaped(line)))
+        .collect();
+    format!("<p class=\"chapter\"><b>{}</b>{rest}</p>\n", escaped(first))
+}
+
+/// What the notes call the things that the call names, and the call's own note.
+fn names(step: &Step) -> String {
+    let names: String = step
+        .names
+        .iter()
+        .map(|(thing, name)| format!("<span>{thing}: {}</span>", escaped(name)))
+        .collect();
+    let mut text = String::new();
+    if !names.is_empty() {
+        text += &format!("<p class=\"names\">{names}</p>\n");
+    }
+    if let Some(note) = &step.entry.note {
+        text += &format!("<p class=\"note\">{}</p>\n", escaped(note));
+    }
+    text
+}
+
+fn answer(step: &Step) -> String {
+    let met = match step.as_expected() {
+        Some(true) => "<span class=\"met\">as expected</span>",
+        _ => "",
+    };
+    format!(
+        "<div class=\"answer\"><p class=\"word\">{}<code>{}</code>{met}</p>\
+         <p class=\"why\">{}</p></div>\n",
+        sentence(&step.answer_in_words()),
+        step.printed(),
+        escaped(&step.reason),
+    )
+}
+
+fn alarms(step: &Step) -> String {
+    let mut text = String::new();
+    if let (Some(false), Some(expected)) = (step.as_expected(), step.entry.expected) {
+        let (expected, given) = (printed(expected), step.printed());
+        text += &format!("<p class=\"alarm\">Not as expected: {expected}, but got {given}</p>\n");
+    }
+    if let Some(differs) = &step.disagreement {
+        let differs = escaped(differs);
+        text += &format!("<p class=\"alarm\">Explanation and guard differ: {differs}</p>\n");
+    }
+    text
+}
+
+fn judgement(judgement: &Judgement) -> String {
+    let operation = words::operations(judgement.operation);
+    let segment = judgement.segment;
+    let locks: String = judgement
+        .locks
+        .iter()
+        .map(|lock| tried(lock, judgement.decided == Some(lock.lock.number)))
+        .collect();
+    let none = match judgement.locks.is_empty() {
+        true => "<p class=\"lock\">There is none.</p>\n",
+        false => "",
+    };
+    let before = match judgement.operation {
+        1 => {
+            let keys = shown_keys(&judgement.keys);
+            format!(
+                "<p class=\"after\">Tried with the keys before the call: <code>{keys}</code></p>\n"
+            )
+        }
+        _ => String::new(),
+    };
+    format!(
+        "<div>\n<h3>Locks for {operation} on segment {segment}</h3>\n{locks}{none}{before}</div>\n"
+    )
+}
+
+fn tried(tried: &Tried, decides: bool) -> String {
+    let opens = tried.opens();
+    let denies = tried.lock.denies();
+    let state = match (opens, decides, denies) {
+        (_, true, true) => "opens and denies",
+        (_, true, false) => "opens and grants",
+        (true, false, _) => "opens",
+        (false, false, _) => "stays shut",
+    };
+    let mut class = "lock".to_string();
+    for (name, has) in [("opens", opens), ("decides", decides), ("deny", denies)] {
+        if has {
+            class += &format!(" {name}");
+        }
+    }
+    let first = tried.products.iter().position(|product| product.opens);
+    let products = tried.products.iter().enumerate();
+    let products: Vec<String> = products
+        .map(|(place, tried)| product(tried, decides && first == Some(place)))
+        .collect();
+    format!(
+        "<div class=\"{class}\">{}<ul>{}</ul></div>\n",
+        lock_line(&tried.lock, state),
+        products.concat()
+    )
+}
+
+fn lock_line(lock: &Lock, state: &str) -> String {
+    let verb = match lock.denies() {
+        true => "<span class=\"deny\">denies</span>",
+        false => "grants",
+    };
+    format!(
+        "<p><span>Lock {} {verb} {} if</span><code>{}</code><span class=\"state\">{state}</span></p>",
+        lock.number,
+        words::operations(lock.operations & 7),
+        escaped(&shown_text(&lock.text))
+    )
+}
+
+fn product(product: &Product, decides: bool) -> String {
+    let literals: Vec<String> = product.literals.iter().map(literal).collect();
+    let against = product.literals.iter().filter(|literal| !literal.agrees());
+    let mut reasons: String = against
+        .map(|literal| format!("<p class=\"against\">{}</p>", escaped(&literal.in_words())))
+        .collect();
+    if decides && !product.sources().is_empty() {
+        reasons = format!("<p class=\"from\">{}</p>", product.sources());
+    }
+    format!(
+        "<li class=\"product\"><div class=\"keys\">{}</div>{reasons}</li>",
+        literals.join("<span class=\"or\">and</span>")
+    )
+}
+
+fn literal(literal: &Literal) -> String {
+    let class = if literal.agrees() { "lit" } else { "lit off" };
+    let (key, word) = (literal.literal, literal.in_short());
+    format!("<span class=\"{class}\"><code>{key}</code>{word}</span>")
+}
+
+fn segment(segment: &Segment) -> String {
+    let kind = if segment.sheet { "sheet" } else { "code" };
+    let (number, owner) = (segment.number, segment.owner);
+    let locks: String = segment
+        .locks
+        .iter()
+        .map(|lock| format!("<div class=\"lock\">{}</div>\n", lock_line(lock, "")))
+        .collect();
+    let locks = match segment.locks.is_empty() {
+        true => "<p class=\"lock\">None stands.</p>\n".to_string(),
+        false => locks,
+    };
+    format!(
+        "<div>\n<h3>Locks on segment {number}</h3>\n{locks}</div>\n\
+         <div>\n<h3>Segment {number}</h3>\n<ul class=\"stack\"><li><b>{kind} of user {owner}</b>{}{}</li></ul>\n</div>\n",
+        key_row(&segment.keys),
+        small(&segment.name)
+    )
+}
+
+fn small(name: &Option<String>) -> String {
+    let name = name.iter();
+    name.map(|name| format!("<small>{}</small>", escaped(name)))
+        .collect()
+}
+
+fn key_row(keys: &[Key]) -> String {
+    let keys: String = keys
+        .iter()
+        .map(|key| format!("<code class=\"key\">{key}</code>"))
+        .collect();
+    format!("<div class=\"keys\">{keys}</div>")
+}
+
+/// The open calls as boxes, the newest on top, over the identity keys.
+fn thread(thread: &Thread) -> String {
+    let (number, user) = (thread.number, thread.user);
+    let gone = |call: &OpenCall| frame(call, "left", "just left");
+    let (left, newest) = match &thread.change {
+        Change::Left(call) => (gone(call), ("", "")),
+        Change::Ended(calls) => (calls.iter().rev().map(gone).collect(), ("", "")),
+        Change::Called => (String::new(), ("new", "just called")),
+        _ => (String::new(), ("", "")),
+    };
+    if let Change::Ended(_) = thread.change {
+        return format!(
+            "<div>\n<h3>Thread {number} of user {user} has ended</h3>\n<ol class=\"stack\">{left}</ol>\n</div>\n"
+        );
+    }
+    let newest_first = thread.calls.iter().rev().enumerate();
+    let frames: String = newest_first
+        .map(|(depth, call)| match depth {
+            0 => frame(call, newest.0, newest.1),
+            _ => frame(call, "", ""),
+        })
+        .collect();
+    let identity = format!(
+        "<li class=\"own\"><b>thread {number}</b>\
+         <div class=\"keys\"><code class=\"key\">U{user}</code><code class=\"key\">R{number}</code></div>\
+         <small>of user {user}, always held</small></li>"
+    );
+    format!(
+        "<div>\n<h3>Open calls, newest on top</h3>\n\
+         <ol class=\"stack\">{left}{frames}{identity}</ol>\n\
+         <div class=\"held\"><h3>So it holds</h3>{}</div>\n</div>\n",
+        key_row(&thread.keys)
+    )
+}
+
+fn frame(call: &OpenCall, class: &str, word: &str) -> String {
+    let class = match class {
+        "" => String::new(),
+        class => format!(" class=\"{class}\""),
+    };
+    let word = match word {
+        "" => String::new(),
+        word => format!("<em>{word}</em>"),
+    };
+    let segment = call.segment;
+    let (name, keys) = (small(&call.name), key_row(&call.keys));
+    format!("<li{class}><b>segment {segment}</b>{word}{keys}{name}</li>")
+}
