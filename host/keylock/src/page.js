@@ -8,7 +8,7 @@
   const count = document.querySelector(".count");
   let now = -1;
 
-  // Only the list scrolls, and only as far as needed.
+  /* Only the list scrolls, and only as far as needed. */
   const bringIntoList = (link) => {
     const [frame, box] = [list.getBoundingClientRect(), link.getBoundingClientRect()];
     const margin = box.height * 2;
@@ -40,7 +40,7 @@
     return found ? Number(found[1]) : 0;
   };
 
-  // Up and down scroll a step that is longer than the window.
+  /* Up and down scroll a step that is longer than the window. */
   const scrolls = () => document.documentElement.scrollHeight > window.innerHeight + 1;
 
   const target = (event) => {

@@ -227,9 +227,7 @@ fn product_line(product: &Product) -> String {
             false => format!("{literals}: opens, {sources}"),
         };
     }
-    let against = product.literals.iter().filter(|literal| !literal.agrees());
-    let against: Vec<String> = against.map(Literal::in_words).collect();
-    format!("{literals}: shut. {}", against.join("; "))
+    format!("{literals}: shut. {}", product.against().join("; "))
 }
 
 fn shown_literal(literal: &Literal) -> String {

@@ -82,7 +82,7 @@ fn alarms(step: &Step) -> String {
     let mut text = String::new();
     if let (Some(false), Some(expected)) = (step.as_expected(), step.entry.expected) {
         let (expected, given) = (printed(expected), step.printed());
-        text += &format!("<p class=\"alarm\">Not as expected: {expected}, but got {given}</p>\n");
+        text += &format!("<p class=\"alarm\">Expected {expected}, but the answer is {given}</p>\n");
     }
     if let Some(differs) = &step.disagreement {
         let differs = escaped(differs);
@@ -91,14 +91,15 @@ fn alarms(step: &Step) -> String {
     text
 }
 
+/// The lock that decided, then the others.
 fn judgement(judgement: &Judgement) -> String {
     let operation = words::operations(judgement.operation);
     let segment = judgement.segment;
-    let locks: String = judgement
-        .locks
-        .iter()
-        .map(|lock| tried(lock, judgement.decided == Some(lock.lock.number)))
-        .collect();
+    let decides = |lock: &&Tried| judgement.decided == Some(lock.lock.number);
+    let (deciding, others): (Vec<_>, Vec<_>) = judgement.locks.iter().partition(decides);
+    let deciding = deciding.into_iter().map(|lock| tried(lock, true));
+    let others = others.into_iter().map(|lock| tried(lock, false));
+    let locks: String = deciding.chain(others).collect();
     let none = match judgement.locks.is_empty() {
         true => "<p class=\"lock\">There is none.</p>\n",
         false => "",
@@ -159,9 +160,9 @@ fn lock_line(lock: &Lock, state: &str) -> String {
 
 fn product(product: &Product, decides: bool) -> String {
     let literals: Vec<String> = product.literals.iter().map(literal).collect();
-    let against = product.literals.iter().filter(|literal| !literal.agrees());
+    let against = product.against().into_iter();
     let mut reasons: String = against
-        .map(|literal| format!("<p class=\"against\">{}</p>", escaped(&literal.in_words())))
+        .map(|reason| format!("<p class=\"against\">{}</p>", escaped(&reason)))
         .collect();
     if decides && !product.sources().is_empty() {
         reasons = format!("<p class=\"from\">{}</p>", product.sources());
@@ -194,14 +195,18 @@ fn segment(segment: &Segment) -> String {
         "<div>\n<h3>Locks on segment {number}</h3>\n{locks}</div>\n\
          <div>\n<h3>Segment {number}</h3>\n<ul class=\"stack\"><li><b>{kind} of user {owner}</b>{}{}</li></ul>\n</div>\n",
         key_row(&segment.keys),
-        small(&segment.name)
+        small(&segment.name, "")
     )
 }
 
-fn small(name: &Option<String>) -> String {
-    let name = name.iter();
-    name.map(|name| format!("<small>{}</small>", escaped(name)))
-        .collect()
+/// What the notes call a thing, and a word on it.
+fn small(name: &Option<String>, word: &str) -> String {
+    let name = escaped(name.as_deref().unwrap_or_default());
+    match (name.is_empty(), word) {
+        (true, "") => String::new(),
+        (false, "") => format!("<small>{name}</small>"),
+        (_, word) => format!("<small>{name}<em>{word}</em></small>"),
+    }
 }
 
 fn key_row(keys: &[Key]) -> String {
@@ -247,16 +252,13 @@ fn thread(thread: &Thread) -> String {
     )
 }
 
+/// A box of the stack, and in a word what became of it.
 fn frame(call: &OpenCall, class: &str, word: &str) -> String {
     let class = match class {
         "" => String::new(),
         class => format!(" class=\"{class}\""),
     };
-    let word = match word {
-        "" => String::new(),
-        word => format!("<em>{word}</em>"),
-    };
     let segment = call.segment;
-    let (name, keys) = (small(&call.name), key_row(&call.keys));
-    format!("<li{class}><b>segment {segment}</b>{word}{keys}{name}</li>")
+    let (name, keys) = (small(&call.name, word), key_row(&call.keys));
+    format!("<li{class}><b>segment {segment}</b>{keys}{name}</li>")
 }

@@ -60,12 +60,35 @@ impl Tried {
 }
 
 impl Product {
-    /// Where its held keys come from: `U0 of its own, S0 from segment 0`.
+    /// Why it stays shut, a sentence each without its full stop. Keys that
+    /// no open call hands over share one.
+    pub fn against(&self) -> Vec<String> {
+        let against = self.literals.iter().filter(|literal| !literal.agrees());
+        let (lacking, others): (Vec<_>, Vec<_>) = against.partition(|literal| literal.is_lacking());
+        let others = others.into_iter().map(Literal::in_words);
+        let keys: Vec<String> = lacking
+            .iter()
+            .map(|literal| literal.literal.key().to_string())
+            .collect();
+        let lacking = match keys.as_slice() {
+            [] => None,
+            [_] => Some(lacking[0].in_words()),
+            [first @ .., last] => {
+                let first = first.join(", ");
+                Some(format!(
+                    "{first} and {last} are missing: no open call hands them over"
+                ))
+            }
+        };
+        lacking.into_iter().chain(others).collect()
+    }
+
+    /// Where its held keys come from: `U0 always held, S0 from segment 0`.
     pub fn sources(&self) -> String {
         let source = |literal: &Literal| {
             let key = literal.literal.key();
             match literal.held_by.first()? {
-                Holder::Identity => Some(format!("{key} of its own")),
+                Holder::Identity => Some(format!("{key} always held")),
                 Holder::Call(segment) => Some(format!("{key} from segment {segment}")),
             }
         };
@@ -86,6 +109,12 @@ impl Literal {
     /// Whether it lets its product open.
     pub fn agrees(&self) -> bool {
         self.is_held() != self.is_barred()
+    }
+
+    /// Whether it waits for a key that an open call would have to bring.
+    fn is_lacking(&self) -> bool {
+        let brought = matches!(self.literal.key(), Key::Segment(_) | Key::Defined(_));
+        brought && !self.is_barred() && !self.is_held()
     }
 
     /// In a word or two: `held`, `missing`.
