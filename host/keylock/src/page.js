@@ -51,7 +51,7 @@
       case "ArrowUp": return scrolls() ? undefined : now - 1;
       case "Home": return 0;
       case "End": return steps.length - 1;
-      case " ": return event.target.closest("button") ? undefined : now + (event.shiftKey ? -1 : 1);
+      case " ": return event.target.closest?.("button") ? undefined : now + (event.shiftKey ? -1 : 1);
       default: return undefined;
     }
   };

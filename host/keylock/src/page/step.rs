@@ -18,11 +18,12 @@ pub fn section(step: &Step) -> String {
         + &step.thread.as_ref().map_or(String::new(), thread);
     format!(
         "<section class=\"step {class}\" id=\"step-{place}\" aria-labelledby=\"call-{place}\">\n\
-         {}<p class=\"where\">Place {place}: <code>{written}</code></p>\n\
-         <h2 id=\"call-{place}\">{call}</h2>\n{}{}{}\
+         {}<h2 id=\"call-{place}\">{call}</h2>\n\
+         <p class=\"where\"><span>Place {place}: <code>{written}</code></span>{}</p>\n{}{}{}\
          <div class=\"cols\">\n{columns}</div>\n</section>\n",
         chapter(step),
         names(step),
+        note(step),
         answer(step),
         alarms(step),
     )
@@ -47,21 +48,18 @@ fn chapter(step: &Step) -> String {
     format!("<p class=\"chapter\"><b>{}</b>{rest}</p>\n", escaped(first))
 }
 
-/// What the notes call the things that the call names, and the call's own note.
+/// What the notes call the things that the call names.
 fn names(step: &Step) -> String {
-    let names: String = step
-        .names
-        .iter()
+    let names = step.names.iter();
+    names
         .map(|(thing, name)| format!("<span>{thing}: {}</span>", escaped(name)))
-        .collect();
-    let mut text = String::new();
-    if !names.is_empty() {
-        text += &format!("<p class=\"names\">{names}</p>\n");
-    }
-    if let Some(note) = &step.entry.note {
-        text += &format!("<p class=\"note\">{}</p>\n", escaped(note));
-    }
-    text
+        .collect()
+}
+
+fn note(step: &Step) -> String {
+    let note = step.entry.note.iter();
+    note.map(|note| format!("<p class=\"note\">{}</p>\n", escaped(note)))
+        .collect()
 }
 
 fn answer(step: &Step) -> String {
@@ -169,7 +167,7 @@ fn product(product: &Product, decides: bool) -> String {
     }
     format!(
         "<li class=\"product\"><div class=\"keys\">{}</div>{reasons}</li>",
-        literals.join("<span class=\"or\">and</span>")
+        literals.join("<i>and</i>")
     )
 }
 
@@ -212,7 +210,7 @@ fn small(name: &Option<String>, word: &str) -> String {
 fn key_row(keys: &[Key]) -> String {
     let keys: String = keys
         .iter()
-        .map(|key| format!("<code class=\"key\">{key}</code>"))
+        .map(|key| format!("<code>{key}</code>"))
         .collect();
     format!("<div class=\"keys\">{keys}</div>")
 }
@@ -241,7 +239,7 @@ fn thread(thread: &Thread) -> String {
         .collect();
     let identity = format!(
         "<li class=\"own\"><b>thread {number}</b>\
-         <div class=\"keys\"><code class=\"key\">U{user}</code><code class=\"key\">R{number}</code></div>\
+         <div class=\"keys\"><code>U{user}</code><code>R{number}</code></div>\
          <small>of user {user}, always held</small></li>"
     );
     format!(

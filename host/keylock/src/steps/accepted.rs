@@ -55,8 +55,8 @@ fn locked(desk: &Desk, record: &Record) -> String {
     )
 }
 
-/// What a product asks of a thread: `holds S0 and S1 and doesn't hold D0`.
-pub fn wanted(product: &Product) -> String {
+/// What a product asks of a thread: `holds S0 and S1 but not D0`.
+fn wanted(product: &Product) -> String {
     let (mut plain, mut barred) = (Vec::new(), Vec::new());
     for literal in product.literals() {
         match literal {
@@ -65,10 +65,10 @@ pub fn wanted(product: &Product) -> String {
         }
     }
     match (plain.is_empty(), barred.is_empty()) {
-        (_, true) => format!("holds {}", plain.join(" and ")),
-        (true, _) => format!("doesn't hold {}", barred.join(" or ")),
-        (false, false) => {
-            let (plain, barred) = (plain.join(" and "), barred.join(" or "));
+        (_, true) => format!("holds {}", words::listed(&plain, "and")),
+        (true, _) => format!("doesn't hold {}", words::listed(&barred, "or")),
+        _ => {
+            let (plain, barred) = (words::listed(&plain, "and"), words::listed(&barred, "or"));
             format!("holds {plain} but not {barred}")
         }
     }

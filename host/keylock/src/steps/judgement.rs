@@ -3,6 +3,7 @@
 
 use super::view::{self, Lock};
 use super::{Desk, for_history, shown_keys};
+use crate::words;
 use rotundaaloe::formula::{self, Key};
 use rotundaaloe::{Record, Refusal, Thread, User};
 
@@ -73,11 +74,9 @@ impl Product {
         let lacking = match keys.as_slice() {
             [] => None,
             [_] => Some(lacking[0].in_words()),
-            [first @ .., last] => {
-                let first = first.join(", ");
-                Some(format!(
-                    "{first} and {last} are missing: no open call hands them over"
-                ))
+            keys => {
+                let keys = words::listed(keys, "and");
+                Some(format!("{keys} are missing: no open call hands them over"))
             }
         };
         lacking.into_iter().chain(others).collect()
