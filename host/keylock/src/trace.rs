@@ -184,19 +184,29 @@ impl<W: Write> Trace<'_, W> {
     }
 
     fn look(&self, look: Look, text: &str) -> String {
+        let text = printable(text);
         let code = match look {
             Look::Quiet => "2",
             Look::Strong => "1",
             Look::Good => "32",
             Look::Bad => "31",
             Look::Alarm => "1;7;31",
-            Look::Plain => return text.to_string(),
+            Look::Plain => return text,
         };
         match self.colour {
             true => format!("\x1b[{code}m{text}\x1b[0m"),
-            false => text.to_string(),
+            false => text,
         }
     }
+}
+
+/// A note could hold what moves the cursor.
+fn printable(text: &str) -> String {
+    let shown = |next: char| match next.is_control() {
+        true => next.escape_default().to_string(),
+        false => next.to_string(),
+    };
+    text.chars().map(shown).collect()
 }
 
 fn open_call(call: &OpenCall) -> String {

@@ -9,6 +9,7 @@ use lesson::{ROUTE, explained};
 use reference::calls::{Caller, WORLDS};
 use reference::random::Random;
 use rotundaaloe::{Guard, Record};
+use std::collections::BTreeMap;
 
 /// A step's lock with this number.
 fn lock<'a>(step: &'a Step, number: u16) -> &'a Tried {
@@ -238,6 +239,7 @@ fn notes_name_segments() {
 fn the_terminal_shows_it() {
     let mut entries = lesson::entries(ROUTE);
     entries[15].expected = Some(Ok(2));
+    entries[15].note = Some("\x1b[2J".to_string());
     let steps = steps::explain(entries);
     let text = |colour| {
         let mut out = Vec::new();
@@ -256,13 +258,16 @@ fn the_terminal_shows_it() {
         assert!(plain.lines().any(|shown| shown == line), "{line}\n{plain}");
     }
     assert!(!plain.contains('\x1b') && text(true).contains("\x1b[31m"));
+    assert!(plain.contains("    note    \\u{1b}[2J\n"), "{plain}");
 }
 
-/// Every answer has an explanation that leads to it.
+/// Every answer has an explanation that leads to it, and the locks decide in
+/// each of the four ways.
 #[test]
 fn random_lists() {
     let mut random = Random::new(7);
-    for (world, lists) in WORLDS.iter().zip([60, 60, 6, 20, 20]) {
+    let mut judged = BTreeMap::new();
+    for (world, lists) in WORLDS.iter().zip([200, 200, 20, 60, 60]) {
         for list in 0..lists {
             let records = random_list(&mut random, world);
             let entries = records.iter().map(|record| Entry::from(borrowed(record)));
@@ -270,9 +275,15 @@ fn random_lists() {
                 let place = step.place;
                 assert_eq!(step.disagreement, None, "{}: {list}, {place}", world.name);
                 assert_ne!(step.reason, "", "{}: {list}, {place}", world.name);
+                if step.judgement.is_some() {
+                    let refusal = step.answer.err().map_or(0, |refusal| refusal.number());
+                    *judged.entry(refusal).or_insert(0) += 1;
+                }
             }
         }
     }
+    assert!(judged.keys().eq(&[0, 10, 14, 15]), "{judged:?}");
+    assert!(judged.values().all(|count| *count > 1_000), "{judged:?}");
 }
 
 fn random_list(
