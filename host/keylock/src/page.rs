@@ -88,7 +88,10 @@ fn write_list(steps: &[Step], out: &mut impl Write) -> io::Result<()> {
              <span>{words}{note}</span><span class=\"mark\">{mark}</span></a></li>"
         )?;
     }
-    writeln!(out, "</ol>\n</nav>")
+    writeln!(
+        out,
+        "</ol>\n<p class=\"hint\">Arrow keys, space, Home and End move.</p>\n</nav>"
+    )
 }
 
 fn write_introduction(lines: &[String], out: &mut impl Write) -> io::Result<()> {

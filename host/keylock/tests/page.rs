@@ -82,7 +82,7 @@ fn the_refused_save_says_what_is_missing() {
         "<span class=\"lit off\"><code>S0</code>missing</span>",
         "<span class=\"lit\"><code>S1</code>held</span>",
         "S0 is missing: no open call hands it over",
-        "<code>S0&amp;S1</code><span class=\"state\">stays shut</span>",
+        "<b>Lock 2 stays shut.</b> It grants write if <code>S0&amp;S1</code>",
         "<li><b>segment 1</b>",
     ] {
         assert!(refused.contains(part), "{part}\n{refused}");

@@ -95,8 +95,12 @@ fn judgement(judgement: &Judgement) -> String {
     let segment = judgement.segment;
     let decides = |lock: &&Tried| judgement.decided == Some(lock.lock.number);
     let (deciding, others): (Vec<_>, Vec<_>) = judgement.locks.iter().partition(decides);
-    let deciding = deciding.into_iter().map(|lock| tried(lock, true));
-    let others = others.into_iter().map(|lock| tried(lock, false));
+    let part = match judgement.decided {
+        Some(_) => Part::Stands,
+        None => Part::Lacks,
+    };
+    let deciding = deciding.into_iter().map(|lock| tried(lock, Part::Decides));
+    let others = others.into_iter().map(|lock| tried(lock, part));
     let locks: String = deciding.chain(others).collect();
     let none = match judgement.locks.is_empty() {
         true => "<p class=\"lock\">There is none.</p>\n",
@@ -116,17 +120,32 @@ fn judgement(judgement: &Judgement) -> String {
     )
 }
 
-fn tried(tried: &Tried, decides: bool) -> String {
-    let opens = tried.opens();
-    let denies = tried.lock.denies();
-    let state = match (opens, decides, denies) {
-        (_, true, true) => "opens and denies",
-        (_, true, false) => "opens and grants",
-        (true, false, _) => "opens",
-        (false, false, _) => "stays shut",
+/// What a lock has to do with the answer.
+#[derive(Clone, Copy, PartialEq)]
+enum Part {
+    Decides,
+    /// Another lock decides.
+    Stands,
+    /// No lock does.
+    Lacks,
+}
+
+fn tried(tried: &Tried, part: Part) -> String {
+    let number = tried.lock.number;
+    let decides = part == Part::Decides;
+    let verb = verb(&tried.lock);
+    let state = match (decides, tried.opens()) {
+        (true, _) => format!("<b>Lock {number} opens and {verb}</b>"),
+        (false, true) => format!("<b>Lock {number} opens.</b> It {verb}"),
+        (false, false) => format!("<b>Lock {number} stays shut.</b> It {verb}"),
     };
     let mut class = "lock".to_string();
-    for (name, has) in [("opens", opens), ("decides", decides), ("deny", denies)] {
+    for (name, has) in [
+        ("opens", tried.opens()),
+        ("decides", decides),
+        ("minor", part == Part::Stands),
+        ("deny", tried.lock.denies()),
+    ] {
         if has {
             class += &format!(" {name}");
         }
@@ -138,22 +157,20 @@ fn tried(tried: &Tried, decides: bool) -> String {
         .collect();
     format!(
         "<div class=\"{class}\">{}<ul>{}</ul></div>\n",
-        lock_line(&tried.lock, state),
+        lock_line(&tried.lock, &state),
         products.concat()
     )
 }
 
-fn lock_line(lock: &Lock, state: &str) -> String {
-    let verb = match lock.denies() {
-        true => "<span class=\"deny\">denies</span>",
-        false => "grants",
-    };
-    format!(
-        "<p><span>Lock {} {verb} {} if</span><code>{}</code><span class=\"state\">{state}</span></p>",
-        lock.number,
-        words::operations(lock.operations & 7),
-        escaped(&shown_text(&lock.text))
-    )
+fn verb(lock: &Lock) -> &'static str {
+    if lock.denies() { "denies" } else { "grants" }
+}
+
+/// `write if S0&S1`, after what is said of the lock.
+fn lock_line(lock: &Lock, said: &str) -> String {
+    let operations = words::operations(lock.operations & 7);
+    let text = escaped(&shown_text(&lock.text));
+    format!("<p>{said} {operations} if <code>{text}</code></p>")
 }
 
 fn product(product: &Product, decides: bool) -> String {
@@ -180,11 +197,7 @@ fn literal(literal: &Literal) -> String {
 fn segment(segment: &Segment) -> String {
     let kind = if segment.sheet { "sheet" } else { "code" };
     let (number, owner) = (segment.number, segment.owner);
-    let locks: String = segment
-        .locks
-        .iter()
-        .map(|lock| format!("<div class=\"lock\">{}</div>\n", lock_line(lock, "")))
-        .collect();
+    let locks: String = segment.locks.iter().map(standing).collect();
     let locks = match segment.locks.is_empty() {
         true => "<p class=\"lock\">None stands.</p>\n".to_string(),
         false => locks,
@@ -195,6 +208,11 @@ fn segment(segment: &Segment) -> String {
         key_row(&segment.keys),
         small(&segment.name, "")
     )
+}
+
+fn standing(lock: &Lock) -> String {
+    let said = format!("<b>Lock {}</b> {}", lock.number, verb(lock));
+    format!("<div class=\"lock\">{}</div>\n", lock_line(lock, &said))
 }
 
 /// What the notes call a thing, and a word on it.
