@@ -7,6 +7,7 @@
   const [back, next] = document.querySelectorAll(".moves button");
   const count = document.querySelector(".count");
   let now = -1;
+  let later;
 
   /* Only the list scrolls, and only as far as needed. */
   const bringIntoList = (link) => {
@@ -14,6 +15,18 @@
     const margin = box.height * 2;
     if (box.top - margin < frame.top) list.scrollTop += box.top - margin - frame.top;
     if (box.bottom + margin > frame.bottom) list.scrollTop += box.bottom + margin - frame.bottom;
+  };
+
+  /* The count, and for those who hear the page the call and its answer too. */
+  const tell = () => {
+    count.innerHTML = `<b>Step ${now + 1} of ${steps.length}</b> (place ${now})<span class="unseen"></span>`;
+    const said = steps[now].querySelectorAll("h2, .word, .why");
+    count.lastChild.textContent = [...said].map((part) => `. ${part.textContent}`).join("");
+  };
+
+  /* Browsers allow only so many changes a second, and a key can be held down. */
+  const address = () => {
+    try { history.replaceState(null, "", `#step-${now}`); } catch { /* It stays as it is. */ }
   };
 
   const show = (wanted) => {
@@ -30,9 +43,10 @@
     if (about) about.classList.toggle("away", now > 0);
     back.disabled = now === 0;
     next.disabled = now === steps.length - 1;
-    count.innerHTML = `<b>Step ${now + 1} of ${steps.length}</b> (place ${now})`;
+    tell();
     window.scrollTo(0, 0);
-    try { history.replaceState(null, "", `#step-${now}`); } catch { /* The address stays. */ }
+    clearTimeout(later);
+    later = setTimeout(address, 100);
   };
 
   const wanted = () => {

@@ -2,6 +2,7 @@
 //! JavaScript the steps stand one under the other; with it, it is a stepper.
 
 mod html;
+mod locks;
 mod step;
 
 use crate::steps::Step;

@@ -3,6 +3,7 @@
 //! the history of calls and answers.
 
 mod accepted;
+mod check;
 mod judgement;
 mod kept;
 mod refused;
@@ -149,7 +150,7 @@ pub fn explain<'a>(entries: impl IntoIterator<Item = Entry<'a>>) -> Vec<Step<'a>
 
 /// What stands before a call: the history, and what it doesn't keep.
 #[derive(Default)]
-struct Desk {
+struct State {
     history: History,
     kept: Kept,
 }
@@ -157,23 +158,23 @@ struct Desk {
 #[derive(Default)]
 struct Teller {
     guard: Guard,
-    desk: Desk,
+    state: State,
 }
 
 impl Teller {
     fn step<'a>(&mut self, place: usize, entry: Entry<'a>) -> Step<'a> {
         let record = entry.record;
         let answer = self.guard.call(&record);
-        let desk = &self.desk;
-        let judgement = judgement::of(desk, &record, answer);
+        let state = &self.state;
+        let judgement = judgement::of(state, &record, answer);
         let reason = match answer {
-            Ok(answer) => accepted::reason(desk, &record, answer, judgement.as_ref()),
-            Err(refusal) => refused::reason(desk, &record, refusal, judgement.as_ref()),
+            Ok(answer) => accepted::reason(state, &record, answer, judgement.as_ref()),
+            Err(refusal) => refused::reason(state, &record, refusal, judgement.as_ref()),
         };
-        let disagreement = judgement::disagreement(desk, &record, answer, judgement.as_ref());
-        let names = desk.kept.names_in(&record);
-        let change = view::change(desk, &record, answer);
-        let number = view::segment_number(desk, &record, answer);
+        let disagreement = check::disagreement(state, &record, answer, judgement.as_ref());
+        let names = state.kept.names_in(&record);
+        let change = view::change(state, &record, answer);
+        let number = view::segment_number(state, &record, answer);
         self.take_in(&entry, answer);
         Step {
             place,
@@ -181,8 +182,8 @@ impl Teller {
             reason,
             names,
             judgement,
-            thread: view::thread(&self.desk, &record, answer, change),
-            segment: number.and_then(|number| view::segment(&self.desk, number)),
+            thread: view::thread(&self.state, &record, answer, change),
+            segment: number.and_then(|number| view::segment(&self.state, number)),
             disagreement,
             entry,
         }
@@ -190,14 +191,14 @@ impl Teller {
 
     fn take_in(&mut self, entry: &Entry, answer: Result<u16, Refusal>) {
         let Ok(answer) = answer else { return };
-        let issued = self.desk.issued();
-        self.desk.kept.take_in(entry, answer, issued);
+        let issued = self.state.issued();
+        self.state.kept.take_in(entry, answer, issued);
         let record = for_history(&entry.record);
-        self.desk.history.feed(&record, Some(answer));
+        self.state.history.feed(&record, Some(answer));
     }
 }
 
-impl Desk {
+impl State {
     fn issued(&self) -> Issued {
         let issued = self.history.issued();
         Issued {

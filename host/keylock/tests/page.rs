@@ -35,7 +35,7 @@ fn check_nesting(page: &str) {
             assert_eq!(open.pop(), Some(name), "{tag}");
             continue;
         }
-        assert!(tag.matches('"').count() % 2 == 0, "{tag}");
+        assert!(tag.matches('"').count().is_multiple_of(2), "{tag}");
         let name = tag.split(' ').next().expect("a name");
         match name {
             "meta" | "br" => {}

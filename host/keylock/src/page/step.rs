@@ -1,19 +1,20 @@
 //! One step of the page: the call, the answer, why, and the thread's stack.
 
 use super::html::{escaped, sentence};
-use crate::steps::{
-    Change, Judgement, Literal, Lock, OpenCall, Product, Segment, Step, Thread, Tried, printed,
-    shown_keys, shown_text,
-};
-use crate::words;
+use super::locks;
+use crate::steps::{Change, OpenCall, Segment, Step, Thread, printed, shown_text};
+use rotundaaloe::Record;
 use rotundaaloe::formula::Key;
 
 pub fn section(step: &Step) -> String {
     let class = if step.answer.is_ok() { "ok" } else { "no" };
     let place = step.place;
     let written = escaped(&step.written());
-    let call = sentence(&step.call_in_words()) + &formula(step, " if ");
-    let columns = step.judgement.as_ref().map_or(String::new(), judgement)
+    let call = sentence(&step.call_in_words()) + &formula(step);
+    let columns = step
+        .judgement
+        .as_ref()
+        .map_or(String::new(), locks::tried_on)
         + &step.segment.as_ref().map_or(String::new(), segment)
         + &step.thread.as_ref().map_or(String::new(), thread);
     format!(
@@ -29,11 +30,15 @@ pub fn section(step: &Step) -> String {
     )
 }
 
-/// The text of an L, after some words.
-fn formula(step: &Step, words: &str) -> String {
-    match step.entry.record.text {
-        [] => String::new(),
-        text => format!("{words}<code>{}</code>", escaped(&shown_text(text))),
+/// When a new lock is to open.
+fn formula(step: &Step) -> String {
+    match step.entry.record {
+        Record {
+            letter: b'L', text, ..
+        } => {
+            format!(" if <code>{}</code>", escaped(&shown_text(text)))
+        }
+        _ => String::new(),
     }
 }
 
@@ -89,130 +94,20 @@ fn alarms(step: &Step) -> String {
     text
 }
 
-/// The lock that decided, then the others.
-fn judgement(judgement: &Judgement) -> String {
-    let operation = words::operations(judgement.operation);
-    let segment = judgement.segment;
-    let decides = |lock: &&Tried| judgement.decided == Some(lock.lock.number);
-    let (deciding, others): (Vec<_>, Vec<_>) = judgement.locks.iter().partition(decides);
-    let part = match judgement.decided {
-        Some(_) => Part::Stands,
-        None => Part::Lacks,
-    };
-    let deciding = deciding.into_iter().map(|lock| tried(lock, Part::Decides));
-    let others = others.into_iter().map(|lock| tried(lock, part));
-    let locks: String = deciding.chain(others).collect();
-    let none = match judgement.locks.is_empty() {
-        true => "<p class=\"lock\">There is none.</p>\n",
-        false => "",
-    };
-    let before = match judgement.operation {
-        1 => {
-            let keys = shown_keys(&judgement.keys);
-            format!(
-                "<p class=\"after\">Tried with the keys before the call: <code>{keys}</code></p>\n"
-            )
-        }
-        _ => String::new(),
-    };
-    format!(
-        "<div>\n<h3>Locks for {operation} on segment {segment}</h3>\n{locks}{none}{before}</div>\n"
-    )
-}
-
-/// What a lock has to do with the answer.
-#[derive(Clone, Copy, PartialEq)]
-enum Part {
-    Decides,
-    /// Another lock decides.
-    Stands,
-    /// No lock does.
-    Lacks,
-}
-
-fn tried(tried: &Tried, part: Part) -> String {
-    let number = tried.lock.number;
-    let decides = part == Part::Decides;
-    let verb = verb(&tried.lock);
-    let state = match (decides, tried.opens()) {
-        (true, _) => format!("<b>Lock {number} opens and {verb}</b>"),
-        (false, true) => format!("<b>Lock {number} opens.</b> It {verb}"),
-        (false, false) => format!("<b>Lock {number} stays shut.</b> It {verb}"),
-    };
-    let mut class = "lock".to_string();
-    for (name, has) in [
-        ("opens", tried.opens()),
-        ("decides", decides),
-        ("minor", part == Part::Stands),
-        ("deny", tried.lock.denies()),
-    ] {
-        if has {
-            class += &format!(" {name}");
-        }
-    }
-    let first = tried.products.iter().position(|product| product.opens);
-    let products = tried.products.iter().enumerate();
-    let products: Vec<String> = products
-        .map(|(place, tried)| product(tried, decides && first == Some(place)))
-        .collect();
-    format!(
-        "<div class=\"{class}\">{}<ul>{}</ul></div>\n",
-        lock_line(&tried.lock, &state),
-        products.concat()
-    )
-}
-
-fn verb(lock: &Lock) -> &'static str {
-    if lock.denies() { "denies" } else { "grants" }
-}
-
-/// `write if S0&S1`, after what is said of the lock.
-fn lock_line(lock: &Lock, said: &str) -> String {
-    let operations = words::operations(lock.operations & 7);
-    let text = escaped(&shown_text(&lock.text));
-    format!("<p>{said} {operations} if <code>{text}</code></p>")
-}
-
-fn product(product: &Product, decides: bool) -> String {
-    let literals: Vec<String> = product.literals.iter().map(literal).collect();
-    let against = product.against().into_iter();
-    let mut reasons: String = against
-        .map(|reason| format!("<p class=\"against\">{}</p>", escaped(&reason)))
-        .collect();
-    if decides && !product.sources().is_empty() {
-        reasons = format!("<p class=\"from\">{}</p>", product.sources());
-    }
-    format!(
-        "<li class=\"product\"><div class=\"keys\">{}</div>{reasons}</li>",
-        literals.join("<i>and</i>")
-    )
-}
-
-fn literal(literal: &Literal) -> String {
-    let class = if literal.agrees() { "lit" } else { "lit off" };
-    let (key, word) = (literal.literal, literal.in_short());
-    format!("<span class=\"{class}\"><code>{key}</code>{word}</span>")
-}
-
 fn segment(segment: &Segment) -> String {
     let kind = if segment.sheet { "sheet" } else { "code" };
     let (number, owner) = (segment.number, segment.owner);
-    let locks: String = segment.locks.iter().map(standing).collect();
+    let locks: String = segment.locks.iter().map(locks::standing).collect();
     let locks = match segment.locks.is_empty() {
         true => "<p class=\"lock\">None stands.</p>\n".to_string(),
         false => locks,
     };
     format!(
         "<div>\n<h3>Locks on segment {number}</h3>\n{locks}</div>\n\
-         <div>\n<h3>Segment {number}</h3>\n<ul class=\"stack\"><li><b>{kind} of user {owner}</b>{}{}</li></ul>\n</div>\n",
+         <div>\n<h3>Segment {number} and its keys</h3>\n<ul class=\"stack\"><li><b>{kind} of user {owner}</b>{}{}</li></ul>\n</div>\n",
         key_row(&segment.keys),
         small(&segment.name, "")
     )
-}
-
-fn standing(lock: &Lock) -> String {
-    let said = format!("<b>Lock {}</b> {}", lock.number, verb(lock));
-    format!("<div class=\"lock\">{}</div>\n", lock_line(lock, &said))
 }
 
 /// What the notes call a thing, and a word on it.
@@ -236,10 +131,12 @@ fn key_row(keys: &[Key]) -> String {
 /// The open calls as boxes, the newest on top, over the identity keys.
 fn thread(thread: &Thread) -> String {
     let (number, user) = (thread.number, thread.user);
-    let gone = |call: &OpenCall| frame(call, "left", "just left");
     let (left, newest) = match &thread.change {
-        Change::Left(call) => (gone(call), ("", "")),
-        Change::Ended(calls) => (calls.iter().rev().map(gone).collect(), ("", "")),
+        Change::Left(call) => (frame(call, "left", "just left"), ("", "")),
+        Change::Ended(calls) => {
+            let closed = calls.iter().rev().map(|call| frame(call, "left", ""));
+            (closed.collect(), ("", ""))
+        }
         Change::Called => (String::new(), ("new", "just called")),
         _ => (String::new(), ("", "")),
     };

@@ -1,12 +1,17 @@
 //! What an accepted call means for those after it, in a sentence or two.
 
-use super::{Desk, Judgement, shown_keys};
+use super::{Judgement, State, shown_keys};
 use crate::words;
 use rotundaaloe::formula::{self, Key, Product};
 use rotundaaloe::{Defined, Record};
 
 /// Asked before the call is taken in.
-pub fn reason(desk: &Desk, record: &Record, answer: u16, judgement: Option<&Judgement>) -> String {
+pub fn reason(
+    state: &State,
+    record: &Record,
+    answer: u16,
+    judgement: Option<&Judgement>,
+) -> String {
     let Record { a, b, c, .. } = *record;
     match record.letter {
         b'U' => format!("Every thread of user {answer} holds U{answer}."),
@@ -18,22 +23,22 @@ pub fn reason(desk: &Desk, record: &Record, answer: u16, judgement: Option<&Judg
         b'G' => format!(
             "Calls of segment {b} hand over D{c} from now on. Those that are open already don't."
         ),
-        b'T' => taken(desk, b, c),
-        b'L' => locked(desk, record),
+        b'T' => taken(state, b, c),
+        b'L' => locked(state, record),
         b'D' => "It opens for nobody any more, threads in mid-run included.".to_string(),
-        b'R' => returned(desk, a),
+        b'R' => returned(state, a),
         _ => judgement.map_or(String::new(), |judgement| granted(judgement, a)),
     }
 }
 
-fn taken(desk: &Desk, segment: u16, key: u16) -> String {
+fn taken(state: &State, segment: u16, key: u16) -> String {
     let key_taken = Key::Defined(Defined(key));
     let keeps = |thread: &u16| {
-        let thread = desk.history.thread(*thread);
+        let thread = state.history.thread(*thread);
         let mut calls = thread.iter().flat_map(|thread| &thread.open_calls);
         calls.any(|call| call.segment == segment && super::keys(&call.list).contains(&key_taken))
     };
-    match desk.history.live_threads().filter(keeps).count() {
+    match state.history.live_threads().filter(keeps).count() {
         0 => format!("Calls of segment {segment} hand over no D{key} from now on."),
         _ => format!(
             "Calls of segment {segment} hand over no D{key} from now on. Calls that are open keep it until they return."
@@ -41,8 +46,8 @@ fn taken(desk: &Desk, segment: u16, key: u16) -> String {
     }
 }
 
-fn locked(desk: &Desk, record: &Record) -> String {
-    let products = formula::compile(record.text, desk.issued()).unwrap_or_default();
+fn locked(state: &State, record: &Record) -> String {
+    let products = formula::compile(record.text, state.issued()).unwrap_or_default();
     let wanted: Vec<String> = products.iter().map(wanted).collect();
     let verb = match record.c & 8 {
         8 => "It denies",
@@ -75,8 +80,8 @@ fn wanted(product: &Product) -> String {
 }
 
 /// Which keys go back with the newest open call, and which are still held.
-fn returned(desk: &Desk, number: u16) -> String {
-    let Some(thread) = desk.history.thread(number) else {
+fn returned(state: &State, number: u16) -> String {
+    let Some(thread) = state.history.thread(number) else {
         return String::new();
     };
     let Some((left, open)) = thread.open_calls.split_last() else {

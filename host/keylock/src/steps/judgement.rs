@@ -1,8 +1,8 @@
 //! How the locks decide a C or an A: each standing lock for the operation, and
 //! what the thread's keys do to each of its products.
 
+use super::State;
 use super::view::{self, Lock};
-use super::{Desk, for_history, shown_keys};
 use crate::words;
 use rotundaaloe::formula::{self, Key};
 use rotundaaloe::{Record, Refusal, Thread, User};
@@ -162,9 +162,9 @@ impl Literal {
 
 /// The operation of a C or an A that the locks decide: its thread is live, and
 /// its segment takes it.
-fn operation(desk: &Desk, record: &Record) -> Option<u16> {
-    desk.history.thread(record.a)?;
-    let segment = desk.history.segment(record.b)?;
+fn operation(state: &State, record: &Record) -> Option<u16> {
+    state.history.thread(record.a)?;
+    let segment = state.history.segment(record.b)?;
     if !record.text.is_empty() {
         return None;
     }
@@ -176,11 +176,11 @@ fn operation(desk: &Desk, record: &Record) -> Option<u16> {
 }
 
 /// How the locks decide an answered call. Asked before it is taken in.
-pub fn of(desk: &Desk, record: &Record, answer: Result<u16, Refusal>) -> Option<Judgement> {
-    let operation = operation(desk, record)?;
-    let keys = desk.key_set(record.a);
-    let locks = view::locks(desk, record.b, operation).into_iter();
-    let locks = locks.map(|lock| tried(desk, record.a, &keys, lock));
+pub fn of(state: &State, record: &Record, answer: Result<u16, Refusal>) -> Option<Judgement> {
+    let operation = operation(state, record)?;
+    let keys = state.key_set(record.a);
+    let locks = view::locks(state, record.b, operation).into_iter();
+    let locks = locks.map(|lock| tried(state, record.a, &keys, lock));
     Some(Judgement {
         segment: record.b,
         operation,
@@ -194,12 +194,12 @@ pub fn of(desk: &Desk, record: &Record, answer: Result<u16, Refusal>) -> Option<
     })
 }
 
-fn tried(desk: &Desk, thread: u16, keys: &[Key], lock: Lock) -> Tried {
-    let user = desk.kept.user_of(thread).unwrap_or_default();
+fn tried(state: &State, thread: u16, keys: &[Key], lock: Lock) -> Tried {
+    let user = state.kept.user_of(thread).unwrap_or_default();
     let literal = |literal: &formula::Literal| Literal {
         literal: *literal,
         thread: (thread, user),
-        held_by: holders(desk, thread, literal.key()),
+        held_by: holders(state, thread, literal.key()),
     };
     let products = lock.products.iter().map(|product| Product {
         literals: product.literals().iter().map(literal).collect(),
@@ -211,8 +211,8 @@ fn tried(desk: &Desk, thread: u16, keys: &[Key], lock: Lock) -> Tried {
     }
 }
 
-fn holders(desk: &Desk, number: u16, wanted: Key) -> Vec<Holder> {
-    let Some(thread) = desk.history.thread(number) else {
+fn holders(state: &State, number: u16, wanted: Key) -> Vec<Holder> {
+    let Some(thread) = state.history.thread(number) else {
         return Vec::new();
     };
     if wanted == Key::User(User(thread.user)) || wanted == Key::Thread(Thread(number)) {
@@ -223,63 +223,4 @@ fn holders(desk: &Desk, number: u16, wanted: Key) -> Vec<Holder> {
         .filter(|call| super::keys(&call.list).contains(&wanted))
         .map(|call| Holder::Call(call.segment))
         .collect()
-}
-
-/// What the explanation of an answered call and the answer differ in. Asked
-/// before the call is taken in.
-pub fn disagreement(
-    desk: &Desk,
-    record: &Record,
-    answer: Result<u16, Refusal>,
-    judgement: Option<&Judgement>,
-) -> Option<String> {
-    let Some(judgement) = judgement else {
-        return unjudged_disagreement(desk, record, answer);
-    };
-    for lock in &judgement.locks {
-        for product in &lock.products {
-            if product.opens != product.literals.iter().all(Literal::agrees) {
-                let number = lock.lock.number;
-                let keys = shown_keys(&judgement.keys);
-                return Some(format!("lock {number}'s literals and products, on {keys}"));
-            }
-        }
-    }
-    let drawn = drawn(desk, record, judgement);
-    (drawn != answer).then(|| format!("the locks say {drawn:?}, the guard says {answer:?}"))
-}
-
-/// The answer that follows from the locks.
-fn drawn(desk: &Desk, record: &Record, judgement: &Judgement) -> Result<u16, Refusal> {
-    let opening = |denies: bool| {
-        let mut locks = judgement.locks.iter();
-        let lock = locks.find(|tried| tried.lock.denies() == denies && tried.opens());
-        lock.map(|tried| tried.lock.number)
-    };
-    let open_calls = desk.history.thread(record.a);
-    let open_calls = open_calls.map_or(0, |thread| thread.open_calls.len());
-    match (opening(true), opening(false)) {
-        (Some(lock), _) => Err(Refusal::Denied(rotundaaloe::Lock(lock))),
-        (None, None) => Err(Refusal::NotGranted),
-        (None, Some(_)) if record.letter == b'C' && open_calls >= 16 => Err(Refusal::Full),
-        (None, Some(lock)) => Ok(lock),
-    }
-}
-
-fn unjudged_disagreement(
-    desk: &Desk,
-    record: &Record,
-    answer: Result<u16, Refusal>,
-) -> Option<String> {
-    match answer {
-        Err(Refusal::Denied(_) | Refusal::NotGranted) => {
-            Some("the guard tried locks, the history doesn't".to_string())
-        }
-        Err(_) => None,
-        Ok(given) => {
-            let told = desk.history.answer(&for_history(record));
-            let differs = told != Some(u32::from(given));
-            differs.then(|| format!("the history says {told:?}, the guard says {given}"))
-        }
-    }
 }

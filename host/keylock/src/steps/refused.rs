@@ -1,57 +1,69 @@
 //! Why a call is refused, in a sentence or two about what stands.
 
-use super::{Desk, Judgement, shown_keys};
+use super::{Judgement, State, shown_keys};
 use crate::words;
 use rotundaaloe::formula;
 use rotundaaloe::{Record, Refusal};
 
 /// Asked before the call is taken in.
 pub fn reason(
-    desk: &Desk,
+    state: &State,
     record: &Record,
     refusal: Refusal,
     judgement: Option<&Judgement>,
 ) -> String {
     let Record { a, b, c, .. } = *record;
-    let issued = desk.issued();
     match refusal {
-        Refusal::UnknownUser => format!("There is no user {a}: {}.", so_far(issued.users, "user")),
-        Refusal::NoThread if u32::from(a) < issued.threads => format!("Thread {a} has ended."),
-        Refusal::NoThread => format!("Thread {a} was never started."),
-        Refusal::NoSegment => {
-            format!("There is no segment {b}: {}.", so_far(issued.segments, "segment"))
-        }
-        Refusal::NoKey => format!("There is no key D{c}: {}.", so_far(issued.defined, "key")),
-        Refusal::NoLock if u32::from(b) < desk.kept.locks_made() => {
-            format!("Lock {b} was dropped.")
-        }
-        Refusal::NoLock => format!("Lock {b} was never made."),
-        Refusal::NotOwner => not_owner(desk, record),
-        Refusal::Unfit => unfit(desk, record),
+        Refusal::NotOwner => not_owner(state, record),
+        Refusal::Unfit => unfit(state, record),
         Refusal::AlreadyPresent => {
-            format!("D{c} is in segment {b}'s list already: {}.", shown_keys(&desk.list(b)))
+            let list = shown_keys(&state.list(b));
+            format!("D{c} is in segment {b}'s list already: {list}.")
         }
         Refusal::NotPresent if record.letter == b'R' => {
             format!("Thread {a} has no open call to return from.")
         }
         Refusal::NotPresent => {
-            format!("D{c} isn't in segment {b}'s list: {}.", shown_keys(&desk.list(b)))
+            let list = shown_keys(&state.list(b));
+            format!("D{c} isn't in segment {b}'s list: {list}.")
         }
-        Refusal::Full => full(desk, record),
-        Refusal::Malformed => misspelt(desk, record.text),
+        Refusal::Full => full(state, record),
+        Refusal::Malformed => misspelt(state, record.text),
         Refusal::TooWide => {
             "Some part of the formula needs more than 8 products, or more than 6 keys in one."
-                .to_string()
+                .into()
         }
         Refusal::Unsatisfiable => {
-            "No key set opens it: every product has a key both plain and barred.".to_string()
+            "No key set opens it: every product has a key both plain and barred.".into()
         }
         Refusal::Denied(lock) => {
             format!("Deny lock {} opens, and a deny beats every grant.", lock.0)
         }
         Refusal::NotGranted => judgement.map_or(String::new(), |found| not_granted(found, a)),
-        _ => "No call has this shape: an unknown letter, a field that should be 0, or a text where none belongs."
-            .to_string(),
+        other => missing(state, record, other),
+    }
+}
+
+/// Refusals 1 to 5, and calls of no known shape.
+fn missing(state: &State, record: &Record, refusal: Refusal) -> String {
+    let Record { a, b, c, .. } = *record;
+    let issued = state.issued();
+    match refusal {
+        Refusal::UnknownUser => format!("There is no user {a}: {}.", so_far(issued.users, "user")),
+        Refusal::NoThread if u32::from(a) < issued.threads => format!("Thread {a} has ended."),
+        Refusal::NoThread => format!("Thread {a} was never started."),
+        Refusal::NoSegment => {
+            let made = so_far(issued.segments, "segment");
+            format!("There is no segment {b}: {made}.")
+        }
+        Refusal::NoKey => format!("There is no key D{c}: {}.", so_far(issued.defined, "key")),
+        Refusal::NoLock if u32::from(b) < state.kept.locks_made() => {
+            format!("Lock {b} was dropped.")
+        }
+        Refusal::NoLock => format!("Lock {b} was never made."),
+        _ => "No call has this shape: an unknown letter, a field that should be 0, \
+              or a text where none belongs."
+            .into(),
     }
 }
 
@@ -63,26 +75,29 @@ fn so_far(count: u32, thing: &str) -> String {
     }
 }
 
-fn not_owner(desk: &Desk, record: &Record) -> String {
+fn not_owner(state: &State, record: &Record) -> String {
     let Record { a, b, c, .. } = *record;
-    let owner = |segment| desk.history.segment(segment).map(|segment| segment.owner);
+    let owner = |segment| state.history.segment(segment).map(|segment| segment.owner);
     if record.letter == b'D' {
-        let mut standing = desk.history.standing();
+        let mut standing = state.history.standing();
         let lock = standing.find(|(number, _)| *number == b);
         let segment = lock.map_or(0, |(_, lock)| lock.segment);
         let owner = owner(segment).unwrap_or_default();
         return format!("Lock {b} is on segment {segment}, which belongs to user {owner}.");
     }
-    match (owner(b), desk.kept.maker(c)) {
+    match (owner(b), state.kept.maker(c)) {
         (Some(owner), _) if owner != a => format!("Segment {b} belongs to user {owner}."),
         (_, Some(maker)) => format!("Key D{c} was made by user {maker}: only the maker gives it."),
         _ => String::new(),
     }
 }
 
-fn unfit(desk: &Desk, record: &Record) -> String {
+fn unfit(state: &State, record: &Record) -> String {
     let Record { b, c, .. } = *record;
-    let sheet = desk.history.segment(b).is_some_and(|segment| segment.sheet);
+    let sheet = state
+        .history
+        .segment(b)
+        .is_some_and(|segment| segment.sheet);
     match (record.letter, sheet) {
         (b'N', _) => "A segment is code (0) or a sheet (1).".to_string(),
         (b'A', _) if c != 2 && c != 4 => "An access is a read (2) or a write (4).".to_string(),
@@ -97,11 +112,11 @@ fn unfit(desk: &Desk, record: &Record) -> String {
     }
 }
 
-fn full(desk: &Desk, record: &Record) -> String {
+fn full(state: &State, record: &Record) -> String {
     let Record { a, b, .. } = *record;
     match record.letter {
         b'U' => "There are 32 users, and no more fit.".to_string(),
-        b'S' if desk.history.live_threads().count() >= 64 => {
+        b'S' if state.history.live_threads().count() >= 64 => {
             "64 threads are live, and no more fit.".to_string()
         }
         b'S' => "All 65,536 thread numbers were handed out.".to_string(),
@@ -109,19 +124,19 @@ fn full(desk: &Desk, record: &Record) -> String {
         b'K' => "There are 1,024 keys, and no more fit.".to_string(),
         b'G' => format!(
             "Segment {b}'s list has 8 keys, and no more fit: {}.",
-            shown_keys(&desk.list(b))
+            shown_keys(&state.list(b))
         ),
-        b'L' if desk.kept.locks_made() > 65_535 => {
+        b'L' if state.kept.locks_made() > 65_535 => {
             "All 65,536 lock numbers were handed out.".to_string()
         }
-        b'L' => too_many_products(desk, record),
+        b'L' => too_many_products(state, record),
         _ => format!("A lock opens, but thread {a} has 16 open calls, and no more fit."),
     }
 }
 
-fn too_many_products(desk: &Desk, record: &Record) -> String {
-    let new = formula::compile(record.text, desk.issued()).map_or(0, |products| products.len());
-    let locks = super::view::locks(desk, record.b, 7);
+fn too_many_products(state: &State, record: &Record) -> String {
+    let new = formula::compile(record.text, state.issued()).map_or(0, |products| products.len());
+    let locks = super::view::locks(state, record.b, 7);
     let standing: usize = locks.iter().map(|lock| lock.products.len()).sum();
     let segment = record.b;
     format!(
@@ -129,8 +144,8 @@ fn too_many_products(desk: &Desk, record: &Record) -> String {
     )
 }
 
-fn misspelt(desk: &Desk, text: &[u8]) -> String {
-    let issued = desk.issued();
+fn misspelt(state: &State, text: &[u8]) -> String {
+    let issued = state.issued();
     if text.is_empty() {
         return "There is no text.".to_string();
     }

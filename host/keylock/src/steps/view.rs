@@ -1,6 +1,6 @@
 //! Where a thread and a segment stand after a call.
 
-use super::{Desk, keys};
+use super::{State, keys};
 use reference::history;
 use rotundaaloe::formula::{self, Key};
 use rotundaaloe::{Record, Refusal};
@@ -68,12 +68,12 @@ impl Lock {
 }
 
 /// A segment's standing locks for any of the operations, by rising number.
-pub fn locks(desk: &Desk, segment: u16, operations: u16) -> Vec<Lock> {
-    let standing = desk.history.standing();
+pub fn locks(state: &State, segment: u16, operations: u16) -> Vec<Lock> {
+    let standing = state.history.standing();
     let there = standing
         .filter(|(_, lock)| lock.segment == segment && lock.operations & operations & 7 != 0);
     let lock = |(number, lock): (u16, &history::Lock)| {
-        let formula = desk.kept.formula(number);
+        let formula = state.kept.formula(number);
         Lock {
             number,
             operations: lock.operations,
@@ -85,9 +85,9 @@ pub fn locks(desk: &Desk, segment: u16, operations: u16) -> Vec<Lock> {
 }
 
 /// What an answered call does to its thread. Asked before the call is taken in.
-pub fn change(desk: &Desk, record: &Record, answer: Result<u16, Refusal>) -> Change {
-    let calls = || match desk.history.thread(record.a) {
-        Some(thread) => open_calls(desk, thread),
+pub fn change(state: &State, record: &Record, answer: Result<u16, Refusal>) -> Change {
+    let calls = || match state.history.thread(record.a) {
+        Some(thread) => open_calls(state, thread),
         None => Vec::new(),
     };
     match (record.letter, answer) {
@@ -102,10 +102,10 @@ pub fn change(desk: &Desk, record: &Record, answer: Result<u16, Refusal>) -> Cha
     }
 }
 
-fn open_calls(desk: &Desk, thread: &history::Thread) -> Vec<OpenCall> {
+fn open_calls(state: &State, thread: &history::Thread) -> Vec<OpenCall> {
     let calls = thread.open_calls.iter().map(|call| OpenCall {
         segment: call.segment,
-        name: desk.kept.segment_name(call.segment),
+        name: state.kept.segment_name(call.segment),
         keys: keys(&call.list),
     });
     calls.collect()
@@ -113,7 +113,7 @@ fn open_calls(desk: &Desk, thread: &history::Thread) -> Vec<OpenCall> {
 
 /// The thread that a call concerns. Asked after the call is taken in.
 pub fn thread(
-    desk: &Desk,
+    state: &State,
     record: &Record,
     answer: Result<u16, Refusal>,
     change: Change,
@@ -126,29 +126,29 @@ pub fn thread(
     if let Change::Ended(_) = change {
         return Some(Thread {
             number,
-            user: desk.kept.user_of(number)?,
+            user: state.kept.user_of(number)?,
             calls: Vec::new(),
             change,
             keys: Vec::new(),
         });
     }
-    let thread = desk.history.thread(number)?;
+    let thread = state.history.thread(number)?;
     Some(Thread {
         number,
         user: thread.user,
-        calls: open_calls(desk, thread),
+        calls: open_calls(state, thread),
         change,
-        keys: desk.key_set(number),
+        keys: state.key_set(number),
     })
 }
 
 /// The segment that a call concerns. Asked before the call is taken in.
-pub fn segment_number(desk: &Desk, record: &Record, answer: Result<u16, Refusal>) -> Option<u16> {
+pub fn segment_number(state: &State, record: &Record, answer: Result<u16, Refusal>) -> Option<u16> {
     match record.letter {
         b'N' => answer.ok(),
         b'G' | b'T' | b'L' => Some(record.b),
         b'D' => {
-            let mut standing = desk.history.standing();
+            let mut standing = state.history.standing();
             let lock = standing.find(|(number, _)| *number == record.b);
             lock.map(|(_, lock)| lock.segment)
         }
@@ -157,14 +157,14 @@ pub fn segment_number(desk: &Desk, record: &Record, answer: Result<u16, Refusal>
 }
 
 /// A segment that is handed out. Asked after the call is taken in.
-pub fn segment(desk: &Desk, number: u16) -> Option<Segment> {
-    let segment = desk.history.segment(number)?;
+pub fn segment(state: &State, number: u16) -> Option<Segment> {
+    let segment = state.history.segment(number)?;
     Some(Segment {
         number,
-        name: desk.kept.segment_name(number),
+        name: state.kept.segment_name(number),
         owner: segment.owner,
         sheet: segment.sheet,
         keys: keys(&segment.list),
-        locks: locks(desk, number, 7),
+        locks: locks(state, number, 7),
     })
 }
