@@ -5,7 +5,7 @@ mod html;
 mod locks;
 mod step;
 
-use crate::steps::Step;
+use crate::steps::{Step, troubles};
 use html::{escaped, sentence};
 use std::io::{self, Write};
 
@@ -38,6 +38,9 @@ pub fn write(
     writeln!(out, "<div class=\"page\">")?;
     write_list(steps, out)?;
     writeln!(out, "<main>")?;
+    for trouble in troubles(steps) {
+        writeln!(out, "<p class=\"alarm\">{}</p>", escaped(&trouble))?;
+    }
     write_introduction(introduction, out)?;
     for explained in steps {
         out.write_all(step::section(explained).as_bytes())?;
@@ -78,11 +81,7 @@ fn write_list(steps: &[Step], out: &mut impl Write) -> io::Result<()> {
         };
         let place = step.place;
         let words = sentence(&step.call_in_words());
-        let note = step.entry.note.iter();
-        let note = note.filter(|note| note.chars().count() <= LONGEST_LISTED);
-        let note: String = note
-            .map(|note| format!("<small>{}</small>", escaped(note)))
-            .collect();
+        let note = beside(step);
         writeln!(
             out,
             "<li><a class=\"{class}\" href=\"#step-{place}\"><span class=\"at\">{place}</span>\
@@ -93,6 +92,20 @@ fn write_list(steps: &[Step], out: &mut impl Write) -> io::Result<()> {
         out,
         "</ol>\n<p class=\"hint\">Arrow keys, space, Home and End move.</p>\n</nav>"
     )
+}
+
+/// What stands under a call in the list: a trouble, else a short note.
+fn beside(step: &Step) -> String {
+    if step.disagreement.is_some() {
+        return "<strong>explanation differs</strong>".to_string();
+    }
+    if step.as_expected() == Some(false) {
+        return "<strong>not as expected</strong>".to_string();
+    }
+    let note = step.entry.note.iter();
+    note.filter(|note| note.chars().count() <= LONGEST_LISTED)
+        .map(|note| format!("<small>{}</small>", escaped(note)))
+        .collect()
 }
 
 fn write_introduction(lines: &[String], out: &mut impl Write) -> io::Result<()> {

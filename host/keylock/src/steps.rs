@@ -148,6 +148,41 @@ pub fn explain<'a>(entries: impl IntoIterator<Item = Entry<'a>>) -> Vec<Step<'a>
         .collect()
 }
 
+/// What is wrong with a journal's steps, a sentence each: answers that aren't
+/// the expected ones, and explanations that differ from the guard.
+pub fn troubles(steps: &[Step]) -> Vec<String> {
+    let unexpected = steps
+        .iter()
+        .filter(|step| step.as_expected() == Some(false));
+    let differing = steps.iter().filter(|step| step.disagreement.is_some());
+    let sentence = |places: Vec<String>, one: &str, more: &str| {
+        let shown = &places[..places.len().min(8)];
+        let dots = if shown.len() < places.len() {
+            ", ..."
+        } else {
+            ""
+        };
+        let shown = shown.join(", ");
+        match places.len() {
+            0 => None,
+            1 => Some(format!("1 {one}: place {shown}")),
+            count => Some(format!("{count} {more}: places {shown}{dots}")),
+        }
+    };
+    let place = |step: &Step| step.place.to_string();
+    let unexpected = sentence(
+        unexpected.map(place).collect(),
+        "answer isn't as expected",
+        "answers aren't as expected",
+    );
+    let differing = sentence(
+        differing.map(place).collect(),
+        "explanation differs from the guard",
+        "explanations differ from the guard",
+    );
+    unexpected.into_iter().chain(differing).collect()
+}
+
 /// What stands before a call: the history, and what it doesn't keep.
 #[derive(Default)]
 struct State {

@@ -2,7 +2,7 @@
 
 use crate::steps::{
     Change, Judgement, Literal, Lock, OpenCall, Product, Segment, Step, Thread, Tried, printed,
-    shown_keys, shown_text,
+    shown_keys, shown_text, troubles,
 };
 use crate::words;
 use std::io::{self, Write};
@@ -24,7 +24,12 @@ pub fn write(steps: &[Step], colour: bool, out: &mut impl Write) -> io::Result<(
         colour,
         out,
     };
-    steps.iter().try_for_each(|step| trace.step(step))
+    steps.iter().try_for_each(|step| trace.step(step))?;
+    for trouble in troubles(steps) {
+        let trouble = trace.look(Look::Alarm, &trouble);
+        writeln!(trace.out, "\n{trouble}")?;
+    }
+    Ok(())
 }
 
 /// How a piece of text looks.

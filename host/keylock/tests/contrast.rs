@@ -6,7 +6,7 @@ use std::collections::BTreeMap;
 const STYLE: &str = include_str!("../src/page.css");
 const LEAST: f64 = 4.5;
 /// Text, and a ground that it stands on.
-const PAIRS: [(&str, &str); 19] = [
+const PAIRS: [(&str, &str); 20] = [
     ("ink", "ground"),
     ("ink", "card"),
     ("ink", "accent-soft"),
@@ -25,6 +25,7 @@ const PAIRS: [(&str, &str); 19] = [
     ("bad", "bad-soft"),
     ("bad", "card"),
     ("bad", "ground"),
+    ("bad", "accent-soft"),
     ("card", "bad"),
 ];
 

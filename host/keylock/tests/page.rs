@@ -2,8 +2,8 @@
 
 mod lesson;
 
-use keylock::page;
 use keylock::steps::{self, Step};
+use keylock::{page, trace};
 use lesson::{ROUTE, explained};
 use rotundaaloe::Record;
 
@@ -134,6 +134,9 @@ fn expected_answers_are_marked() {
     assert!(section(&page, 13).contains("Expected ok 2, but the answer is no 15 0"));
     assert!(section(&page, 14).contains("Expected no 9 0, but the answer is ok 1"));
     assert!(!section(&page, 15).contains("xpected"));
+    let loud = "<p class=\"alarm\">2 answers aren&#39;t as expected: places 13, 14</p>";
+    assert!(page.contains(loud));
+    assert_eq!(page.matches("<strong>not as expected</strong>").count(), 2);
 }
 
 #[test]
@@ -143,6 +146,12 @@ fn a_disagreement_is_shown() {
     let page = page(&[], &steps);
     let shown = "<p class=\"alarm\">Explanation and guard differ: one &amp; the other</p>";
     assert!(section(&page, 12).contains(shown));
+    assert!(page.contains("1 explanation differs from the guard: place 12"));
+    let mut out = Vec::new();
+    trace::write(&steps, false, &mut out).expect("a vector takes it");
+    let out = String::from_utf8(out).expect("text");
+    assert!(out.contains("WRONG   explanation and guard differ: one & the other\n"));
+    assert!(out.ends_with("\n\n1 explanation differs from the guard: place 12\n"));
 }
 
 #[test]
