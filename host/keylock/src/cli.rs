@@ -3,6 +3,7 @@
 
 mod arguments;
 mod asm;
+mod colour;
 mod dis;
 mod failure;
 mod help;

@@ -1,11 +1,18 @@
 //! Journals for people: as text, and explained step by step. Every answer is the
 //! proved guard's.
+//!
+//! [`text`] is the text of a journal, [`damage`] says where a file is broken.
+//! [`steps`] explains each call; [`trace`] shows the steps on a terminal, [`page`]
+//! in a browser. The rest is what these share.
 
 pub mod answer;
 pub mod damage;
 pub mod figures;
 mod letters;
+pub mod page;
 pub mod progress;
 pub mod shown;
+pub mod steps;
 pub mod text;
+pub mod trace;
 pub mod words;

@@ -1,4 +1,4 @@
-//! Texts from anywhere, for a terminal.
+//! Texts from anywhere, made harmless.
 
 /// Whether a character shows as itself and does nothing else: it is no control,
 /// isn't invisible, and changes none of its neighbours.
@@ -19,9 +19,24 @@ pub fn escaped(text: &str) -> String {
     shown
 }
 
+/// Bytes that should be ASCII, with the others as `\xHH`.
+pub fn bytes(bytes: &[u8]) -> String {
+    let shown = |byte: &u8| match byte {
+        b' '..=b'~' => char::from(*byte).to_string(),
+        byte => format!("\\x{byte:02X}"),
+    };
+    bytes.iter().map(shown).collect()
+}
+
 #[cfg(test)]
 mod tests {
-    use super::escaped;
+    use super::{bytes, escaped};
+
+    #[test]
+    fn bytes_beyond_ascii_are_escaped() {
+        assert_eq!(bytes(b"S0&S1 ~"), "S0&S1 ~");
+        assert_eq!(bytes(b"\n\x7F\xFF"), "\\x0A\\x7F\\xFF");
+    }
 
     #[test]
     fn plain_texts_stay_and_others_are_escaped() {

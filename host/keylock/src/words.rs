@@ -67,3 +67,12 @@ pub fn answer(letter: u8, answer: Result<u16, Refusal>) -> String {
         _ => format!("granted by lock {number}"),
     }
 }
+
+/// Some words with a joint before the last: `S0, S1 and D0`.
+pub fn listed(words: &[String], joint: &str) -> String {
+    match words {
+        [] => String::new(),
+        [word] => word.clone(),
+        [first @ .., last] => format!("{} {joint} {last}", first.join(", ")),
+    }
+}

@@ -40,6 +40,17 @@ impl Source {
         })
     }
 
+    /// What a page about it is called.
+    pub fn title(&self) -> String {
+        match self {
+            Source::StandardInput => "A journal".to_string(),
+            Source::File(path) => {
+                let name = path.file_stem().unwrap_or(path.as_os_str());
+                name.to_string_lossy().into_owned()
+            }
+        }
+    }
+
     pub fn read(&self) -> Result<Vec<u8>, Failure> {
         let bytes = self.bytes();
         let bytes = bytes.map_err(|error| Failure::device(&self.name(), &error))?;

@@ -1,17 +1,16 @@
 //! `keylock run`: the guard's answers, as the office program prints them.
 
+use super::colour;
 use super::failure::{Failure, Status};
 use super::input::{Input, Source};
 use super::output::{self, Target};
 use keylock::answer::Answer;
 use keylock::progress::Progress;
 use rotundaaloe::{Guard, Journal};
-use std::env;
-use std::io::{self, IsTerminal};
 
 pub fn run(sources: &[Source]) -> Result<Status, Failure> {
     let inputs = read_all(sources)?;
-    let colour = wants_colour();
+    let colour = colour::wanted(&Target::StandardOutput);
     let mut status = Status::Fine;
     for input in &inputs {
         let answers = answers(&input.journal);
@@ -69,12 +68,6 @@ fn lines(journal: &Journal, answers: &[Answer], colour: bool) -> String {
         lines += &format!("{place} {letter} {start}{answer}{end}\n");
     }
     lines
-}
-
-fn wants_colour() -> bool {
-    let no_colour = env::var_os("NO_COLOR").is_some_and(|value| !value.is_empty());
-    let dumb = env::var_os("TERM").is_some_and(|term| term == "dumb");
-    io::stdout().is_terminal() && !no_colour && !dumb
 }
 
 /// Tells which expected answers aren't given.

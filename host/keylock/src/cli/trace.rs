@@ -1,21 +1,51 @@
 //! `keylock trace`: a journal explained step by step.
 
+use super::colour;
 use super::failure::{Failure, Status};
 use super::input::{Input, Source};
 use super::output::Target;
+use keylock::progress::Progress;
+use keylock::steps::{self, Entry, Step};
+use keylock::{page, trace};
 
 pub fn trace(html: bool, source: &Source, target: &Target) -> Result<Status, Failure> {
     let input = Input::read(source)?;
-    let traced = traced(html, &input)?;
-    target.write(traced.as_bytes())?;
-    Ok(Status::Fine)
+    let steps = explained(&input);
+    let introduction = match &input.text {
+        Some(text) => &text.introduction[..],
+        None => &[],
+    };
+    let mut shown = Vec::new();
+    let written = match html {
+        true => page::write(&source.title(), introduction, &steps, &mut shown),
+        false => trace::write(introduction, &steps, colour::wanted(target), &mut shown),
+    };
+    written.expect("a vector takes everything");
+    target.write(&shown)?;
+    Ok(match steps::troubles(&steps).is_empty() {
+        true => Status::Fine,
+        false => Status::Input,
+    })
 }
 
-// TO JOIN: keylock::page::html or keylock::trace::text of `input.journal`,
-// `input.text` and `input.name`.
-fn traced(_html: bool, _input: &Input) -> Result<String, Failure> {
-    Err(Failure {
-        status: Status::Use,
-        report: "keylock: trace isn't built yet\n".to_string(),
-    })
+fn explained(input: &Input) -> Vec<Step<'_>> {
+    let mut progress = Progress::new(input.journal.records().count(), "records");
+    let told = |(place, entry)| {
+        progress.at(place);
+        entry
+    };
+    match &input.text {
+        Some(text) => {
+            let entries = text.calls().map(|(line, call)| Entry::of_text(line, call));
+            steps::explain(entries.enumerate().map(told))
+        }
+        None => steps::explain(
+            input
+                .journal
+                .records()
+                .map(Entry::from)
+                .enumerate()
+                .map(told),
+        ),
+    }
 }

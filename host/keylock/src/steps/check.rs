@@ -1,0 +1,64 @@
+//! Whether an explanation leads to the proved guard's answer. It always does,
+//! unless this library is wrong.
+
+use super::{Judgement, Literal, State, for_history, shown_keys};
+use rotundaaloe::{Lock, Record, Refusal};
+
+/// What the explanation of an answered call and the answer differ in. Asked
+/// before the call is taken in.
+pub fn disagreement(
+    state: &State,
+    record: &Record,
+    answer: Result<u16, Refusal>,
+    judgement: Option<&Judgement>,
+) -> Option<String> {
+    let Some(judgement) = judgement else {
+        return unjudged_disagreement(state, record, answer);
+    };
+    for lock in &judgement.locks {
+        for product in &lock.products {
+            if product.opens != product.literals.iter().all(Literal::agrees) {
+                let number = lock.lock.number;
+                let keys = shown_keys(&judgement.keys);
+                return Some(format!("lock {number}'s literals and products, on {keys}"));
+            }
+        }
+    }
+    let drawn = drawn(state, record, judgement);
+    (drawn != answer).then(|| format!("the locks say {drawn:?}, the guard says {answer:?}"))
+}
+
+/// The answer that follows from the locks.
+fn drawn(state: &State, record: &Record, judgement: &Judgement) -> Result<u16, Refusal> {
+    let opening = |denies: bool| {
+        let mut locks = judgement.locks.iter();
+        let lock = locks.find(|tried| tried.lock.denies() == denies && tried.opens());
+        lock.map(|tried| tried.lock.number)
+    };
+    let open_calls = state.history.thread(record.a);
+    let open_calls = open_calls.map_or(0, |thread| thread.open_calls.len());
+    match (opening(true), opening(false)) {
+        (Some(lock), _) => Err(Refusal::Denied(Lock(lock))),
+        (None, None) => Err(Refusal::NotGranted),
+        (None, Some(_)) if record.letter == b'C' && open_calls >= 16 => Err(Refusal::Full),
+        (None, Some(lock)) => Ok(lock),
+    }
+}
+
+fn unjudged_disagreement(
+    state: &State,
+    record: &Record,
+    answer: Result<u16, Refusal>,
+) -> Option<String> {
+    match answer {
+        Err(Refusal::Denied(_) | Refusal::NotGranted) => {
+            Some("the guard tried locks, the history doesn't".to_string())
+        }
+        Err(_) => None,
+        Ok(given) => {
+            let told = state.history.answer(&for_history(record));
+            let differs = told != Some(u32::from(given));
+            differs.then(|| format!("the history says {told:?}, the guard says {given}"))
+        }
+    }
+}

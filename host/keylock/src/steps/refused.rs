@@ -1,0 +1,215 @@
+//! Why a call is refused, in a sentence or two about what stands.
+
+use super::{Judgement, State, shown_keys};
+use crate::{shown, words};
+use rotundaaloe::formula;
+use rotundaaloe::{Record, Refusal};
+
+/// Asked before the call is taken in.
+pub fn reason(
+    state: &State,
+    record: &Record,
+    refusal: Refusal,
+    judgement: Option<&Judgement>,
+) -> String {
+    let Record { a, b, c, .. } = *record;
+    match refusal {
+        Refusal::NotOwner => not_owner(state, record),
+        Refusal::Unfit => unfit(state, record),
+        Refusal::AlreadyPresent => {
+            let list = shown_keys(&state.list(b));
+            format!("D{c} is in segment {b}'s list already: {list}.")
+        }
+        Refusal::NotPresent if record.letter == b'R' => {
+            format!("Thread {a} has no open call to return from.")
+        }
+        Refusal::NotPresent => {
+            let list = shown_keys(&state.list(b));
+            format!("D{c} isn't in segment {b}'s list: {list}.")
+        }
+        Refusal::Full => full(state, record),
+        Refusal::Malformed => misspelt(state, record.text),
+        Refusal::TooWide => {
+            "Some part of the formula needs more than 8 products, or more than 6 keys in one."
+                .into()
+        }
+        Refusal::Unsatisfiable => {
+            "No key set opens it: every product has a key both plain and barred.".into()
+        }
+        Refusal::Denied(lock) => {
+            format!("Deny lock {} opens, and a deny beats every grant.", lock.0)
+        }
+        Refusal::NotGranted => judgement.map_or(String::new(), |found| not_granted(found, a)),
+        other => missing(state, record, other),
+    }
+}
+
+/// Refusals 1 to 5, and calls of no known shape.
+fn missing(state: &State, record: &Record, refusal: Refusal) -> String {
+    let Record { a, b, c, .. } = *record;
+    let issued = state.issued();
+    match refusal {
+        Refusal::UnknownUser => format!("There is no user {a}: {}.", so_far(issued.users, "user")),
+        Refusal::NoThread if u32::from(a) < issued.threads => format!("Thread {a} has ended."),
+        Refusal::NoThread => format!("Thread {a} was never started."),
+        Refusal::NoSegment => {
+            let made = so_far(issued.segments, "segment");
+            format!("There is no segment {b}: {made}.")
+        }
+        Refusal::NoKey => format!("There is no key D{c}: {}.", so_far(issued.defined, "key")),
+        Refusal::NoLock if u32::from(b) < state.kept.locks_made() => {
+            format!("Lock {b} was dropped.")
+        }
+        Refusal::NoLock => format!("Lock {b} was never made."),
+        _ => "No call has this shape: an unknown letter, a field that should be 0, \
+              or a text where none belongs."
+            .into(),
+    }
+}
+
+fn so_far(count: u32, thing: &str) -> String {
+    match count {
+        0 => format!("no {thing} was made so far"),
+        1 => format!("1 {thing} was made so far"),
+        _ => format!("{count} {thing}s were made so far"),
+    }
+}
+
+fn not_owner(state: &State, record: &Record) -> String {
+    let Record { a, b, c, .. } = *record;
+    let owner = |segment| state.history.segment(segment).map(|segment| segment.owner);
+    if record.letter == b'D' {
+        let mut standing = state.history.standing();
+        let lock = standing.find(|(number, _)| *number == b);
+        let segment = lock.map_or(0, |(_, lock)| lock.segment);
+        let owner = owner(segment).unwrap_or_default();
+        return format!("Lock {b} is on segment {segment}, which belongs to user {owner}.");
+    }
+    match (owner(b), state.kept.maker(c)) {
+        (Some(owner), _) if owner != a => format!("Segment {b} belongs to user {owner}."),
+        (_, Some(maker)) => format!("Key D{c} was made by user {maker}: only the maker gives it."),
+        _ => String::new(),
+    }
+}
+
+fn unfit(state: &State, record: &Record) -> String {
+    let Record { b, c, .. } = *record;
+    let sheet = state
+        .history
+        .segment(b)
+        .is_some_and(|segment| segment.sheet);
+    match (record.letter, sheet) {
+        (b'N', _) => "A segment is code (0) or a sheet (1).".to_string(),
+        (b'A', _) if c != 2 && c != 4 => "An access is a read (2) or a write (4).".to_string(),
+        (b'A', _) => format!("Segment {b} is code: it is called, and not read or written."),
+        (b'C', _) => format!("Segment {b} is a sheet: it is read or written, and not called."),
+        (_, _) if c & 7 == 0 || c > 15 => {
+            "A lock has some of execute (1), read (2) and write (4), and maybe deny (8)."
+                .to_string()
+        }
+        (_, true) => format!("Segment {b} is a sheet, which takes read and write only."),
+        (_, false) => format!("Segment {b} is code, which takes execute only."),
+    }
+}
+
+fn full(state: &State, record: &Record) -> String {
+    let Record { a, b, .. } = *record;
+    match record.letter {
+        b'U' => "There are 32 users, and no more fit.".to_string(),
+        b'S' if state.history.live_threads().count() >= 64 => {
+            "64 threads are live, and no more fit.".to_string()
+        }
+        b'S' => "All 65,536 thread numbers were handed out.".to_string(),
+        b'N' => "There are 64 segments, and no more fit.".to_string(),
+        b'K' => "There are 1,024 keys, and no more fit.".to_string(),
+        b'G' => format!(
+            "Segment {b}'s list has 8 keys, and no more fit: {}.",
+            shown_keys(&state.list(b))
+        ),
+        b'L' if state.kept.locks_made() > 65_535 => {
+            "All 65,536 lock numbers were handed out.".to_string()
+        }
+        b'L' => too_many_products(state, record),
+        _ => format!("A lock opens, but thread {a} has 16 open calls, and no more fit."),
+    }
+}
+
+fn too_many_products(state: &State, record: &Record) -> String {
+    let new = formula::compile(record.text, state.issued()).map_or(0, |products| products.len());
+    let locks = super::view::locks(state, record.b, 7);
+    let standing: usize = locks.iter().map(|lock| lock.products.len()).sum();
+    let segment = record.b;
+    format!(
+        "Segment {segment}'s locks have {standing} products and this one {new}: over 8 don't fit."
+    )
+}
+
+fn misspelt(state: &State, text: &[u8]) -> String {
+    let issued = state.issued();
+    if text.is_empty() {
+        return "There is no text.".to_string();
+    }
+    if text.len() > 96 {
+        return "The text has more than 96 bytes.".to_string();
+    }
+    if let Some(odd) = text
+        .iter()
+        .find(|byte| !b"URSD0123456789!&|()".contains(byte))
+    {
+        return format!("No formula has the byte {}.", quoted(*odd));
+    }
+    let all = 65_536;
+    let anything = formula::Issued {
+        users: all,
+        threads: all,
+        segments: all,
+        defined: all,
+    };
+    let spelt = !matches!(
+        formula::compile(text, anything),
+        Err(rotundaaloe::refusal::Compile::Malformed)
+    );
+    match first_unknown(text, issued) {
+        Some(key) if spelt => format!("The key {key} isn't handed out yet."),
+        _ => "The text isn't a formula of keys, !, &, | and brackets at most 8 deep.".to_string(),
+    }
+}
+
+fn quoted(byte: u8) -> String {
+    match byte {
+        b' ' => "blank".to_string(),
+        byte => format!("'{}'", shown::bytes(&[byte])),
+    }
+}
+
+/// The first key in a well spelt text that isn't handed out.
+fn first_unknown(text: &[u8], issued: formula::Issued) -> Option<String> {
+    let text = str::from_utf8(text).ok()?;
+    let mut keys = text.split(|next: char| !next.is_ascii_alphanumeric());
+    let unknown = keys.find(|key| {
+        let count = match key.as_bytes().first() {
+            Some(b'U') => issued.users,
+            Some(b'R') => issued.threads,
+            Some(b'S') => issued.segments,
+            Some(b'D') => issued.defined,
+            _ => return false,
+        };
+        key[1..].parse::<u32>().is_ok_and(|number| number >= count)
+    });
+    unknown.map(str::to_string)
+}
+
+fn not_granted(judgement: &Judgement, thread: u16) -> String {
+    let operation = words::operations(judgement.operation);
+    let segment = judgement.segment;
+    let grants = judgement.locks.iter().filter(|tried| !tried.lock.denies());
+    match grants.count() {
+        0 => format!("No lock grants {operation} on segment {segment}."),
+        1 => format!(
+            "The only lock that grants {operation} on segment {segment} stays shut for thread {thread}."
+        ),
+        count => format!(
+            "All {count} locks that grant {operation} on segment {segment} stay shut for thread {thread}."
+        ),
+    }
+}

@@ -1,0 +1,320 @@
+//! Explanations written down by hand, and explanations of random lists against
+//! the proved guard's answers.
+
+mod lesson;
+
+use keylock::answer::Answer;
+use keylock::steps::{self, Change, Entry, Holder, Step, Tried, shown_keys};
+use keylock::trace;
+use lesson::{ROUTE, explained};
+use reference::calls::{Caller, WORLDS};
+use reference::random::Random;
+use rotundaaloe::{Guard, Record};
+use std::collections::BTreeMap;
+
+/// A step's lock with this number.
+fn lock<'a>(step: &'a Step, number: u16) -> &'a Tried {
+    let judgement = step.judgement.as_ref().expect("a call that locks decide");
+    let mut locks = judgement.locks.iter();
+    locks
+        .find(|tried| tried.lock.number == number)
+        .expect("a lock that stands")
+}
+
+/// The key set after a step.
+fn keys(step: &Step) -> String {
+    shown_keys(&step.thread.as_ref().expect("a thread").keys)
+}
+
+/// The segments of the open calls after a step.
+fn stack(step: &Step) -> Vec<u16> {
+    let thread = step.thread.as_ref().expect("a thread");
+    thread.calls.iter().map(|call| call.segment).collect()
+}
+
+/// What each literal of a product does, and who holds its key.
+fn literals(tried: &Tried, product: usize) -> Vec<(String, bool, Vec<Holder>)> {
+    let literals = tried.products[product].literals.iter();
+    literals
+        .map(|literal| {
+            let shown = literal.literal.to_string();
+            (shown, literal.agrees(), literal.held_by.clone())
+        })
+        .collect()
+}
+
+#[test]
+fn a_save_on_the_route() {
+    let step = &explained(ROUTE)[12];
+    assert_eq!(step.given().to_string(), "ok 2");
+    assert_eq!(step.written(), "A 0 2 4");
+    assert_eq!(step.call_in_words(), "thread 0 writes segment 2");
+    assert_eq!(step.reason, "Lock 2 opens: thread 0 holds S0 and S1.");
+    let judgement = step.judgement.as_ref().expect("locks decide it");
+    assert_eq!(judgement.decided, Some(2));
+    assert_eq!(judgement.locks.len(), 1);
+    let tried = lock(step, 2);
+    assert!(tried.opens() && !tried.lock.denies());
+    let held = |key: &str, segment| (key.to_string(), true, vec![Holder::Call(segment)]);
+    assert_eq!(literals(tried, 0), [held("S0", 0), held("S1", 1)]);
+    assert_eq!(stack(step), [0, 1]);
+    assert_eq!(keys(step), "U0 R0 S0 S1");
+}
+
+#[test]
+fn a_save_off_the_route() {
+    let step = &explained(ROUTE)[13];
+    assert_eq!(step.given().to_string(), "no 15 0");
+    let tried = lock(step, 2);
+    assert!(!tried.opens());
+    assert_eq!(tried.lock.text, b"S0&S1");
+    assert_eq!(
+        literals(tried, 0),
+        [
+            ("S0".to_string(), false, vec![]),
+            ("S1".to_string(), true, vec![Holder::Call(1)]),
+        ]
+    );
+    let against = tried.products[0].against();
+    assert_eq!(against, ["S0 is missing: no call of segment 0 is open"]);
+    assert_eq!(stack(step), [1]);
+    assert_eq!(keys(step), "U0 R1 S1");
+}
+
+#[test]
+fn a_return() {
+    let steps = explained(ROUTE);
+    let step = &steps[14];
+    assert_eq!(stack(step), [0]);
+    assert_eq!(keys(step), "U0 R0 S0");
+    assert_eq!(step.reason, "It gives back S1.");
+    match &step.thread.as_ref().expect("a thread").change {
+        Change::Left(call) => assert_eq!(call.segment, 1),
+        other => panic!("{other:?}"),
+    }
+    let against = lock(&steps[15], 2).products[0].against();
+    assert_eq!(against, ["S1 is missing: no call of segment 1 is open"]);
+}
+
+#[test]
+fn a_call_is_judged_on_the_keys_before_it() {
+    let calls = "U; N 0 0; L 0 0 1 !S0; S 0; C 0 0; C 0 0";
+    let steps = explained(calls);
+    let judged = |step: &Step| shown_keys(&step.judgement.as_ref().expect("locks").keys);
+    assert_eq!(judged(&steps[4]), "U0 R0");
+    assert_eq!(keys(&steps[4]), "U0 R0 S0");
+    assert_eq!(steps[5].given().to_string(), "no 15 0");
+    let against = lock(&steps[5], 0).products[0].against();
+    let because = "S0 is barred, but held: the open call of segment 0 handed it over";
+    assert_eq!(against, [because]);
+}
+
+#[test]
+fn one_part_called_twice() {
+    let calls = "U; N 0 0; L 0 0 1 U0; S 0; C 0 0; C 0 0; R 0; R 0";
+    let steps = explained(calls);
+    assert_eq!(keys(&steps[6]), "U0 R0 S0");
+    let stays = "S0 stays held: another open call handed it over too.";
+    assert_eq!(steps[6].reason, stays);
+    assert_eq!(keys(&steps[7]), "U0 R0");
+}
+
+#[test]
+fn a_deny_lock_with_a_barred_key() {
+    let calls =
+        "U; N 0 0; N 0 1; L 0 0 1 U0; L 0 1 2 U0; L 0 1 10 U0&!S0; S 0; A 0 1 2; C 0 0; A 0 1 2";
+    let steps = explained(calls);
+    assert_eq!(steps[7].given().to_string(), "no 14 2");
+    assert_eq!(
+        steps[7].judgement.as_ref().and_then(|found| found.decided),
+        Some(2)
+    );
+    assert!(lock(&steps[7], 1).opens(), "a deny beats the grant");
+    let barred = &lock(&steps[7], 2).products[0].literals[1];
+    assert_eq!(barred.in_short(), "not held");
+    assert_eq!(steps[9].given().to_string(), "ok 1");
+    let barred = &lock(&steps[9], 2).products[0].literals[1];
+    assert_eq!(barred.in_short(), "held but barred");
+    assert_eq!(barred.held_by, [Holder::Call(0)]);
+}
+
+#[test]
+fn a_lock_with_two_products() {
+    let calls = "U; U; N 0 1; S 1; L 0 0 2 U0&R0|U1; A 0 0 2";
+    let steps = explained(calls);
+    let step = &steps[5];
+    let tried = lock(step, 0);
+    let opens: Vec<bool> = tried.products.iter().map(|product| product.opens).collect();
+    assert_eq!(opens, [false, true]);
+    let against = tried.products[0].against();
+    assert_eq!(against, ["U0 is missing: thread 0 runs for user 1"]);
+    assert_eq!(tried.products[1].sources(), "U1 always held");
+    let grants = "It grants read to a thread that holds U0 and R0, or holds U1.";
+    assert_eq!(steps[4].reason, grants);
+}
+
+#[test]
+fn a_dropped_lock() {
+    let calls =
+        "U; N 0 1; L 0 0 6 U0; L 0 0 4 U0; S 0; A 0 0 4; D 0 0; A 0 0 4; D 0 1; A 0 0 4; D 0 1";
+    let steps = explained(calls);
+    assert_eq!(steps[5].given().to_string(), "ok 0");
+    assert_eq!(steps[7].given().to_string(), "ok 1");
+    let standing = |step: &Step| step.judgement.as_ref().expect("locks").locks.len();
+    assert_eq!([5, 7, 9].map(|place| standing(&steps[place])), [2, 1, 0]);
+    assert_eq!(steps[9].reason, "No lock grants write on segment 0.");
+    assert_eq!(steps[10].reason, "Lock 1 was dropped.");
+}
+
+#[test]
+fn an_open_call_keeps_a_key_that_was_taken() {
+    let calls = "U; N 0 0; K 0; G 0 0 0; L 0 0 1 U0; S 0; C 0 0; T 0 0 0; R 0; C 0 0; E 0";
+    let steps = explained(calls);
+    let keeps = "Calls that are open keep it until they return.";
+    assert!(steps[7].reason.ends_with(keeps));
+    let list = &steps[7].segment.as_ref().expect("a segment").keys;
+    assert_eq!(shown_keys(list), "S0");
+    match &steps[8].thread.as_ref().expect("a thread").change {
+        Change::Left(call) => assert_eq!(shown_keys(&call.keys), "S0 D0"),
+        other => panic!("{other:?}"),
+    }
+    assert_eq!(keys(&steps[9]), "U0 R0 S0");
+    match &steps[10].thread.as_ref().expect("a thread").change {
+        Change::Ended(calls) => assert_eq!(calls.len(), 1),
+        other => panic!("{other:?}"),
+    }
+}
+
+#[test]
+fn why_other_calls_are_refused() {
+    let calls = "S 3; U; U; N 1 0; N 0 2; N 0 1; K 0; K 1; R 0; S 0; E 0; R 0; S 0; R 1; C 1 7; \
+         G 0 1 5; G 0 0 0; G 0 1 1; G 0 1 0; G 0 1 0; T 0 1 1; L 0 1 1 U0; L 0 1 16 U0; \
+         L 0 1 2 U0&; L 0 1 2 U0|S9; L 0 1 2 u0; L 0 1 2 U0&!U0; A 1 1 1; A 1 0 2; C 1 1; D 0 0";
+    let reasons: Vec<String> = explained(calls)
+        .iter()
+        .filter_map(|step| Some((step.answer.err()?.number(), &step.reason)))
+        .map(|(number, reason)| format!("{number} {reason}"))
+        .collect();
+    assert_eq!(
+        reasons,
+        [
+            "1 There is no user 3: no user was made so far.",
+            "7 A segment is code (0) or a sheet (1).",
+            "2 Thread 0 was never started.",
+            "2 Thread 0 has ended.",
+            "9 Thread 1 has no open call to return from.",
+            "3 There is no segment 7: 2 segments were made so far.",
+            "4 There is no key D5: 2 keys were made so far.",
+            "6 Segment 0 belongs to user 1.",
+            "6 Key D1 was made by user 1: only the maker gives it.",
+            "8 D0 is in segment 1's list already: S1 D0.",
+            "9 D1 isn't in segment 1's list: S1 D0.",
+            "7 Segment 1 is a sheet, which takes read and write only.",
+            "7 A lock has some of execute (1), read (2) and write (4), and maybe deny (8).",
+            "11 The text isn't a formula of keys, !, &, | and brackets at most 8 deep.",
+            "11 The key S9 isn't handed out yet.",
+            "11 No formula has the byte 'u'.",
+            "13 No key set opens it: every product has a key both plain and barred.",
+            "7 An access is a read (2) or a write (4).",
+            "7 Segment 0 is code: it is called, and not read or written.",
+            "7 Segment 1 is a sheet: it is read or written, and not called.",
+            "5 Lock 0 was never made.",
+        ]
+    );
+}
+
+#[test]
+fn notes_name_segments() {
+    let mut entries = lesson::entries(ROUTE);
+    entries[1].note = Some("segment 0, the rate loader".to_string());
+    entries[3].note = Some("the totals sheet".to_string());
+    let steps = steps::explain(entries);
+    let named = |thing: &str, name: &str| (thing.to_string(), name.to_string());
+    assert_eq!(steps[12].names, [named("segment 2", "the totals sheet")]);
+    let calls = &steps[12].thread.as_ref().expect("a thread").calls;
+    let names: Vec<Option<&str>> = calls.iter().map(|call| call.name.as_deref()).collect();
+    assert_eq!(names, [Some("the rate loader"), None]);
+}
+
+#[test]
+fn the_terminal_shows_it() {
+    let mut entries = lesson::entries(ROUTE);
+    entries[15].expected = Some(Answer::Ok(2));
+    entries[15].note = Some("\x1b[2J".to_string());
+    let steps = steps::explain(entries);
+    let introduction = ["A route.".to_string(), "\x1b[2J".to_string()];
+    let text = |colour| {
+        let mut out = Vec::new();
+        trace::write(&introduction, &steps, colour, &mut out).expect("a vector takes it");
+        String::from_utf8(out).expect("text")
+    };
+    let plain = text(false);
+    for line in [
+        "13  A 1 2 4        thread 1 writes segment 2        no 15 0  refused: no way in (15)",
+        "    lock    2 grants write if S0&S1: stays shut",
+        "              S0 & S1: shut. S0 is missing: no call of segment 0 is open",
+        "    stack   thread 1 [U0 R1] > segment 1 [S1]",
+        "    keys    U0 R1 S1",
+        "    WRONG   expected ok 2",
+    ] {
+        assert!(plain.lines().any(|shown| shown == line), "{line}\n{plain}");
+    }
+    assert!(
+        plain.starts_with("A route.\n\\u{1b}[2J\n\n 0  U"),
+        "{plain}"
+    );
+    assert!(!plain.contains('\x1b') && text(true).contains("\x1b[31m"));
+    assert!(plain.contains("    note    \\u{1b}[2J\n"), "{plain}");
+}
+
+/// Every answer has an explanation that leads to it, and the locks decide in
+/// each of the four ways.
+#[test]
+fn random_lists() {
+    let mut random = Random::new(7);
+    let mut judged = BTreeMap::new();
+    for (world, lists) in WORLDS.iter().zip([200, 200, 20, 60, 60]) {
+        for list in 0..lists {
+            let records = random_list(&mut random, world);
+            let entries = records.iter().map(|record| Entry::from(borrowed(record)));
+            for step in steps::explain(entries) {
+                let place = step.place;
+                assert_eq!(step.disagreement, None, "{}: {list}, {place}", world.name);
+                assert_ne!(step.reason, "", "{}: {list}, {place}", world.name);
+                if step.judgement.is_some() {
+                    let refusal = step.answer.err().map_or(0, |refusal| refusal.number());
+                    *judged.entry(refusal).or_insert(0) += 1;
+                }
+            }
+        }
+    }
+    assert!(judged.keys().eq(&[0, 10, 14, 15]), "{judged:?}");
+    assert!(judged.values().all(|count| *count > 1_000), "{judged:?}");
+}
+
+fn random_list(
+    random: &mut Random,
+    world: &reference::calls::World,
+) -> Vec<reference::journal::Record> {
+    let mut guard = Guard::new();
+    let mut caller = Caller::new(random, world);
+    let mut records = Vec::new();
+    for _ in 0..caller.length() {
+        let record = caller.next();
+        if let Ok(answer) = guard.call(&borrowed(&record)) {
+            caller.learn(&record, answer);
+        }
+        records.push(record);
+    }
+    records
+}
+
+fn borrowed(record: &reference::journal::Record) -> Record<'_> {
+    Record {
+        letter: record.letter,
+        a: record.a,
+        b: record.b,
+        c: record.c,
+        text: &record.text,
+    }
+}
