@@ -58,7 +58,7 @@ fn compare_lists(world: &World, seed: u64, calls: u64) -> Tally {
         let mut caller = Caller::new(&mut random, world);
         let mut history = (list % HISTORY_LISTS == 0).then(History::new);
         for turn in 0..caller.length() {
-            let record = caller.next();
+            let record = caller.next_call();
             let verdict = history
                 .as_ref()
                 .and_then(|history| history.verdict(&record));

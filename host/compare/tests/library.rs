@@ -80,7 +80,7 @@ fn calls_by_their_types() {
         let mut reference = reference::guard::Guard::new();
         let mut caller = Caller::new(&mut random, &WORLDS[list % WORLDS.len()]);
         for _ in 0..caller.length() {
-            let record = caller.next();
+            let record = caller.next_call();
             let answer = reference.call(record.letter, record.a, record.b, record.c, &record.text);
             let expected = answer.map_err(|refusal| (refusal.number(), refusal.second()));
             let before = expected.is_err().then(|| guard.clone());
@@ -113,7 +113,7 @@ fn journals_append_and_read() {
         let mut journal = Journal::new();
         let mut records = Vec::new();
         for _ in 0..caller.length().min(500) {
-            let record = caller.next();
+            let record = caller.next_call();
             let fits = reference::journal::fits(&record);
             let answer = journal.append(&lent(&record));
             let expected = match fits {

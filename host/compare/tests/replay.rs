@@ -72,7 +72,7 @@ fn list_file(random: &mut Random) -> Vec<u8> {
     let mut records: Vec<Record> = Vec::new();
     let mut size = journal::HEAD_BYTES;
     for _ in 0..caller.length() {
-        let record = caller.next();
+        let record = caller.next_call();
         size += record.size();
         if size > MAX_FILE_BYTES {
             break;

@@ -128,6 +128,45 @@ fn expected_answers() {
 }
 
 #[test]
+fn trace_explains_both_forms() {
+    let text = keylock(&["trace"], TRIAL.as_bytes());
+    assert_eq!((text.status, text.complaint.as_str()), (0, ""));
+    let shut = "S0 & S1: shut. S0 is missing: no call of segment 0 is open";
+    assert!(text.printed().contains(shut), "{}", text.printed());
+    let journal = keylock(&["asm"], TRIAL.as_bytes()).output;
+    fine(&keylock(&["trace"], &journal), &text.printed());
+}
+
+#[test]
+fn trace_writes_a_page() {
+    let directory = Directory::new("page");
+    let [text, page] = ["my lesson.txt", "page.html"].map(|name| directory.file(name));
+    fs::write(&text, format!("# Two users & a route\n\n{TRIAL}")).unwrap();
+    fine(&keylock(&["trace", "--html", &text, "-o", &page], b""), "");
+    let written = fs::read_to_string(&page).unwrap();
+    assert!(written.starts_with("<!DOCTYPE html>"));
+    assert!(written.contains("<title>my lesson</title>"));
+    assert!(written.contains("<p>Two users &amp; a route</p>"));
+    assert!(written.contains("S0 is missing: no call of segment 0 is open"));
+    fine(&keylock(&["trace", &text, "--html"], b""), &written);
+}
+
+#[test]
+fn trace_tells_of_answers_that_are_not_expected() {
+    let ran = keylock(&["trace"], b"U -> ok 0\nU -> ok 7\n");
+    let complaint = "standard input: 1 answer isn't as expected: place 1\n";
+    assert_eq!((ran.status, ran.complaint.as_str()), (1, complaint));
+    assert!(ran.printed().contains("WRONG   expected ok 7"));
+    let ran = keylock(&["trace", "--html"], b"U -> ok 7\n");
+    let complaint = "standard input: 1 answer isn't as expected: place 0\n";
+    assert_eq!((ran.status, ran.complaint.as_str()), (1, complaint));
+    assert!(
+        ran.printed()
+            .contains("Expected ok 7, but the answer is ok 0")
+    );
+}
+
+#[test]
 fn mistakes_are_shown_and_nothing_is_written() {
     let directory = Directory::new("mistakes");
     let [text, out] = ["a.txt", "out"].map(|name| directory.file(name));

@@ -211,9 +211,9 @@ fn why_other_calls_are_refused() {
             "9 D1 isn't in segment 1's list: S1 D0.",
             "7 Segment 1 is a sheet, which takes read and write only.",
             "7 A lock has some of execute (1), read (2) and write (4), and maybe deny (8).",
-            "11 The text isn't a formula of keys, !, &, | and brackets at most 8 deep.",
+            "11 At the end of the text: a key, '!' or '(' is missing there.",
             "11 The key S9 isn't handed out yet.",
-            "11 No formula has the byte 'u'.",
+            "11 At 'u', byte 1 of the text: a key, '!' or '(' should stand there.",
             "13 No key set opens it: every product has a key both plain and barred.",
             "7 An access is a read (2) or a write (4).",
             "7 Segment 0 is code: it is called, and not read or written.",
@@ -300,7 +300,7 @@ fn random_list(
     let mut caller = Caller::new(random, world);
     let mut records = Vec::new();
     for _ in 0..caller.length() {
-        let record = caller.next();
+        let record = caller.next_call();
         if let Ok(answer) = guard.call(&borrowed(&record)) {
             caller.learn(&record, answer);
         }

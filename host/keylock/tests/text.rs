@@ -580,7 +580,7 @@ fn lists_of_calls_to_text_and_back() {
         let mut caller = Caller::new(&mut random, world);
         let mut records = Vec::new();
         for _ in 0..caller.length() {
-            let record = caller.next();
+            let record = caller.next_call();
             let answer = guard.call(&rotundaaloe::Record {
                 letter: record.letter,
                 a: record.a,

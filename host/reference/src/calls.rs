@@ -199,7 +199,7 @@ impl<'a> Caller<'a> {
         self.segments.len()
     }
 
-    pub fn next(&mut self) -> Record {
+    pub fn next_call(&mut self) -> Record {
         if let Some(call) = self.opening.pop() {
             return call;
         }

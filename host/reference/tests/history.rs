@@ -93,7 +93,7 @@ fn compare_lists(world: &World, seed: u64, lists: usize) -> Tally {
         let mut history = History::new();
         let mut caller = Caller::new(&mut random, world);
         for _ in 0..caller.length() {
-            let record = caller.next();
+            let record = caller.next_call();
             if let Ok(answer) = compared(&mut guard, &mut history, &record, &mut tally) {
                 caller.learn(&record, answer);
             }

@@ -109,7 +109,7 @@ impl Filling {
 /// Has the guard come from the empty state to one that the caller knows.
 fn make_calls(guard: &mut Guard, caller: &mut Caller, calls: usize) {
     for _ in 0..calls {
-        let record = caller.next();
+        let record = caller.next_call();
         let answer = guard.call(record.letter, record.a, record.b, record.c, &record.text);
         if outcome(answer) == 0 {
             caller.learn(&record, answer as u16);
@@ -232,7 +232,7 @@ fn any_numbers_in_the_arrays() {
         filling.fill(&mut random, &mut cells);
         let mut guard = Guard::with_cells(cells);
         for _ in 0..CALLS_EACH {
-            let mut record = caller.next();
+            let mut record = caller.next_call();
             if random.one_in(2) {
                 aim(&mut random, &mut record, guard.cells());
             }

@@ -123,17 +123,18 @@ const TRACE: &str = "\
 Usage: keylock trace [--html] [FILE] [-o OUT]
 
 Explains a journal or a text journal step by step: what each call asks for, the
-guard's answer, and the state after it. The text's comments and expected answers
-stand beside the steps.
+guard's answer and why, the thread's open calls and keys after it and, for a C
+or an A, each lock with the key that opened it or kept it shut. The text's
+comments and expected answers stand beside the steps.
 
 Options:
-      --html        a page for a browser, in one file
+      --html        a page for a browser, in one file, to step through
   -o, --output OUT  write to this file; '-' and none is standard output
   -h, --help        show this
   -V, --version     show the version
 
-Exit status: 0 fine, 1 the input is at fault, 2 called wrongly, or couldn't read
-or write.
+Exit status: 0 fine, 1 the input is at fault (then nothing is written) or an
+expected answer isn't given, 2 called wrongly, or couldn't read or write.
 
 Example:
   keylock trace --html office.txt -o office.html

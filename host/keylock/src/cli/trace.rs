@@ -3,7 +3,7 @@
 use super::colour;
 use super::failure::{Failure, Status};
 use super::input::{Input, Source};
-use super::output::Target;
+use super::output::{self, Target};
 use keylock::progress::Progress;
 use keylock::steps::{self, Entry, Step};
 use keylock::{page, trace};
@@ -22,7 +22,11 @@ pub fn trace(html: bool, source: &Source, target: &Target) -> Result<Status, Fai
     };
     written.expect("a vector takes everything");
     target.write(&shown)?;
-    Ok(match steps::troubles(&steps).is_empty() {
+    let troubles = steps::troubles(&steps);
+    for trouble in &troubles {
+        output::complain(&format!("{}: {trouble}\n", input.name));
+    }
+    Ok(match troubles.is_empty() {
         true => Status::Fine,
         false => Status::Input,
     })

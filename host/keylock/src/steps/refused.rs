@@ -1,5 +1,6 @@
 //! Why a call is refused, in a sentence or two about what stands.
 
+use super::spelling;
 use super::{Judgement, State, shown_keys};
 use crate::{shown, words};
 use rotundaaloe::formula;
@@ -145,40 +146,26 @@ fn too_many_products(state: &State, record: &Record) -> String {
 }
 
 fn misspelt(state: &State, text: &[u8]) -> String {
-    let issued = state.issued();
     if text.is_empty() {
         return "There is no text.".to_string();
     }
     if text.len() > 96 {
         return "The text has more than 96 bytes.".to_string();
     }
-    if let Some(odd) = text
-        .iter()
-        .find(|byte| !b"URSD0123456789!&|()".contains(byte))
-    {
-        return format!("No formula has the byte {}.", quoted(*odd));
+    if let Some((place, wrong)) = spelling::fault(text) {
+        let place = match text.get(place) {
+            Some(byte) => format!(
+                "At '{}', byte {} of the text",
+                shown::bytes(&[*byte]),
+                place + 1
+            ),
+            None => "At the end of the text".to_string(),
+        };
+        return format!("{place}: {wrong}.");
     }
-    let all = 65_536;
-    let anything = formula::Issued {
-        users: all,
-        threads: all,
-        segments: all,
-        defined: all,
-    };
-    let spelt = !matches!(
-        formula::compile(text, anything),
-        Err(rotundaaloe::refusal::Compile::Malformed)
-    );
-    match first_unknown(text, issued) {
-        Some(key) if spelt => format!("The key {key} isn't handed out yet."),
-        _ => "The text isn't a formula of keys, !, &, | and brackets at most 8 deep.".to_string(),
-    }
-}
-
-fn quoted(byte: u8) -> String {
-    match byte {
-        b' ' => "blank".to_string(),
-        byte => format!("'{}'", shown::bytes(&[byte])),
+    match first_unknown(text, state.issued()) {
+        Some(key) => format!("The key {key} isn't handed out yet."),
+        None => "The text isn't a formula.".to_string(),
     }
 }
 

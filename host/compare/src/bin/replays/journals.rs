@@ -154,7 +154,7 @@ fn refusals() -> Journal {
     let world = WORLDS.iter().find(|world| world.name == "fields at random");
     let mut caller = Caller::new(&mut random, world.expect("there is such a world"));
     while draft.has_room() {
-        let record = caller.next();
+        let record = caller.next_call();
         if !journal::fits(&record) {
             continue;
         }
