@@ -17,6 +17,9 @@
     if (box.bottom + margin > frame.bottom) list.scrollTop += box.bottom + margin - frame.bottom;
   };
 
+  /* Of a long list, only what is seen is laid out, so the place is known when it has been. */
+  const settle = () => requestAnimationFrame(() => requestAnimationFrame(() => bringIntoList(links[now])));
+
   /* The count, and for those who hear the page the call and its answer too. */
   const tell = () => {
     count.innerHTML = `<b>Step ${now + 1} of ${steps.length}</b> (place ${now})<span class="unseen"></span>`;
@@ -40,6 +43,7 @@
     steps[now].classList.add("current");
     links[now].setAttribute("aria-current", "step");
     bringIntoList(links[now]);
+    settle();
     if (about) about.classList.toggle("away", now > 0);
     back.disabled = now === 0;
     next.disabled = now === steps.length - 1;
@@ -86,5 +90,6 @@
   back.addEventListener("click", () => show(now - 1));
   next.addEventListener("click", () => show(now + 1));
   window.addEventListener("hashchange", () => show(wanted()));
+  window.addEventListener("resize", settle);
   show(wanted());
 })();
