@@ -106,6 +106,18 @@ fn calls_by_their_types() {
 }
 
 #[test]
+fn a_kept_state_goes_on() {
+    let mut guard = Guard::new();
+    let user = guard.new_user().expect("the first");
+    let sheet = guard.new_segment(user, Kind::Sheet).expect("the first");
+    let lock = guard.add_lock(user, sheet, Operations::READ, "U0");
+    let thread = guard.start_thread(user).expect("the first");
+    let kept = Guard::from_cells(Box::new(guard.cells().clone()));
+    assert!(kept == guard);
+    assert_eq!(kept.access(thread, sheet, Access::Read).ok(), lock.ok());
+}
+
+#[test]
 fn journals_append_and_read() {
     let mut random = Random::new(8);
     for list in 0..200 {

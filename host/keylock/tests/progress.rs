@@ -30,8 +30,6 @@ fn long_work_shows_a_line_and_clears_it() {
     let screen = Screen::default();
     let mut progress = Progress::on(Box::new(screen.clone()), Duration::ZERO, 7_280, "records");
     progress.at(3_120);
-    // Not again so soon.
-    progress.at(3_121);
     let shown = "\rkeylock: 3,120 of 7,280 records";
     assert_eq!(screen.text(), shown);
     drop(progress);

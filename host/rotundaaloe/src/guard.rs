@@ -4,6 +4,7 @@ use crate::journal::Record;
 use crate::numbers::{Access, Defined, Kind, Lock, Operations, Segment, Thread, User};
 use crate::raw::{self, Cells};
 use crate::refusal::{self, Refusal};
+use std::fmt;
 
 /// An answer as the proved functions give it, below 65,536, or a refusal.
 fn told(answer: u32) -> Result<u16, Refusal> {
@@ -18,9 +19,16 @@ fn told(answer: u32) -> Result<u16, Refusal> {
 /// changes nothing; no call panics, whatever it is handed.
 ///
 /// A clone is a copy of the whole state.
-#[derive(Clone, Debug, PartialEq, Eq)]
+#[derive(Clone, PartialEq, Eq)]
 pub struct Guard {
     cells: Box<Cells>,
+}
+
+/// Without the arrays, which nobody reads.
+impl fmt::Debug for Guard {
+    fn fmt(&self, f: &mut fmt::Formatter) -> fmt::Result {
+        f.debug_struct("Guard").finish_non_exhaustive()
+    }
 }
 
 impl Guard {
@@ -29,6 +37,17 @@ impl Guard {
         let mut cells = Box::new(Cells::EMPTY);
         raw::empty(&mut cells);
         Guard { cells }
+    }
+
+    /// A guard in a state that was kept. Any numbers are some state; but what is
+    /// promised of lists of calls is promised of those from an empty state.
+    pub fn from_cells(cells: Box<Cells>) -> Guard {
+        Guard { cells }
+    }
+
+    /// The state, to be kept.
+    pub fn cells(&self) -> &Cells {
+        &self.cells
     }
 
     /// U: a new user.

@@ -3,6 +3,7 @@
 use crate::numbers::{Access, Defined, Kind, Lock, Operations, Segment, Thread, User};
 use crate::raw;
 use crate::refusal::{self, Refusal};
+use std::fmt;
 
 /// The most bytes of a journal.
 pub const MAX_BYTES: usize = 65_535;
@@ -92,7 +93,7 @@ impl<'a> Record<'a> {
 }
 
 /// A readable journal.
-#[derive(Clone, Debug)]
+#[derive(Clone)]
 pub struct Journal {
     /// As long as a journal may be.
     buffer: Box<[u8]>,
@@ -150,6 +151,12 @@ impl Journal {
 impl Default for Journal {
     fn default() -> Journal {
         Journal::new()
+    }
+}
+
+impl fmt::Debug for Journal {
+    fn fmt(&self, f: &mut fmt::Formatter) -> fmt::Result {
+        f.debug_list().entries(self.records()).finish()
     }
 }
 
