@@ -4,16 +4,13 @@
 use crate::figures::{counted, grouped};
 use crate::letters;
 use rotundaaloe::Refusal;
-use rotundaaloe::journal::{MAX_BYTES, Records};
+use rotundaaloe::journal::{HEAD_BYTES, MARK, MAX_BYTES, MAX_TEXT_BYTES, Records};
 use rotundaaloe::refusal::Read;
 use std::fmt;
 
-const MARK: &[u8] = b"KLD";
 const VERSION: usize = 3;
 const COUNT: usize = 5;
-const HEAD_BYTES: usize = 7;
 const RECORD_HEAD_BYTES: usize = 9;
-const MAX_TEXT_BYTES: usize = 96;
 
 /// Where a file is broken, and why.
 #[derive(Clone, Debug, PartialEq, Eq)]

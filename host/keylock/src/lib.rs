@@ -12,6 +12,7 @@ mod letters;
 pub mod page;
 pub mod progress;
 pub mod shown;
+mod spelling;
 pub mod steps;
 pub mod text;
 pub mod trace;

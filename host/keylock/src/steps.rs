@@ -7,7 +7,6 @@ mod check;
 mod judgement;
 mod kept;
 mod refused;
-mod spelling;
 mod view;
 
 pub use judgement::{Holder, Judgement, Literal, Product, Tried};

@@ -3,8 +3,8 @@
 //! ```text
 //! # a comment runs to the end of the line
 //! N 0 1                    # the fields that the letter names
-//! L 0 2 4 S0&S1            # L's text comes last
-//! L 0 2 4 "S0 & \x00\"\\"  # in quotes, any bytes
+//! L 0 2 4 S0&S1            # L's formula comes last
+//! L 0 2 4 "S0 & \x00\"\\"  # in quotes any bytes, which the guard may refuse
 //! A 0 2 4 -> no 15 0       # with the answer that is expected
 //! ```
 
@@ -27,8 +27,6 @@ pub struct Text {
     pub introduction: Vec<String>,
     /// A line for each record, in order.
     pub lines: Vec<Line>,
-    /// The comments after the last call.
-    pub closing: Vec<String>,
     pub journal: Journal,
 }
 
@@ -105,7 +103,6 @@ impl Reader {
             text: Text {
                 introduction: Vec::new(),
                 lines: Vec::new(),
-                closing: Vec::new(),
                 journal: Journal::new(),
             },
             comments: Vec::new(),
@@ -179,7 +176,6 @@ impl Reader {
 
     fn finish(mut self) -> Result<Text, Vec<Mistake>> {
         self.introduce();
-        self.text.closing = self.comments;
         match self.mistakes.is_empty() {
             true => Ok(self.text),
             false => Err(self.mistakes),

@@ -292,7 +292,8 @@ fn the_help_is_right() {
         let (letter, names) = line.strip_prefix("  ")?.split_once(' ')?;
         let names = names.split("  ").next()?.split(' ');
         let names = names.filter(|name| name.starts_with(char::is_uppercase));
-        let call = format!("{letter}{}\n", " 1".repeat(names.count()));
+        let value = |name| if name == "FORMULA" { " U1" } else { " 1" };
+        let call = format!("{letter}{}\n", names.map(value).collect::<String>());
         (letter.len() == 1 && !["A\n", "#\n"].contains(&call.as_str())).then_some(call)
     };
     let text: String = help.lines().filter_map(call).collect();

@@ -84,10 +84,10 @@ fn blanks_ends_and_the_byte_order_mark() {
 }
 
 #[test]
-fn lock_texts() {
+fn formula_texts() {
     let text = |line: &[u8]| record(line).2;
     assert_eq!(text(b"L 0 2 4 !(S0&S1)|D3"), b"!(S0&S1)|D3");
-    assert_eq!(text(b"L 0 2 4 S0->S1"), b"S0->S1");
+    assert_eq!(text(br#"L 0 2 4 "S0->S1""#), b"S0->S1");
     assert_eq!(text(b"L 0 2 4 U0#comment"), b"U0");
     assert_eq!(text(br#"L 0 2 4 "S0 & \x00\"\\""#), b"S0 & \0\"\\");
     assert_eq!(text(br#"L 0 2 4 "\xfF\xAb""#), b"\xFF\xAB");
@@ -97,7 +97,7 @@ fn lock_texts() {
         text("L 0 2 4 \"\u{9375}\u{1F511}\"".as_bytes()),
         "\u{9375}\u{1F511}".as_bytes()
     );
-    let longest = "x".repeat(96);
+    let longest = "!".repeat(94) + "D0";
     assert_eq!(
         text(format!("L 0 2 4 {longest}").as_bytes()),
         longest.as_bytes()
@@ -141,7 +141,6 @@ fn comments_are_kept() {
         line(11, Some("\u{FFFD}"), &[]),
     ];
     assert_eq!(text.lines, right);
-    assert_eq!(text.closing, ["the end"]);
     let letters: Vec<u8> = text.calls().map(|(_, record)| record.letter).collect();
     assert_eq!(letters, b"USS");
 }
@@ -245,19 +244,22 @@ fn too_much() {
     wrong("R 0 0", 5, "R takes no more than one field");
     wrong("C 0 1 2 -> ok 0", 7, "C takes no more than two fields");
     wrong("A 0 1 2 U0", 9, "A takes no more than three fields");
-    let blanks = "L takes no more than its text: one with blanks stands in quotes";
+    let blanks = "L takes no more than its text, and a formula has no blanks";
     wrong("L 0 0 1 S0 & S1", 12, blanks);
 }
 
 #[test]
-fn wrong_lock_texts() {
+fn wrong_lengths_of_texts() {
     wrong("L 0 0 1", 8, "L needs a text here, bare or in quotes");
     wrong("L 0 0 1 # U0", 8, "L needs a text here, bare or in quotes");
-    let arrow = "L needs a text here; one that begins with '->' stands in quotes";
-    wrong("L 0 0 1 -> ok 0", 9, arrow);
-    wrong("L 0 0 1 ->S1", 9, arrow);
+    wrong(
+        "L 0 0 1 -> ok 0",
+        8,
+        "L needs a text here, bare or in quotes",
+    );
+    wrong("L 0 0 1 ->S1", 8, "L needs a text here, bare or in quotes");
     wrong("L 0 0 1 \"\"", 9, "a text has 1 to 96 bytes, this has 0");
-    let long = "x".repeat(97);
+    let long = "!".repeat(95) + "D0";
     wrong(
         format!("L 0 0 1 {long}"),
         9,
@@ -266,13 +268,30 @@ fn wrong_lock_texts() {
     // Bytes, not characters.
     let long = format!("L 0 0 1  \"{}\"", "\u{9375}".repeat(33));
     wrong(long, 10, "a text has 1 to 96 bytes, this has 99");
-    let bare =
-        |character| format!("'{character}' can't stand in a bare text: write the text in quotes");
-    wrong("L 0 0 1 S\"0", 10, &bare("\""));
-    wrong("L 0 0 1 S0\\", 11, &bare("\\"));
-    wrong("L 0 0 1 S\u{E9}", 10, &bare("\u{E9}"));
-    wrong("L 0 0 1 S\x7F", 10, &bare("\\u{7f}"));
-    wrong(b"L 0 0 1 S\xFF", 10, &bare("\u{FFFD}"));
+}
+
+/// A bare text is a formula, so that its slips are told with their places.
+#[test]
+fn wrong_formulas() {
+    let no_formula = |wrong| format!("no formula: {wrong} (in quotes any text may stand)");
+    let operand = no_formula("a key, '!' or '(' should stand there");
+    let operator = no_formula("'&' or '|' should stand there");
+    wrong("L 0 0 1 S0&&S1", 12, &operand);
+    wrong("L 0 0 1 u0", 9, &operand);
+    wrong("L 0 0 1 'S0&S1'", 9, &operand);
+    wrong("L 0 0 1 S0S1", 11, &operator);
+    wrong("L 0 0 1 S0\"", 11, &operator);
+    wrong("L 0 0 1 S0\u{E9}", 11, &operator);
+    wrong(b"L 0 0 1 S0\xFF", 11, &operator);
+    let end = no_formula("a key, '!' or '(' is missing there");
+    wrong("L 0 0 1 S0& -> ok 1", 12, &end);
+    let zero = no_formula("a key's number has no leading zero");
+    wrong("L 0 0 1 U0|D01", 12, &zero);
+    let bracket = no_formula("a bracket isn't closed there");
+    wrong("L 0 0 1 (S0|S1", 15, &bracket);
+    let arrow = "a blank is missing before '->'";
+    wrong("L 0 0 1 S0&S1-> ok 2", 14, arrow);
+    wrong("L 0 0 1 S0&S1->ok", 14, arrow);
 }
 
 #[test]
@@ -334,7 +353,7 @@ fn a_full_journal() {
     assert_eq!(text.journal.as_bytes().len(), 65_535);
     assert_eq!(text.lines.len(), 7_280);
     // One byte more is too much. It is told once, and later mistakes still are.
-    let more = "U\n".repeat(7_279) + "  L 0 0 1 U0|U0|U00\nU\nU\nZ\n";
+    let more = "U\n".repeat(7_279) + "  L 0 0 1 U0|U0|U10\nU\nU\nZ\n";
     let full = "the journal is full here: 7,279 calls, and 65,535 bytes are the most (10)";
     let right = [
         (7_280, 3, full.to_string()),
@@ -371,7 +390,7 @@ A 0 2 4        # 15: thread 0 writes segment 2
 }
 
 #[test]
-fn lock_texts_are_quoted_where_they_must_be() {
+fn what_is_no_formula_is_quoted() {
     let line = |text| {
         text::call(&rotundaaloe::Record {
             letter: b'L',
@@ -382,8 +401,8 @@ fn lock_texts_are_quoted_where_they_must_be() {
         })
     };
     assert_eq!(line(b"!(S0|D1)"), "L 1 0 65535 !(S0|D1)");
-    assert_eq!(line(b"a->b"), "L 1 0 65535 a->b");
-    assert_eq!(line(b"->b"), "L 1 0 65535 \"->b\"");
+    assert_eq!(line(b"S0&"), "L 1 0 65535 \"S0&\"");
+    assert_eq!(line(b"S0->S1"), "L 1 0 65535 \"S0->S1\"");
     assert_eq!(line(b"a b"), "L 1 0 65535 \"a b\"");
     assert_eq!(line(b"a#"), "L 1 0 65535 \"a#\"");
     assert_eq!(line(b"\"\\"), r#"L 1 0 65535 "\"\\""#);
@@ -395,7 +414,7 @@ fn lock_texts_are_quoted_where_they_must_be() {
 
 #[test]
 fn long_calls_leave_the_column_alone() {
-    let long = "x".repeat(60);
+    let long = "!".repeat(58) + "D0";
     let journal = read(format!("U\nL 0 2 4 {long}\n").as_bytes()).journal;
     let right = format!("U  # 0: a new user\nL 0 2 4 {long}  # 1: user 0 locks segment 2: write\n");
     assert_eq!(text::disassemble(&journal), right);

@@ -5,10 +5,14 @@ use crate::raw;
 use crate::refusal::{self, Refusal};
 use std::fmt;
 
+/// What a journal begins with.
+pub const MARK: &[u8; 3] = b"KLD";
+/// The bytes before the first record: the mark, the version and the count.
+pub const HEAD_BYTES: usize = 7;
 /// The most bytes of a journal.
 pub const MAX_BYTES: usize = 65_535;
-/// The bytes before the first record.
-const HEAD_BYTES: usize = 7;
+/// The most bytes of an L's text.
+pub const MAX_TEXT_BYTES: usize = 96;
 
 /// A call as a journal records it: its letter, fields and text. Fields that the
 /// letter doesn't name are 0, and only L has a text.

@@ -41,28 +41,30 @@ Example:
 
 const ASM: &str = r#"Usage: keylock asm [FILE] [-o OUT]
 
-Makes the journal of a text journal. All mistakes of the text are told with
-their line and column; where there are any, nothing is written.
+Makes the journal of a text journal. Mistakes of the text are told with their
+line and column, one a line, up to 20; where there are any, nothing is written.
 
 A text journal has one call a line: its letter, the fields that it names, for L
-the lock's text, and if you like the answer that 'keylock run' has to expect.
+the formula, and if you like the answer that 'keylock run' has to expect.
 
   # a comment runs to the end of the line
-  U                          a new user
-  S USER                     start a thread
-  E THREAD                   end it
-  N USER KIND                a new segment: 0 code, 1 sheet
-  K USER                     a new key
-  G USER SEGMENT KEY         give the key to the segment
-  T USER SEGMENT KEY         take it
-  L USER SEGMENT OPS TEXT    lock: 1 execute, 2 read, 4 write, and 8 to deny
-  D USER LOCK                drop the lock
-  C THREAD SEGMENT           call
-  R THREAD                   return
-  A THREAD SEGMENT OP        access: 2 read, 4 write
-  A 0 2 4 -> no 15 0         expects a refusal; '-> ok 2' an answer
+  U                           a new user
+  S USER                      start a thread
+  E THREAD                    end it
+  N USER KIND                 a new segment: 0 code, 1 sheet
+  K USER                      a new key
+  G USER SEGMENT KEY          give the key to the segment
+  T USER SEGMENT KEY          take it
+  L USER SEGMENT OPS FORMULA  lock: 1 execute, 2 read, 4 write, and 8 to deny
+  D USER LOCK                 drop the lock
+  C THREAD SEGMENT            call
+  R THREAD                    return
+  A THREAD SEGMENT OP         access: 2 read, 4 write
+  A 0 2 4 -> no 15 0          expects a refusal; '-> ok 2' an answer
 
-A lock's text is bare, S0&S1, or in quotes, "S0 & \x00", with \" \\ and \xHH.
+A formula has keys, U0 R0 S0 D0, with ! & | and brackets, and no blanks. In
+quotes any text may stand, with \" \\ and \xHH; the guard refuses what is no
+formula.
 
 Options:
   -o, --output OUT  write to this file; '-' and none is standard output

@@ -7,6 +7,7 @@ use keylock::progress::Progress;
 use keylock::shown::escaped;
 use keylock::text::{self, Mistake, Text};
 use rotundaaloe::Journal;
+use rotundaaloe::journal::MARK;
 use std::ffi::OsString;
 use std::fmt;
 use std::fs::File;
@@ -16,8 +17,6 @@ use std::path::PathBuf;
 /// The most bytes that are read: enough for a full journal with a thousand bytes
 /// of comment on each call, and an end for inputs that have none.
 const MOST_BYTES: usize = 8 << 20;
-/// What journals begin with, and text journals never.
-const MARK: &[u8] = b"KLD";
 
 pub enum Source {
     StandardInput,

@@ -1,8 +1,7 @@
 //! Why a call is refused, in a sentence or two about what stands.
 
-use super::spelling;
 use super::{Judgement, State, shown_keys};
-use crate::{shown, words};
+use crate::{shown, spelling, words};
 use rotundaaloe::formula;
 use rotundaaloe::{Record, Refusal};
 

@@ -15,8 +15,3 @@ pub fn shown(word: &[u8]) -> String {
     let more = if start.len() < text.len() { "..." } else { "" };
     format!("'{}{more}'", escaped(&start))
 }
-
-/// A byte that a bare text may have.
-pub fn is_bare(byte: u8) -> bool {
-    byte.is_ascii_graphic() && !matches!(byte, b'#' | b'"' | b'\\')
-}

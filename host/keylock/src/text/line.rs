@@ -1,12 +1,12 @@
 //! One line of a text journal.
 
-use super::bytes::{is_bare, shown};
+use super::bytes::shown;
 use crate::answer::Answer;
 use crate::letters::{self, Field, LETTERS};
+use crate::spelling;
 use rotundaaloe::Record;
+use rotundaaloe::journal::MAX_TEXT_BYTES;
 
-/// The most bytes of a lock's text.
-const MAX_TEXT_BYTES: usize = 96;
 const ARROW: &[u8] = b"->";
 
 /// What is wrong, and at which byte of the line.
@@ -203,8 +203,7 @@ impl<'a> Scanner<'a> {
             return fault(self.end, "L needs a text here, bare or in quotes");
         };
         if word.bytes.starts_with(ARROW) {
-            let message = "L needs a text here; one that begins with '->' stands in quotes";
-            return fault(word.at, message);
+            return fault(self.end, "L needs a text here, bare or in quotes");
         }
         let text = match word.bytes[0] {
             b'"' => self.quoted()?,
@@ -219,13 +218,13 @@ impl<'a> Scanner<'a> {
         }
     }
 
+    /// A bare text is a formula, so that a slip is told here.
     fn bare(&mut self, word: &Word) -> Result<Vec<u8>, Fault> {
-        let odd = word.bytes.iter().position(|byte| !is_bare(*byte));
-        if let Some(place) = odd {
-            let piece = String::from_utf8_lossy(&word.bytes[place..]);
-            let odd: String = piece.chars().take(1).collect();
-            let odd = shown(odd.as_bytes());
-            let message = format!("{odd} can't stand in a bare text: write the text in quotes");
+        if let Some((place, wrong)) = spelling::fault(word.bytes) {
+            let message = match word.bytes[place..].starts_with(ARROW) {
+                true => "a blank is missing before '->'".to_string(),
+                false => format!("no formula: {wrong} (in quotes any text may stand)"),
+            };
             return fault(word.at + place, message);
         }
         self.advance(word.bytes.len());
@@ -328,7 +327,7 @@ const ANSWERS: &str = "an expected answer is 'ok N' or 'no N M'";
 fn too_many(letter: u8, named: usize) -> String {
     let name = char::from(letter);
     match (letter, named) {
-        (b'L', _) => "L takes no more than its text: one with blanks stands in quotes".to_string(),
+        (b'L', _) => "L takes no more than its text, and a formula has no blanks".to_string(),
         (_, 0) => format!("{name} takes no more than its letter"),
         (_, 1) => format!("{name} takes no more than one field"),
         (_, 2) => format!("{name} takes no more than two fields"),

@@ -1,7 +1,6 @@
 //! Text journals from journals.
 
-use super::bytes::is_bare;
-use crate::words;
+use crate::{spelling, words};
 use rotundaaloe::{Journal, Record};
 use std::fmt::Write;
 
@@ -34,14 +33,14 @@ pub fn call(record: &Record) -> String {
     }
     if record.letter == b'L' {
         line.push(' ');
-        line += &lock_text(record.text);
+        line += &formula_text(record.text);
     }
     line
 }
 
-/// Bare if it can be.
-fn lock_text(text: &[u8]) -> String {
-    if !text.is_empty() && text.iter().all(|byte| is_bare(*byte)) && !text.starts_with(b"->") {
+/// Bare if it is a formula.
+fn formula_text(text: &[u8]) -> String {
+    if spelling::fault(text).is_none() {
         return text.iter().map(|byte| char::from(*byte)).collect();
     }
     let mut quoted = "\"".to_string();

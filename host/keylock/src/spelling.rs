@@ -1,5 +1,5 @@
-//! Where a text that the proved compiler finds misspelt leaves the grammar. The
-//! verdict is the compiler's; this only points.
+//! Where a formula text leaves the grammar. The verdict on a lock is the proved
+//! compiler's; this only points.
 
 /// The most brackets around a key.
 const MOST_BRACKETS: usize = 8;
@@ -11,6 +11,7 @@ pub fn fault(text: &[u8]) -> Option<(usize, &'static str)> {
     let mut operand_next = true;
     let mut at = 0;
     while let Some(&byte) = text.get(at) {
+        let start = at;
         let wrong = match (operand_next, byte) {
             (true, b'!') => None,
             (true, b'(') => {
@@ -23,6 +24,7 @@ pub fn fault(text: &[u8]) -> Option<(usize, &'static str)> {
                 at += digits.len();
                 number_fault(digits)
             }
+            (_, b' ') => Some("a formula has no blanks"),
             (true, _) => Some("a key, '!' or '(' should stand there"),
             (false, b'&' | b'|') => {
                 operand_next = true;
@@ -33,10 +35,11 @@ pub fn fault(text: &[u8]) -> Option<(usize, &'static str)> {
                 None
             }
             (false, b')') => Some("no bracket is open there"),
-            (false, _) => Some("'&', '|' or ')' should stand there"),
+            (false, _) if depth > 0 => Some("'&', '|' or ')' should stand there"),
+            (false, _) => Some("'&' or '|' should stand there"),
         };
         if let Some(wrong) = wrong {
-            return Some((at, wrong));
+            return Some((start, wrong));
         }
         at += 1;
     }
@@ -77,13 +80,17 @@ mod tests {
     #[test]
     fn the_place_is_named() {
         at("S0&&S1", 3, "a key, '!' or '(' should stand there");
-        at("S0 & S1", 2, "'&', '|' or ')' should stand there");
+        at("S0 & S1", 2, "a formula has no blanks");
+        at(" S0", 0, "a formula has no blanks");
+        at("S0S1", 2, "'&' or '|' should stand there");
+        at("(S0S1)", 3, "'&', '|' or ')' should stand there");
+        at("u0", 0, "a key, '!' or '(' should stand there");
         at("S0&", 3, "a key, '!' or '(' is missing there");
         at("(S0", 3, "a bracket isn't closed there");
         at("S0)", 2, "no bracket is open there");
         at("S&D0", 0, "a key's number is missing there");
-        at("!D01", 3, "a key's number has no leading zero");
-        at("D65536", 5, "a key's number is at most 65535");
+        at("!D01", 1, "a key's number has no leading zero");
+        at("D65536", 0, "a key's number is at most 65535");
         at("(((((((((D0)))))))))", 8, "brackets are at most 8 deep");
         assert_eq!(fault(b"!(D0|D1)&U3"), None);
     }
