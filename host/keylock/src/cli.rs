@@ -5,6 +5,7 @@ mod arguments;
 mod asm;
 mod colour;
 mod dis;
+mod expected;
 mod failure;
 mod help;
 mod input;
@@ -32,14 +33,23 @@ fn obey(command: Command) -> Result<Status, Failure> {
     match command {
         Command::Help(topic) => show(help::text(topic)),
         Command::Version => show(concat!("keylock ", env!("CARGO_PKG_VERSION"), "\n")),
-        Command::Asm { source, target } => asm::asm(&source, &target),
-        Command::Dis { source, target } => dis::dis(&source, &target),
+        Command::Asm { source, target } => {
+            target.must_differ_from(&source)?;
+            asm::asm(&source, &target)
+        }
+        Command::Dis { source, target } => {
+            target.must_differ_from(&source)?;
+            dis::dis(&source, &target)
+        }
         Command::Run { sources } => run::run(&sources),
         Command::Trace {
             html,
             source,
             target,
-        } => trace::trace(html, &source, &target),
+        } => {
+            target.must_differ_from(&source)?;
+            trace::trace(html, &source, &target)
+        }
     }
 }
 

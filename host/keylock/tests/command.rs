@@ -58,10 +58,26 @@ fn asm_and_dis_to_files() {
     }
     fine(&keylock(&["asm", &text, "-o", &out], b""), "");
     assert_eq!(fs::read(&out).unwrap(), ONE_USER);
-    // In place.
-    fine(&keylock(&["dis", &out, "-o", &out], b""), "");
-    assert_eq!(fs::read_to_string(&out).unwrap(), "U  # 0: a new user\n");
+    fine(&keylock(&["dis", &out, "-o", &text], b""), "");
+    assert_eq!(fs::read_to_string(&text).unwrap(), "U  # 0: a new user\n");
     assert_eq!(directory.names(), ["a.kld", "a.txt"]);
+}
+
+/// Not by its other names either.
+#[test]
+fn the_input_is_not_written_over() {
+    let directory = Directory::new("over");
+    let [text, link] = ["a.txt", "link"].map(|name| directory.file(name));
+    fs::write(&text, "U # a comment").unwrap();
+    symlink(&text, &link).unwrap();
+    for command in [&["asm"][..], &["dis"], &["trace"], &["trace", "--html"]] {
+        for [from, to] in [[&text, &text], [&text, &link], [&link, &text]] {
+            let right = format!("keylock: {to} is the input: write to another file\n");
+            let arguments = [command, &[from.as_str(), "-o", to.as_str()]].concat();
+            refused(&keylock(&arguments, b""), 2, &right);
+        }
+    }
+    assert_eq!(fs::read_to_string(&text).unwrap(), "U # a comment");
 }
 
 #[test]
@@ -154,11 +170,13 @@ fn trace_writes_a_page() {
 #[test]
 fn trace_tells_of_answers_that_are_not_expected() {
     let ran = keylock(&["trace"], b"U -> ok 0\nU -> ok 7\n");
-    let complaint = "standard input: 1 answer isn't as expected: place 1\n";
+    let complaint = "standard input:2: expected ok 7, the guard answers ok 1\n\
+                     standard input: 2 expected answers, 1 not given\n";
     assert_eq!((ran.status, ran.complaint.as_str()), (1, complaint));
     assert!(ran.printed().contains("WRONG   expected ok 7"));
     let ran = keylock(&["trace", "--html"], b"U -> ok 7\n");
-    let complaint = "standard input: 1 answer isn't as expected: place 0\n";
+    let complaint = "standard input:1: expected ok 7, the guard answers ok 0\n\
+                     standard input: 1 expected answer, not given\n";
     assert_eq!((ran.status, ran.complaint.as_str()), (1, complaint));
     assert!(
         ran.printed()
@@ -243,6 +261,8 @@ fn the_wrong_form() {
         assert!(ran.complaint.starts_with(&right), "{}", ran.complaint);
         assert_eq!((ran.printed().as_str(), ran.status), ("", 1));
     }
+    let right = format!("{neither}: line 1, column 1 is no call; it is UTF-16, save it as UTF-8\n");
+    refused(&keylock(&["asm"], b"\xFF\xFEU\0\r\0\n\0"), 1, &right);
     let endless = File::open("/dev/zero").unwrap();
     let ran = commands::run(
         Command::new(env!("CARGO_BIN_EXE_keylock"))

@@ -2,7 +2,6 @@
 
 use super::failure::{Failure, Status};
 use super::input::{self, Source};
-use super::mistakes;
 use super::output::Target;
 use std::io::{self, IsTerminal};
 
@@ -20,7 +19,7 @@ pub fn asm(source: &Source, target: &Target) -> Result<Status, Failure> {
         return Err(Failure::input(&name, message));
     }
     let text = input::parse(&bytes);
-    let text = text.map_err(|mistakes| mistakes::failure(&name, &bytes, &mistakes))?;
+    let text = text.map_err(|mistakes| input::wrong(&name, &bytes, &mistakes))?;
     target.write(text.journal.as_bytes())?;
     Ok(Status::Fine)
 }

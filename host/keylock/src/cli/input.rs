@@ -134,12 +134,16 @@ pub fn parse(bytes: &[u8]) -> Result<Text, Vec<Mistake>> {
 }
 
 /// Mistakes, where the bytes could have been either form.
-fn wrong(name: &Name, bytes: &[u8], mistakes: &[Mistake]) -> Failure {
+pub fn wrong(name: &Name, bytes: &[u8], mistakes: &[Mistake]) -> Failure {
     const NEITHER: &str = "neither a journal (16: no mark KLD) nor a text journal";
     if is_binary(bytes) {
         let Mistake { line, column, .. } = mistakes[0];
         let place = format!("line {line}, column {column} is no call");
-        return Failure::input(name, format!("{NEITHER}: {place}"));
+        let hint = match bytes.starts_with(b"\xFF\xFE") || bytes.starts_with(b"\xFE\xFF") {
+            true => "; it is UTF-16, save it as UTF-8",
+            false => "",
+        };
+        return Failure::input(name, format!("{NEITHER}: {place}{hint}"));
     }
     let mut failure = mistakes::failure(name, bytes, mistakes);
     if is_all_wrong(bytes, mistakes) {

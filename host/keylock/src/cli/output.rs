@@ -1,10 +1,11 @@
 //! Writing: all or nothing.
 
-use super::failure::Failure;
-use super::input::Name;
+use super::failure::{Failure, Status};
+use super::input::{Name, Source};
 use std::ffi::OsString;
 use std::fs::{self, File, OpenOptions, Permissions};
 use std::io::{self, ErrorKind, Write};
+use std::os::unix::fs::MetadataExt;
 use std::path::{Path, PathBuf};
 use std::process;
 
@@ -19,6 +20,26 @@ impl Target {
         match name {
             Some(name) if name != "-" => Target::File(name.into()),
             _ => Target::StandardOutput,
+        }
+    }
+
+    /// A file that is read isn't written over: a text's comments would be lost.
+    pub fn must_differ_from(&self, source: &Source) -> Result<(), Failure> {
+        let (Target::File(target), Source::File(source)) = (self, source) else {
+            return Ok(());
+        };
+        let (Ok(old), Ok(read)) = (fs::metadata(target), fs::metadata(source)) else {
+            return Ok(());
+        };
+        match old.is_file() && (old.dev(), old.ino()) == (read.dev(), read.ino()) {
+            true => Err(Failure {
+                status: Status::Use,
+                report: format!(
+                    "keylock: {} is the input: write to another file\n",
+                    Name(target.to_string_lossy().into_owned())
+                ),
+            }),
+            false => Ok(()),
         }
     }
 

@@ -1,9 +1,10 @@
 //! `keylock run`: the guard's answers, as the office program prints them.
 
 use super::colour;
+use super::expected;
 use super::failure::{Failure, Status};
 use super::input::{Input, Source};
-use super::output::{self, Target};
+use super::output::Target;
 use keylock::answer::Answer;
 use keylock::progress::Progress;
 use rotundaaloe::{Guard, Journal};
@@ -20,7 +21,7 @@ pub fn run(sources: &[Source]) -> Result<Status, Failure> {
         }
         printed += &lines(&input.journal, &answers, colour);
         Target::StandardOutput.write(printed.as_bytes())?;
-        status = status.max(compare(input, &answers));
+        status = status.max(expected::compare(input, &answers));
     }
     Ok(status)
 }
@@ -68,36 +69,4 @@ fn lines(journal: &Journal, answers: &[Answer], colour: bool) -> String {
         lines += &format!("{place} {letter} {start}{answer}{end}\n");
     }
     lines
-}
-
-/// Tells which expected answers aren't given.
-fn compare(input: &Input, answers: &[Answer]) -> Status {
-    let Input { name, text, .. } = input;
-    let Some(text) = text else {
-        return Status::Fine;
-    };
-    let mut report = String::new();
-    let mut missed = 0;
-    for (line, answer) in text.lines.iter().zip(answers) {
-        if let Some(expected) = line.expected
-            && expected != *answer
-        {
-            missed += 1;
-            let number = line.number;
-            report +=
-                &format!("{name}:{number}: expected {expected}, the guard answers {answer}\n");
-        }
-    }
-    let summary = match (text.expected(), missed) {
-        (0, _) => return Status::Fine,
-        (1, 0) => "1 expected answer, given".to_string(),
-        (all, 0) => format!("{all} expected answers, all given"),
-        (1, _) => "1 expected answer, not given".to_string(),
-        (all, missed) => format!("{all} expected answers, {missed} not given"),
-    };
-    output::complain(&format!("{report}{name}: {summary}\n"));
-    match missed {
-        0 => Status::Fine,
-        _ => Status::Input,
-    }
 }

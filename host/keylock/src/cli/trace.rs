@@ -1,9 +1,12 @@
 //! `keylock trace`: a journal explained step by step.
 
 use super::colour;
+use super::expected;
 use super::failure::{Failure, Status};
 use super::input::{Input, Source};
-use super::output::{self, Target};
+use super::output::Target;
+use keylock::answer::Answer;
+use keylock::figures::counted;
 use keylock::progress::Progress;
 use keylock::steps::{self, Entry, Step};
 use keylock::{page, trace};
@@ -22,14 +25,19 @@ pub fn trace(html: bool, source: &Source, target: &Target) -> Result<Status, Fai
     };
     written.expect("a vector takes everything");
     target.write(&shown)?;
-    let troubles = steps::troubles(&steps);
-    for trouble in &troubles {
-        output::complain(&format!("{}: {trouble}\n", input.name));
+    let answers: Vec<Answer> = steps.iter().map(Step::given).collect();
+    let status = expected::compare(&input, &answers);
+    let differing = steps.iter().filter(|step| step.disagreement.is_some());
+    match differing.count() {
+        0 => Ok(status),
+        count => Err(Failure::input(
+            &input.name,
+            format!(
+                "{} and the guard differ: keylock is wrong",
+                counted(count, "explanation")
+            ),
+        )),
     }
-    Ok(match troubles.is_empty() {
-        true => Status::Fine,
-        false => Status::Input,
-    })
 }
 
 fn explained(input: &Input) -> Vec<Step<'_>> {
