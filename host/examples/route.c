@@ -18,45 +18,48 @@ static struct rotundaaloe_state state;
 static uint8_t journal[65535];
 static size_t journal_length;
 
+/* After the guard was asked: a journal that is full must not keep a host from asking. */
 static void record(char letter, uint16_t a, uint16_t b, uint16_t c, const char *text)
 {
     uint32_t refusal =
         rotundaaloe_journal_append(journal, sizeof journal, &journal_length, (uint8_t)letter, a, b,
                                    c, (const uint8_t *)text, strlen(text));
-    if (refusal != 0) {
+    if (refusal != 0)
         fprintf(stderr, "%c is not in the journal: refusal %u\n", letter, (unsigned)refusal);
-        exit(EXIT_FAILURE);
-    }
 }
 
 /* Any call, by its letter. */
 static uint32_t ask(char letter, uint16_t a, uint16_t b, uint16_t c, const char *text)
 {
+    uint32_t answer = rotundaaloe_call(state.registry, state.makers, state.segments, state.locks,
+                                       state.threads, (uint8_t)letter, a, b, c,
+                                       (const uint8_t *)text, strlen(text));
     record(letter, a, b, c, text);
-    return rotundaaloe_call(state.registry, state.makers, state.segments, state.locks,
-                            state.threads, (uint8_t)letter, a, b, c, (const uint8_t *)text,
-                            strlen(text));
+    return answer;
 }
 
 /* C, R and A have functions of their own, since a host asks them on every call and access. */
 static uint32_t call(uint16_t thread, uint16_t segment)
 {
+    uint32_t answer = rotundaaloe_call_segment(state.registry, state.segments, state.locks,
+                                               state.threads, thread, segment);
     record('C', thread, segment, 0, "");
-    return rotundaaloe_call_segment(state.registry, state.segments, state.locks, state.threads,
-                                    thread, segment);
+    return answer;
 }
 
 static uint32_t leave(uint16_t thread)
 {
+    uint32_t answer = rotundaaloe_return_call(state.threads, thread);
     record('R', thread, 0, 0, "");
-    return rotundaaloe_return_call(state.threads, thread);
+    return answer;
 }
 
 static uint32_t save(uint16_t thread, uint16_t sheet)
 {
+    uint32_t answer = rotundaaloe_access(state.registry, state.segments, state.locks,
+                                         state.threads, thread, sheet, ROTUNDAALOE_WRITE);
     record('A', thread, sheet, ROTUNDAALOE_WRITE, "");
-    return rotundaaloe_access(state.registry, state.segments, state.locks, state.threads, thread,
-                              sheet, ROTUNDAALOE_WRITE);
+    return answer;
 }
 
 /* An answer below 65536 accepts; any other is refusal * 65536 + second number. */

@@ -2,8 +2,8 @@
  * The proved guard for C: link target/staticlib/libabi.a, which `rt staticlib abi` makes.
  * A pointer must be valid for the length that goes with it, or for the array that is declared, and
  * never NULL, even with a length of 0. What is written to must overlap nothing else that is passed.
- * No pointer is kept. Arrays of arrays have no const where they are only read, since C before C23
- * lets nobody pass them so; what is only read says so.
+ * No pointer is kept. Arrays of arrays have no const, since C before C23 lets nobody pass them so;
+ * the comment of each function says what it writes to.
  */
 #ifndef ROTUNDAALOE_H
 #define ROTUNDAALOE_H
@@ -66,7 +66,7 @@ uint32_t rotundaaloe_compile(const uint8_t *text, size_t length, uint32_t users,
 
 /*
  * Whether a key set opens one of the first count products in the rows: each plain key of
- * the product is in the set, and no barred one is.
+ * the product is in the set, and no barred one is. Nothing is written to.
  *
  * keys are the numbers of the set's keys, in any order; a key's number is
  * kind * 65536 + number.
@@ -153,7 +153,7 @@ void rotundaaloe_empty(uint32_t registry[8], uint16_t makers[1024], uint16_t seg
                        uint32_t locks[64][8][8], uint16_t threads[64][17][8]);
 
 /*
- * One of the twelve calls, by its letter. An unknown letter, a field that is not 0 where its call
+ * One of the twelve calls, by its letter, which may write to each array. An unknown letter, a field that is not 0 where its call
  * has none, or a text where the letter is not L is refusal 18, before all else.
  *
  * Answer: that of the call, as above.
@@ -172,7 +172,7 @@ uint32_t rotundaaloe_call_segment(const uint32_t registry[8], uint16_t segments[
                                   uint16_t a, uint16_t b);
 
 /*
- * R (return), without the entry: thread a leaves its newest open call.
+ * R (return), without the entry: thread a leaves its newest open call. threads is written to.
  *
  * Answer: the segment that is left, or a refusal, as above.
  */

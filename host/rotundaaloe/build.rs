@@ -1,6 +1,6 @@
 //! Links the proved guard's static library, `libabi.a`. It stands in
 //! `target/staticlib` at the top of the repository, where `rt staticlib abi`
-//! puts it, unless `ROTUNDAALOE_LIB_DIR` names another directory.
+//! puts it, unless `ROTUNDAALOE_LIB_DIR` names another directory, an absolute one.
 
 use std::env;
 use std::path::PathBuf;
@@ -17,7 +17,7 @@ fn main() {
     if !library.exists() {
         println!(
             "cargo::error={} is missing: run `rt staticlib abi` at the top of the repository, \
-             or set {DIRECTORY_VARIABLE}",
+             or set {DIRECTORY_VARIABLE} to an absolute directory",
             library.display()
         );
     }

@@ -7,6 +7,7 @@ use reference::journal::{Record, write};
 use reference::random::Random;
 use reference::{Key as ReferenceKey, Kind as ReferenceKind};
 use rotundaaloe::formula::{Issued, Key, Literal, compile};
+use rotundaaloe::raw::Cells;
 use rotundaaloe::{
     Access, Defined, Guard, Journal, Kind, Lock, Operations, Refusal, Segment, Thread, User,
 };
@@ -112,7 +113,7 @@ fn a_kept_state_goes_on() {
     let sheet = guard.new_segment(user, Kind::Sheet).expect("the first");
     let lock = guard.add_lock(user, sheet, Operations::READ, "U0");
     let thread = guard.start_thread(user).expect("the first");
-    let kept = Guard::from_cells(Box::new(guard.cells().clone()));
+    let kept = Guard::from_cells(Cells::from_bytes(guard.cells().bytes()));
     assert!(kept == guard);
     assert_eq!(kept.access(thread, sheet, Access::Read).ok(), lock.ok());
 }

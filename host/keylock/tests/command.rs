@@ -304,6 +304,31 @@ fn help_and_version() {
     }
 }
 
+/// The refusals in `keylock run --help` are those of document 01's table.
+#[test]
+fn the_help_names_the_refusals() {
+    let help = keylock(&["run", "--help"], b"").printed();
+    for refusal in [
+        "1 stranger",
+        "2 no run",
+        "3 no segment",
+        "4 no key",
+        "5 no lock",
+        "6 not yours",
+        "7 unfit",
+        "8 already in",
+        "9 not there",
+        "10 full",
+        "11 misspelt",
+        "12 too wide",
+        "13 void",
+        "14 barred",
+        "15 no way in",
+    ] {
+        assert!(help.contains(&format!(" {refusal}")), "{refusal}");
+    }
+}
+
 /// The calls in `keylock asm --help` have the fields that they need.
 #[test]
 fn the_help_is_right() {

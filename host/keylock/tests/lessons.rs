@@ -134,7 +134,10 @@ fn the_sixth_lesson_shows_all_five() {
             .enumerate()
             .filter_map(|(place, line)| {
                 let comment = line.comment.as_deref()?;
-                Some((place, comment.strip_prefix(&format!("fault {number}: "))?))
+                Some((
+                    place,
+                    comment.strip_prefix(&format!("a guard with fault {number} answers "))?,
+                ))
             })
             .collect();
         let given = faulty(&text, Some(fault));

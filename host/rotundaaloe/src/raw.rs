@@ -25,16 +25,28 @@ impl Cells {
         threads: [[[0; 8]; 17]; 64],
     };
 
-    /// All cells as bytes, to be compared at once.
-    pub fn bytes(&self) -> &[u8] {
+    /// The bytes of all cells.
+    pub const SIZE: usize = 4 * 8 + 2 * 1_024 + 64 * (2 * 16 + 8 * 32 + 17 * 16);
+
+    /// All cells as they are in memory, to be kept or compared at once.
+    pub fn bytes(&self) -> &[u8; Cells::SIZE] {
         // SAFETY: the cells are numbers without padding between them, and
         // borrowed for as long as the bytes are.
-        unsafe { std::slice::from_raw_parts((&raw const *self).cast(), size_of::<Cells>()) }
+        unsafe { &*(&raw const *self).cast() }
+    }
+
+    /// The cells of bytes that were kept.
+    pub fn from_bytes(bytes: &[u8; Cells::SIZE]) -> Box<Cells> {
+        let mut cells = Box::new(Cells::EMPTY);
+        // SAFETY: the cells are numbers without padding between them, so that
+        // any bytes are some of them, and as many bytes are copied.
+        unsafe { *(&raw mut *cells).cast() = *bytes };
+        cells
     }
 }
 
 // No byte of it is padding.
-const _: () = assert!(size_of::<Cells>() == 4 * 8 + 2 * 1_024 + 64 * (2 * 16 + 8 * 32 + 17 * 16));
+const _: () = assert!(size_of::<Cells>() == Cells::SIZE);
 
 impl PartialEq for Cells {
     fn eq(&self, other: &Cells) -> bool {

@@ -108,6 +108,13 @@ guard's answers as the office program does: place, letter, and 'ok N' or
 Answers that a text expects are compared: those that aren't given are told on
 standard error, and so is how many there were.
 
+Refusals, the first number after 'no'; the second is the lock with 14, else 0:
+   1 stranger     5 no lock      9 not there   13 void
+   2 no run       6 not yours   10 full        14 barred
+   3 no segment   7 unfit       11 misspelt    15 no way in
+   4 no key       8 already in  12 too wide
+'keylock trace' says why.
+
 Options:
   -h, --help     show this
   -V, --version  show the version

@@ -32,7 +32,7 @@ fn main() -> io::Result<()> {
             row.keep_least(again);
         }
     }
-    report::print(&rows, &java);
+    report::print(&rows, JAVA_RUNS + 1, &java);
     let java = java.unwrap_or_default();
     points::write_to_argument(&report::points(&rows, &java))
 }

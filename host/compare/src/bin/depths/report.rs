@@ -55,12 +55,12 @@ fn java_cell(number: Option<f64>, decimals: usize) -> String {
     number.map_or("-".to_string(), |number| format!("{number:.decimals$}"))
 }
 
-pub fn print(rows: &[Row], java: &Result<java::Times, String>) {
+pub fn print(rows: &[Row], passes: usize, java: &Result<java::Times, String>) {
     println!(
         "A thread with as many open calls writes to a sheet with one lock, which asks for two D \
          keys; the open call that is named has handed both over. Nanoseconds of one A by its own \
          function, the same over and over: the least mean of {ROUNDS} alternating rounds in each \
-         of three passes. There is no limit.\n"
+         of {passes} passes. There is no limit.\n"
     );
     match java {
         Ok(java) => println!(
