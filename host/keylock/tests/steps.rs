@@ -172,7 +172,8 @@ fn an_open_call_keeps_a_key_that_was_taken() {
     let steps = explained(calls);
     assert_eq!(
         steps[7].reason,
-        "New calls of segment 0 don't hand over D0. Open ones that did keep it until they return."
+        "New calls of segment 0 don't hand over D0. \
+         Open ones that handed it over keep it until they return."
     );
     let list = &steps[7].segment.as_ref().expect("a segment").keys;
     assert_eq!(shown_keys(list), "S0");
@@ -198,7 +199,7 @@ fn a_key_given_again() {
     assert_eq!(steps[5].reason, given);
     assert_eq!(steps[8].reason, given);
     let taken = "New calls of segment 0 don't hand over D0.";
-    let keep = " Open ones that did keep it until they return.";
+    let keep = " Open ones that handed it over keep it until they return.";
     assert_eq!(steps[7].reason, format!("{taken}{keep}"));
     assert_eq!(keys(&steps[6]), "U0 R0 S0 D0");
     assert_eq!(keys(&steps[10]), "U0 R0 S0 D0");

@@ -66,7 +66,7 @@ fn taken(state: &State, segment: u16, number: u16) -> String {
         calls.any(|call| call.segment == segment && call.list.contains(&key))
     });
     let keep = match kept {
-        true => " Open ones that did keep it until they return.",
+        true => " Open ones that handed it over keep it until they return.",
         false => "",
     };
     format!("New calls of segment {segment} don't hand over D{number}.{keep}")
