@@ -1,8 +1,7 @@
 //! The steps as text for a terminal.
 
 use crate::steps::{
-    Change, Judgement, Literal, Lock, OpenCall, Product, Segment, Step, Thread, Tried, shown_keys,
-    troubles,
+    Change, Judgement, Lock, OpenCall, Product, Segment, Step, Thread, Tried, shown_keys, troubles,
 };
 use crate::{shown, words};
 use std::io::{self, Write};
@@ -132,7 +131,12 @@ impl<W: Write> Trace<'_, W> {
 
     fn judgement(&mut self, judgement: &Judgement) -> io::Result<()> {
         if judgement.locks.is_empty() {
-            self.line("locks", Look::Plain, "none for this operation")?;
+            return self.line("locks", Look::Plain, "none for this operation");
+        }
+        if judgement.operation == 1 {
+            let keys = shown_keys(&judgement.keys);
+            let text = format!("with the keys before the call: {keys}");
+            self.line("tried", Look::Plain, &text)?;
         }
         for tried in &judgement.locks {
             let decides = judgement.decided == Some(tried.lock.number);
@@ -239,7 +243,8 @@ fn lock(lock: &Lock) -> String {
 
 /// `S0 & S1: shut. S0 is missing: no open call hands it over`
 fn product_line(product: &Product) -> String {
-    let literals: Vec<String> = product.literals.iter().map(shown_literal).collect();
+    let literals = product.literals.iter();
+    let literals: Vec<String> = literals.map(|tried| tried.literal.to_string()).collect();
     let literals = literals.join(" & ");
     if product.opens {
         let sources = product.sources();
@@ -249,8 +254,4 @@ fn product_line(product: &Product) -> String {
         };
     }
     format!("{literals}: shut. {}", product.against().join("; "))
-}
-
-fn shown_literal(literal: &Literal) -> String {
-    literal.literal.to_string()
 }

@@ -39,7 +39,7 @@ fn check_nesting(page: &str) {
         assert!(tag.matches('"').count().is_multiple_of(2), "{tag}");
         let name = tag.split(' ').next().expect("a name");
         match name {
-            "meta" | "br" => {}
+            "meta" | "br" | "wbr" => {}
             "style" | "script" => {
                 let close = format!("</{name}>");
                 let length = rest.find(&close).expect("its end");
@@ -83,7 +83,7 @@ fn the_refused_save_says_what_is_missing() {
         "<span class=\"lit off\"><code>S0</code>missing</span>",
         "<span class=\"lit\"><code>S1</code>held</span>",
         "S0 is missing: no call of segment 0 is open",
-        "<b>Lock 2 stays shut.</b> It grants write if <code>S0&amp;S1</code>",
+        "<b>Lock 2 stays shut.</b> It grants write if <code>S0&amp;<wbr>S1</code>",
         "<li><b>segment 1</b>",
     ] {
         assert!(refused.contains(part), "{part}\n{refused}");
@@ -93,6 +93,62 @@ fn the_refused_save_says_what_is_missing() {
     assert!(granted.contains("S0 from segment 0, S1 from segment 1"));
     let left = section(&page, 14);
     assert!(left.contains("<li class=\"left\"><b>segment 1</b>"));
+}
+
+/// Both calls handed over S0, and only the second D0.
+#[test]
+fn a_key_that_stays_held_is_not_struck_out() {
+    let calls = "U; N 0 0; K 0; L 0 0 1 U0; S 0; C 0 0; G 0 0 0; C 0 0; R 0; E 0";
+    let page = page(&[], &explained(calls));
+    check_nesting(&page);
+    let left = "<li class=\"left\"><b>segment 0</b><div class=\"keys\">\
+         <code class=\"gone\">D0</code><code>S0</code><i>still held</i></div>";
+    assert!(section(&page, 8).contains(left), "{}", section(&page, 8));
+    let closed = "<div class=\"keys\"><code class=\"gone\">S0</code></div>";
+    assert!(section(&page, 9).contains(closed), "{}", section(&page, 9));
+    assert_eq!(page.matches("still held").count(), 1);
+}
+
+#[test]
+fn a_granted_call_names_the_keys_before_it() {
+    let page = page(&[], &explained("U; N 0 0; S 0; C 0 0; L 0 0 1 !S0; C 0 0"));
+    let granted = section(&page, 5);
+    for part in [
+        "Lock 0 opened: thread 0 didn&#39;t hold S0.",
+        "Tried with the keys before the call: <code>U0 R0</code>",
+    ] {
+        assert!(granted.contains(part), "{part}\n{granted}");
+    }
+    assert!(
+        !section(&page, 3).contains("Tried with"),
+        "there is no lock"
+    );
+}
+
+/// A line may break after an operator of a formula, and not inside a key.
+#[test]
+fn formulas_break_after_operators() {
+    let page = page(&[], &explained("U; N 0 1; K 0; L 0 0 2 U0|!(D0&U0)"));
+    let formula = "<code>U0|<wbr>!(D0&amp;<wbr>U0)</code>";
+    let step = section(&page, 3);
+    assert_eq!(step.matches(formula).count(), 2, "{step}");
+    assert!(step.contains("<code>L 0 0 2 U0|<wbr>!(D0&amp;<wbr>U0)</code>"));
+}
+
+/// Texts of any language stay. What is invisible or turns the line round doesn't.
+#[test]
+fn odd_characters_are_shown_by_number() {
+    let plain =
+        "\u{9375}\u{3000}\u{5e33} e\u{301} 5\u{a0}km \u{939}\u{93f}\u{928}\u{94d}\u{926}\u{940}";
+    let mut entries = lesson::entries("U; U; S 0");
+    entries[0].note = Some("a\u{202e}b\u{200b}c\u{feff}d\u{2028}e\tf".to_string());
+    entries[1].note = Some(plain.to_string());
+    let page = page(&["\u{2066}x\u{9b}".to_string()], &steps::explain(entries));
+    let odd = "<p class=\"note\">a\\u{202e}b\\u{200b}c\\u{feff}d\\u{2028}e\\tf</p>";
+    assert!(page.contains(odd), "{}", section(&page, 0));
+    assert!(section(&page, 1).contains(&format!("<p class=\"note\">{plain}</p>")));
+    assert!(page.contains("<p>\\u{2066}x\\u{9b}</p>"));
+    assert!(section(&page, 2).contains("User\u{a0}0 starts a thread</h2>"));
 }
 
 #[test]
@@ -119,8 +175,8 @@ fn texts_are_escaped() {
     assert_eq!(page.matches("<script>").count(), 2);
     assert_eq!(page.matches("<section ").count(), 5);
     assert!(section(&page, 2).contains("&lt;script&gt;alert(1)&lt;/script&gt;"));
-    assert!(section(&page, 3).contains("&quot;&#39;&amp;\\x00\\x7F\\xFF\\x0A"));
-    assert!(page.contains("&lt;/p&gt;&lt;script&gt;\\x01"));
+    assert!(section(&page, 3).contains("&quot;&#39;&amp;<wbr>\\x00\\x7F\\xFF\\x0A"));
+    assert!(page.contains("&lt;/p&gt;&lt;script&gt;\\u{1}"));
 }
 
 #[test]

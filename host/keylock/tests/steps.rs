@@ -170,8 +170,11 @@ fn a_dropped_lock() {
 fn an_open_call_keeps_a_key_that_was_taken() {
     let calls = "U; N 0 0; K 0; G 0 0 0; L 0 0 1 U0; S 0; C 0 0; T 0 0 0; R 0; C 0 0; E 0";
     let steps = explained(calls);
-    let keeps = "Calls that are open keep it until they return.";
-    assert!(steps[7].reason.ends_with(keeps));
+    assert_eq!(
+        steps[7].reason,
+        "New calls of segment 0 don't hand over D0. \
+         Open ones that handed it over keep it until they return."
+    );
     let list = &steps[7].segment.as_ref().expect("a segment").keys;
     assert_eq!(shown_keys(list), "S0");
     match &steps[8].thread.as_ref().expect("a thread").change {
@@ -183,6 +186,92 @@ fn an_open_call_keeps_a_key_that_was_taken() {
         Change::Ended(calls) => assert_eq!(calls.len(), 1),
         other => panic!("{other:?}"),
     }
+}
+
+/// A given key reaches new calls only. One that was open before the key was
+/// taken has it still.
+#[test]
+fn a_key_given_again() {
+    let calls = "U; N 0 0; K 0; L 0 0 1 U0; S 0; G 0 0 0; C 0 0; T 0 0 0; G 0 0 0; T 0 0 0; C 0 0";
+    let steps = explained(calls);
+    let given =
+        "New calls of segment 0 hand over D0. Open ones keep the keys that they handed over.";
+    assert_eq!(steps[5].reason, given);
+    assert_eq!(steps[8].reason, given);
+    let taken = "New calls of segment 0 don't hand over D0.";
+    let keep = " Open ones that handed it over keep it until they return.";
+    assert_eq!(steps[7].reason, format!("{taken}{keep}"));
+    assert_eq!(keys(&steps[6]), "U0 R0 S0 D0");
+    assert_eq!(keys(&steps[10]), "U0 R0 S0 D0");
+}
+
+#[test]
+fn a_key_that_no_open_call_has_is_taken() {
+    let calls = "U; N 0 0; K 0; L 0 0 1 U0; S 0; C 0 0; G 0 0 0; T 0 0 0";
+    let taken = "New calls of segment 0 don't hand over D0.";
+    assert_eq!(explained(calls)[7].reason, taken);
+}
+
+#[test]
+fn a_sheet_hands_over_nothing() {
+    let steps = explained("U; N 0 1; K 0; G 0 0 0; T 0 0 0");
+    let nobody = "A sheet isn't called, so nobody gets D0 from it.";
+    assert_eq!(steps[3].reason, nobody);
+    assert_eq!(steps[4].reason, nobody);
+    let made = "Only user 0 can give D0, and only to segments of his own.";
+    assert_eq!(steps[2].reason, made);
+}
+
+/// The call hands over S0, which the lock bars.
+#[test]
+fn a_granted_call_is_told_with_the_keys_before_it() {
+    let steps = explained("U; N 0 0; L 0 0 1 !S0; S 0; C 0 0; C 0 0");
+    let opened = "Lock 0 opened: thread 0 didn't hold S0.";
+    assert_eq!(steps[4].reason, opened);
+    assert_eq!(keys(&steps[4]), "U0 R0 S0");
+    assert_eq!(steps[5].given().to_string(), "no 15 0");
+    let steps = explained("U; N 0 0; L 0 0 1 U0&!S0; S 0; C 0 0");
+    let opened = "Lock 0 opened: thread 0 held U0 but not S0.";
+    assert_eq!(steps[4].reason, opened);
+    let mut out = Vec::new();
+    trace::write(&[], &steps, false, &mut out).expect("a vector takes it");
+    let out = String::from_utf8(out).expect("text");
+    let shown = "   tried   with the keys before the call: U0 R0\n   lock    0 grants";
+    assert!(out.contains(shown), "{out}");
+}
+
+#[test]
+fn keys_given_back_and_keys_that_stay() {
+    let calls = "U; N 0 0; N 0 0; K 0; K 0; G 0 0 1; G 0 0 0; G 0 1 1; L 0 0 1 U0; L 0 1 1 U0; \
+         S 0; C 0 0; C 0 0; R 0; T 0 0 0; C 0 1; R 0; C 0 0; R 0; R 0; E 0";
+    let steps = explained(calls);
+    let reasons = [13, 16, 18, 19, 20].map(|place| steps[place].reason.as_str());
+    assert_eq!(
+        reasons,
+        [
+            "S0, D1 and D0 stay held: another open call handed them over too.",
+            "It gives back S1. D1 stays held: another open call handed it over too.",
+            "S0 and D1 stay held: another open call handed them over too.",
+            "It gives back S0, D1 and D0.",
+            "It holds no key any more.",
+        ]
+    );
+    let calls = "U; N 0 0; N 0 0; N 0 0; K 0; K 0; G 0 0 0; G 0 1 1; G 0 2 0; G 0 2 1; \
+         L 0 0 1 U0; L 0 1 1 U0; L 0 2 1 U0; S 0; C 0 0; C 0 1; C 0 2; R 0; R 0; E 0";
+    let steps = explained(calls);
+    let back = "It gives back S2. D0 and D1 stay held: other open calls handed them over too.";
+    assert_eq!(steps[17].reason, back);
+    let ended = "Its open call is closed, and it holds no key any more.";
+    assert_eq!(steps[19].reason, ended);
+}
+
+#[test]
+fn a_dropped_deny_lock() {
+    let steps = explained("U; N 0 1; L 0 0 2 U0; L 0 0 10 U0; D 0 1; D 0 0");
+    let denied = "It keeps nobody out any more, threads in mid-run included.";
+    assert_eq!(steps[4].reason, denied);
+    let granted = "It opens for nobody any more, threads in mid-run included.";
+    assert_eq!(steps[5].reason, granted);
 }
 
 #[test]
@@ -227,10 +316,14 @@ fn why_other_calls_are_refused() {
 fn notes_name_segments() {
     let mut entries = lesson::entries(ROUTE);
     entries[1].note = Some("segment 0, the rate loader".to_string());
-    entries[3].note = Some("the totals sheet".to_string());
+    entries[2].note = Some("should be refused later!".to_string());
+    entries[3].note = Some("segment 2: the totals sheet".to_string());
+    entries[7].note = Some("thread 1, of the wrong number".to_string());
+    entries[8].note = Some("thread 1 on its own".to_string());
     let steps = steps::explain(entries);
     let named = |thing: &str, name: &str| (thing.to_string(), name.to_string());
     assert_eq!(steps[12].names, [named("segment 2", "the totals sheet")]);
+    assert_eq!(steps[11].names, []);
     let calls = &steps[12].thread.as_ref().expect("a thread").calls;
     let names: Vec<Option<&str>> = calls.iter().map(|call| call.name.as_deref()).collect();
     assert_eq!(names, [Some("the rate loader"), None]);

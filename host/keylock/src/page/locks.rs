@@ -1,6 +1,6 @@
 //! Locks on the page: whether they open, and which keys hold them shut.
 
-use super::html::escaped;
+use super::html::{escaped, formula};
 use crate::steps::{Judgement, Literal, Lock, Product, Tried, shown_keys};
 use crate::{shown, words};
 
@@ -22,7 +22,7 @@ pub fn tried_on(judgement: &Judgement) -> String {
         false => "",
     };
     let before = match judgement.operation {
-        1 => {
+        1 if !judgement.locks.is_empty() => {
             let keys = shown_keys(&judgement.keys);
             format!(
                 "<p class=\"after\">Tried with the keys before the call: <code>{keys}</code></p>\n"
@@ -84,7 +84,7 @@ fn verb(lock: &Lock) -> &'static str {
 /// `write if S0&S1`, after what is said of the lock.
 fn lock_line(lock: &Lock, said: &str) -> String {
     let operations = words::operations(lock.operations & 7);
-    let text = escaped(&shown::bytes(&lock.text));
+    let text = formula(&shown::bytes(&lock.text));
     format!("<p>{said} {operations} if <code>{text}</code></p>")
 }
 

@@ -1,6 +1,6 @@
 //! One step of the page: the call, the answer, why, and the thread's stack.
 
-use super::html::{escaped, sentence};
+use super::html::{self, escaped, sentence};
 use super::locks;
 use crate::shown;
 use crate::steps::{Change, OpenCall, Segment, Step, Thread};
@@ -10,7 +10,7 @@ use rotundaaloe::formula::Key;
 pub fn section(step: &Step) -> String {
     let class = if step.answer.is_ok() { "ok" } else { "no" };
     let place = step.place;
-    let written = escaped(&step.written());
+    let written = html::formula(&step.written());
     let call = sentence(&step.call_in_words()) + &formula(step);
     let columns = step
         .judgement
@@ -37,7 +37,7 @@ fn formula(step: &Step) -> String {
         Record {
             letter: b'L', text, ..
         } => {
-            format!(" if <code>{}</code>", escaped(&shown::bytes(text)))
+            format!(" if <code>{}</code>", html::formula(&shown::bytes(text)))
         }
         _ => String::new(),
     }
@@ -133,9 +133,9 @@ fn key_row(keys: &[Key]) -> String {
 fn thread(thread: &Thread) -> String {
     let (number, user) = (thread.number, thread.user);
     let (left, newest) = match &thread.change {
-        Change::Left(call) => (frame(call, "left", "just left"), ("", "")),
+        Change::Left(call) => (left(call, &thread.keys, "just left"), ("", "")),
         Change::Ended(calls) => {
-            let closed = calls.iter().rev().map(|call| frame(call, "left", ""));
+            let closed = calls.iter().rev().map(|call| left(call, &[], ""));
             (closed.collect(), ("", ""))
         }
         Change::Called => (String::new(), ("new", "just called")),
@@ -175,4 +175,24 @@ fn frame(call: &OpenCall, class: &str, word: &str) -> String {
     let segment = call.segment;
     let (name, keys) = (small(&call.name, word), key_row(&call.keys));
     format!("<li{class}><b>segment {segment}</b>{keys}{name}</li>")
+}
+
+/// The box of a call that is no longer open. Keys that the thread holds no more
+/// are struck out.
+fn left(call: &OpenCall, held: &[Key], word: &str) -> String {
+    let (still, gone): (Vec<&Key>, Vec<&Key>) =
+        call.keys.iter().partition(|key| held.contains(key));
+    let gone = gone
+        .iter()
+        .map(|key| format!("<code class=\"gone\">{key}</code>"));
+    let kept = still.iter().map(|key| format!("<code>{key}</code>"));
+    let keys: String = gone.chain(kept).collect();
+    let label = match still.is_empty() {
+        true => "",
+        false => "<i>still held</i>",
+    };
+    let (segment, name) = (call.segment, small(&call.name, word));
+    format!(
+        "<li class=\"left\"><b>segment {segment}</b><div class=\"keys\">{keys}{label}</div>{name}</li>"
+    )
 }

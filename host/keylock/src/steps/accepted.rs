@@ -1,9 +1,10 @@
 //! What an accepted call means for those after it, in a sentence or two.
 
-use super::{Judgement, State, shown_keys};
+use super::{Judgement, State};
 use crate::words;
-use rotundaaloe::formula::{self, Key, Product};
-use rotundaaloe::{Defined, Record};
+use reference::history::OpenCall;
+use rotundaaloe::Record;
+use rotundaaloe::formula::{self, Product};
 
 /// Asked before the call is taken in.
 pub fn reason(
@@ -16,39 +17,76 @@ pub fn reason(
     match record.letter {
         b'U' => format!("Every thread of user {answer} holds U{answer}."),
         b'S' => format!("It holds U{a}, its user's key, and R{answer}, its own, until it ends."),
-        b'E' => "Its open calls are closed, and it holds no key any more.".to_string(),
+        b'E' => ended(state, a),
         b'N' if b == 1 => "Without a lock nobody may read or write it.".to_string(),
         b'N' => format!("A call of it hands over S{answer}. Without a lock nobody may call it."),
-        b'K' => format!("Only user {a} can put D{answer} into a list, and only on own segments."),
+        b'K' => format!("Only user {a} can give D{answer}, and only to segments of his own."),
+        b'G' | b'T' if is_sheet(state, b) => {
+            format!("A sheet isn't called, so nobody gets D{c} from it.")
+        }
         b'G' => format!(
-            "Calls of segment {b} hand over D{c} from now on. Those that are open already don't."
+            "New calls of segment {b} hand over D{c}. Open ones keep the keys that they handed over."
         ),
         b'T' => taken(state, b, c),
         b'L' => locked(state, record),
-        b'D' => "It opens for nobody any more, threads in mid-run included.".to_string(),
+        b'D' => dropped(state, b),
         b'R' => returned(state, a),
         _ => judgement.map_or(String::new(), |judgement| granted(judgement, a)),
     }
 }
 
-fn taken(state: &State, segment: u16, key: u16) -> String {
-    let key_taken = Key::Defined(Defined(key));
-    let keeps = |thread: &u16| {
-        let thread = state.history.thread(*thread);
-        let mut calls = thread.iter().flat_map(|thread| &thread.open_calls);
-        calls.any(|call| call.segment == segment && super::keys(&call.list).contains(&key_taken))
-    };
-    match state.history.live_threads().filter(keeps).count() {
-        0 => format!("Calls of segment {segment} hand over no D{key} from now on."),
-        _ => format!(
-            "Calls of segment {segment} hand over no D{key} from now on. Calls that are open keep it until they return."
-        ),
+fn is_sheet(state: &State, segment: u16) -> bool {
+    let segment = state.history.segment(segment);
+    segment.is_some_and(|segment| segment.sheet)
+}
+
+/// A thread's open calls, the newest last.
+fn open_calls(state: &State, thread: u16) -> &[OpenCall] {
+    let thread = state.history.thread(thread);
+    thread.map_or(&[], |thread| &thread.open_calls)
+}
+
+fn ended(state: &State, thread: u16) -> String {
+    match open_calls(state, thread).len() {
+        0 => "It holds no key any more.",
+        1 => "Its open call is closed, and it holds no key any more.",
+        _ => "Its open calls are closed, and it holds no key any more.",
     }
+    .to_string()
+}
+
+fn taken(state: &State, segment: u16, number: u16) -> String {
+    let key = reference::Key {
+        kind: reference::Kind::Defined,
+        number,
+    };
+    let mut threads = state.history.live_threads();
+    let kept = threads.any(|thread| {
+        let mut calls = open_calls(state, thread).iter();
+        calls.any(|call| call.segment == segment && call.list.contains(&key))
+    });
+    let keep = match kept {
+        true => " Open ones that handed it over keep it until they return.",
+        false => "",
+    };
+    format!("New calls of segment {segment} don't hand over D{number}.{keep}")
+}
+
+fn dropped(state: &State, number: u16) -> String {
+    let mut standing = state.history.standing();
+    match standing.any(|(lock, kept)| lock == number && kept.denies()) {
+        true => "It keeps nobody out any more, threads in mid-run included.",
+        false => "It opens for nobody any more, threads in mid-run included.",
+    }
+    .to_string()
 }
 
 fn locked(state: &State, record: &Record) -> String {
     let products = formula::compile(record.text, state.issued()).unwrap_or_default();
-    let wanted: Vec<String> = products.iter().map(wanted).collect();
+    let wanted = products
+        .iter()
+        .map(|product| wanted(product, "holds", "doesn't hold"));
+    let wanted: Vec<String> = wanted.collect();
     let verb = match record.c & 8 {
         8 => "It denies",
         _ => "It grants",
@@ -60,8 +98,9 @@ fn locked(state: &State, record: &Record) -> String {
     )
 }
 
-/// What a product asks of a thread: `holds S0 and S1 but not D0`.
-fn wanted(product: &Product) -> String {
+/// What a product asks of a thread: `holds S0 and S1 but not D0`. The two verbs
+/// give the tense.
+fn wanted(product: &Product, holds: &str, lacks: &str) -> String {
     let (mut plain, mut barred) = (Vec::new(), Vec::new());
     for literal in product.literals() {
         match literal {
@@ -70,48 +109,51 @@ fn wanted(product: &Product) -> String {
         }
     }
     match (plain.is_empty(), barred.is_empty()) {
-        (_, true) => format!("holds {}", words::listed(&plain, "and")),
-        (true, _) => format!("doesn't hold {}", words::listed(&barred, "or")),
+        (_, true) => format!("{holds} {}", words::listed(&plain, "and")),
+        (true, _) => format!("{lacks} {}", words::listed(&barred, "or")),
         _ => {
             let (plain, barred) = (words::listed(&plain, "and"), words::listed(&barred, "or"));
-            format!("holds {plain} but not {barred}")
+            format!("{holds} {plain} but not {barred}")
         }
     }
 }
 
 /// Which keys go back with the newest open call, and which are still held.
-fn returned(state: &State, number: u16) -> String {
-    let Some(thread) = state.history.thread(number) else {
-        return String::new();
-    };
-    let Some((left, open)) = thread.open_calls.split_last() else {
+fn returned(state: &State, thread: u16) -> String {
+    let Some((left, open)) = open_calls(state, thread).split_last() else {
         return String::new();
     };
     let (still, gone): (Vec<_>, Vec<_>) = left
         .list
         .iter()
         .partition(|key| open.iter().any(|call| call.list.contains(key)));
-    let shown = |list: Vec<&reference::Key>| {
-        shown_keys(
-            &list
-                .into_iter()
-                .copied()
-                .map(super::key)
-                .collect::<Vec<_>>(),
-        )
+    let gives_back = match gone.is_empty() {
+        true => None,
+        false => Some(format!("It gives back {}.", listed(&gone))),
     };
-    match (still.is_empty(), gone.is_empty()) {
-        (true, _) => format!("It gives back {}.", shown(gone)),
-        (_, true) => format!(
-            "{} stays held: another open call handed it over too.",
-            shown(still)
-        ),
-        _ => format!(
-            "It gives back {}. {} stays held: another open call handed it over too.",
-            shown(gone),
-            shown(still)
-        ),
-    }
+    let one_has_all = open
+        .iter()
+        .any(|call| still.iter().all(|key| call.list.contains(key)));
+    let shown = listed(&still);
+    let stays = match (still.len(), one_has_all) {
+        (0, _) => None,
+        (1, _) => Some(format!(
+            "{shown} stays held: another open call handed it over too."
+        )),
+        (_, true) => Some(format!(
+            "{shown} stay held: another open call handed them over too."
+        )),
+        (_, false) => Some(format!(
+            "{shown} stay held: other open calls handed them over too."
+        )),
+    };
+    let sentences: Vec<String> = gives_back.into_iter().chain(stays).collect();
+    sentences.join(" ")
+}
+
+fn listed(keys: &[&reference::Key]) -> String {
+    let keys = keys.iter().map(|key| super::key(**key).to_string());
+    words::listed(&keys.collect::<Vec<_>>(), "and")
 }
 
 fn granted(judgement: &Judgement, thread: u16) -> String {
@@ -123,7 +165,14 @@ fn granted(judgement: &Judgement, thread: u16) -> String {
     let Some(tried) = decided.next() else {
         return String::new();
     };
+    // A call hands over keys, so what it was tried with is past.
+    let (opens, holds, lacks) = match judgement.operation {
+        1 => ("opened", "held", "didn't hold"),
+        _ => ("opens", "holds", "doesn't hold"),
+    };
     let product = tried.products.iter().position(|product| product.opens);
-    let wanted = product.map_or(String::new(), |place| wanted(&tried.lock.products[place]));
-    format!("Lock {lock} opens: thread {thread} {wanted}.")
+    let wanted = product.map_or(String::new(), |place| {
+        wanted(&tried.lock.products[place], holds, lacks)
+    });
+    format!("Lock {lock} {opens}: thread {thread} {wanted}.")
 }

@@ -6,7 +6,7 @@ use rotundaaloe::Record;
 use rotundaaloe::formula::{self, Issued, Product};
 use std::collections::BTreeMap;
 
-/// A longer note is a remark and no name.
+/// A longer text is a remark and no name.
 const LONGEST_NAME: usize = 40;
 
 pub struct Formula {
@@ -48,9 +48,10 @@ impl Kept {
             _ => {}
         }
         if let (b'U' | b'S' | b'N' | b'K', Some(note)) = (record.letter, &entry.note) {
-            let name = name(thing(record.letter, answer), note);
-            if !name.is_empty() && name.chars().count() <= LONGEST_NAME {
-                self.names.insert((record.letter, answer), name);
+            let name = name(&thing(record.letter, answer), note);
+            let name = name.filter(|name| name.chars().count() <= LONGEST_NAME);
+            if let Some(name) = name {
+                self.names.insert((record.letter, answer), name.to_string());
             }
         }
     }
@@ -106,14 +107,9 @@ fn thing(letter: u8, number: u16) -> String {
     }
 }
 
-/// A note without the thing's number in front: of `segment 2, the totals
-/// sheet` the last three words.
-fn name(thing: String, note: &str) -> String {
-    let rest = note.strip_prefix(&thing).unwrap_or(note);
-    let rest = match rest.strip_prefix([',', ':', '=']) {
-        Some(rest) => rest,
-        None if rest.starts_with(|next: char| next.is_ascii_digit()) => note,
-        None => rest,
-    };
-    rest.trim().to_string()
+/// The name in a note that starts with the thing: of `segment 2, the totals
+/// sheet` the last three words. Other notes are remarks.
+fn name<'a>(thing: &str, note: &'a str) -> Option<&'a str> {
+    let rest = note.strip_prefix(thing)?.strip_prefix([',', ':'])?;
+    Some(rest.trim()).filter(|name| !name.is_empty())
 }
