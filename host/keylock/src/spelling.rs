@@ -1,12 +1,30 @@
-//! Where a formula text leaves the grammar. The verdict on a lock is the proved
-//! compiler's; this only points.
+//! Where a formula text leaves the grammar. Whether it does is the proved
+//! compiler's verdict; this only points.
+
+use rotundaaloe::formula::{Issued, compile};
+use rotundaaloe::refusal::Compile;
 
 /// The most brackets around a key.
 const MOST_BRACKETS: usize = 8;
 
+/// Every key that a text can name.
+const EVERY_KEY: Issued = Issued {
+    users: 65_536,
+    threads: 65_536,
+    segments: 65_536,
+    defined: 65_536,
+};
+
 /// The first place of a text, from 0, where it leaves the grammar, and what is
 /// wrong there. `None` where it doesn't, whichever keys it names.
 pub fn fault(text: &[u8]) -> Option<(usize, &'static str)> {
+    match compile(text, EVERY_KEY) {
+        Err(Compile::Malformed) => Some(place(text).unwrap_or((0, "it isn't in the grammar"))),
+        _ => None,
+    }
+}
+
+fn place(text: &[u8]) -> Option<(usize, &'static str)> {
     let mut depth = 0;
     let mut operand_next = true;
     let mut at = 0;
@@ -68,9 +86,7 @@ fn number_fault(digits: &[u8]) -> Option<&'static str> {
 
 #[cfg(test)]
 mod tests {
-    use super::fault;
-    use rotundaaloe::formula::{Issued, compile};
-    use rotundaaloe::refusal::Compile;
+    use super::{fault, place};
 
     #[track_caller]
     fn at(text: &str, place: usize, wrong: &str) {
@@ -95,24 +111,22 @@ mod tests {
         assert_eq!(fault(b"!(D0|D1)&U3"), None);
     }
 
-    /// There is a fault exactly where the proved compiler finds one.
+    /// There is a place exactly where the proved compiler finds a text misspelt.
     #[test]
     fn the_proved_compiler_agrees() {
         const LETTERS: [u8; 8] = *b"S10!&|()";
-        let issued = Issued {
-            users: 65_536,
-            threads: 65_536,
-            segments: 65_536,
-            defined: 65_536,
-        };
         let (mut right, mut wrong) = (0, 0);
         for length in 1..=6 {
             for number in 0..LETTERS.len().pow(length) {
                 let letter = |place| LETTERS[number / LETTERS.len().pow(place) % LETTERS.len()];
                 let text: Vec<u8> = (0..length).map(letter).collect();
-                let misspelt = compile(&text, issued) == Err(Compile::Malformed);
-                assert_eq!(fault(&text).is_some(), misspelt, "{}", text.escape_ascii());
-                *if misspelt { &mut wrong } else { &mut right } += 1;
+                assert_eq!(fault(&text), place(&text), "{}", text.escape_ascii());
+                let count = if fault(&text).is_some() {
+                    &mut wrong
+                } else {
+                    &mut right
+                };
+                *count += 1;
             }
         }
         assert!(

@@ -116,8 +116,13 @@ fn the_small_guard_without_a_fault_answers_as_expected() {
 #[test]
 fn each_fault_is_caught_by_its_own_lesson_alone() {
     for (fault, own) in Fault::ALL.into_iter().zip(LESSONS) {
-        let catches = |name: &&str| !faulty(&lesson(name), Some(fault)).is_empty();
-        let caught: Vec<&str> = LESSONS.into_iter().filter(catches).collect();
+        let mut caught = Vec::new();
+        for name in LESSONS {
+            if let Some((place, answer)) = faulty(&lesson(name), Some(fault)).first() {
+                println!("{fault:?}: caught by {name} at place {place}, where it answers {answer}");
+                caught.push(name);
+            }
+        }
         assert_eq!(caught, [own], "{fault:?}");
     }
 }

@@ -26,6 +26,18 @@
 //! # Ok(())
 //! # }
 //! ```
+//!
+//! A user can't be passed for a thread:
+//!
+//! ```compile_fail
+//! # use rotundaaloe::{Guard, Refusal};
+//! # fn main() -> Result<(), Refusal> {
+//! let mut guard = Guard::new();
+//! let user = guard.new_user()?;
+//! guard.return_call(user)?;
+//! # Ok(())
+//! # }
+//! ```
 
 pub mod formula;
 mod guard;

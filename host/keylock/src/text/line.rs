@@ -120,6 +120,17 @@ fn number(word: &Word, other: impl Fn() -> String) -> Result<u16, Fault> {
     }
 }
 
+/// Whether a text of this length fits a record.
+fn fitting(word: &Word, length: usize) -> Result<(), Fault> {
+    match length {
+        1..=MAX_TEXT_BYTES => Ok(()),
+        _ => {
+            let message = format!("a text has 1 to {MAX_TEXT_BYTES} bytes, this has {length}");
+            fault(word.at, message)
+        }
+    }
+}
+
 struct Scanner<'a> {
     line: &'a [u8],
     /// The next byte.
@@ -205,15 +216,15 @@ impl<'a> Scanner<'a> {
         if word.bytes.starts_with(ARROW) {
             return fault(self.end, "L needs a text here, bare or in quotes");
         }
-        let text = match word.bytes[0] {
-            b'"' => self.quoted()?,
-            _ => self.bare(&word)?,
-        };
-        match text.len() {
-            1..=MAX_TEXT_BYTES => Ok(text),
-            length => {
-                let message = format!("a text has 1 to {MAX_TEXT_BYTES} bytes, this has {length}");
-                fault(word.at, message)
+        match word.bytes[0] {
+            b'"' => {
+                let text = self.quoted()?;
+                fitting(&word, text.len())?;
+                Ok(text)
+            }
+            _ => {
+                fitting(&word, word.bytes.len())?;
+                self.bare(&word)
             }
         }
     }
