@@ -1,14 +1,11 @@
 // The guard for C: the state is in arrays that the caller lends, and an answer is one number.
 ghost use mathlib.Core.Path.{_≡_};
-ghost use mathlib.Core.List.{List};
-ghost use Prim.Native.Nat.{ℕ};
 ghost use Rattle.formula.specs.Outcome.{outcomeOf};
 ghost use Rattle.call.specs.declared.request.Request.the-variants.{CallSegment, ReturnCall, Access};
 ghost use Rattle.call.specs.Calls.{callWith};
-ghost use Rattle.model.specs.Cells.{Row, Table, emptyCells, stepCells};
-ghost use Rattle.model.specs.Serving.{cellsWith};
+ghost use Rattle.model.specs.Cells.{cellsWith, registryIs, segmentsAre, locksAre, threadsAre, unchanged, _and_, emptyCells, stepCells};
 ghost use Rattle.checking.specs.Deciding.{openingOf};
-ghost use Rattle.abi.specs.Calls.{answerNumber, Tells, TellsServed};
+ghost use Rattle.abi.specs.Calls.{answerNumber, Tells, TellsLent};
 use checking::opening;
 use guard::call;
 use model::answer::Answer;
@@ -34,7 +31,9 @@ pub extern "C" fn rotundaaloe_empty(
     locks: &mut Locks,
     threads: &mut Threads,
 )
-    ensures { λ _. ⌜ cellsWith (now (registry .exit)) (now (makers .exit)) (now (segments .exit)) (now (locks .exit)) (now (threads .exit)) ≡ emptyCells ⌝ }
+    ensures { λ _. ⌜ cellsWith (now (registry .exit)) (now (makers .exit)) (now (segments .exit)) (now (locks .exit))
+        (now (threads .exit))
+        ≡ emptyCells ⌝ }
 {
     *registry = [0; 8];
     *makers = [0; 1024];
@@ -57,7 +56,12 @@ pub extern "C" fn rotundaaloe_call(
     c: u16,
     text: &[u8],
 ) -> u32
-    ensures { λ r. ⌜ Tells (stepCells outcomeOf (cellsWith (now (registry .entry)) (now (makers .entry)) (now (segments .entry)) (now (locks .entry)) (now (threads .entry))) (callWith letter a b c (now (text .entry)))) r (cellsWith (now (registry .exit)) (now (makers .exit)) (now (segments .exit)) (now (locks .exit)) (now (threads .exit))) ⌝ }
+    ensures { λ r. ⌜ Tells (stepCells outcomeOf
+        (cellsWith (now (registry .entry)) (now (makers .entry)) (now (segments .entry)) (now (locks .entry))
+        (now (threads .entry)))
+        (callWith letter a b c (now (text .entry)))) r
+        (cellsWith (now (registry .exit)) (now (makers .exit)) (now (segments .exit)) (now (locks .exit))
+        (now (threads .exit))) ⌝ }
 {
     answer_number(call(
         registry,
@@ -83,14 +87,21 @@ pub extern "C" fn rotundaaloe_call_segment(
     a: u16,
     b: u16,
 ) -> u32
-    ensures { λ r. ⌜ ((makers : Row) (text : List ℕ) → TellsServed (cellsWith (now (registry .entry)) makers (now (segments .entry)) (now (locks .entry)) (now (threads .entry))) (CallSegment a b) text r (cellsWith (now (registry .entry)) makers (now (segments .entry)) (now (locks .entry)) (now (threads .exit)))) ⌝ }
+    ensures { λ r. ⌜ TellsLent
+        (registryIs (now (registry .entry)) and segmentsAre (now (segments .entry))
+        and locksAre (now (locks .entry)) and threadsAre (now (threads .entry)))
+        (CallSegment a b) r
+        (threadsAre (now (threads .exit))) ⌝ }
 {
     answer_number(call_segment(registry, segments, locks, threads, a, b))
 }
 
 #[no_mangle]
 pub extern "C" fn rotundaaloe_return_call(threads: &mut Threads, a: u16) -> u32
-    ensures { λ r. ⌜ ((registry makers : Row) (segments locks : List Table) (text : List ℕ) → TellsServed (cellsWith registry makers segments locks (now (threads .entry))) (ReturnCall a) text r (cellsWith registry makers segments locks (now (threads .exit)))) ⌝ }
+    ensures { λ r. ⌜ TellsLent
+        (threadsAre (now (threads .entry)))
+        (ReturnCall a) r
+        (threadsAre (now (threads .exit))) ⌝ }
 {
     answer_number(return_call(threads, a))
 }
@@ -105,7 +116,11 @@ pub extern "C" fn rotundaaloe_access(
     b: u16,
     c: u16,
 ) -> u32
-    ensures { λ r. ⌜ ((makers : Row) (text : List ℕ) → TellsServed (cellsWith (now (registry .entry)) makers (now (segments .entry)) (now (locks .entry)) (now (threads .entry))) (Access a b c) text r (cellsWith (now (registry .entry)) makers (now (segments .entry)) (now (locks .entry)) (now (threads .entry)))) ⌝ }
+    ensures { λ r. ⌜ TellsLent
+        (registryIs (now (registry .entry)) and segmentsAre (now (segments .entry))
+        and locksAre (now (locks .entry)) and threadsAre (now (threads .entry)))
+        (Access a b c) r
+        unchanged ⌝ }
 {
     answer_number(access(registry, segments, locks, threads, a, b, c))
 }

@@ -3,22 +3,25 @@
 use mathlib.Core.Path.{_≡_, refl, sym, ap, ap₂, _∙_}
 use mathlib.Core.Bool.{Bool, true, false, _&&_, _||_, not, cond}
 use mathlib.Core.List.{List, [], _∷_}
-use Prim.Native.Nat.{ℕ, zero, suc, _-_, _/_, _%_, _≤_, _<_}
+use Prim.Native.Nat.{ℕ, zero, suc, _+_, _-_, _/_, _%_, _≤_, _<_}
 use native.Mathlib.Omega.{arith}
 use lib.Dec.{eqb, ltb}
 use lib.ListN.{length}
-use borrow.Author.Tests.{lt-ltb, le-ltb, ltb-false, eq-eqb, ne-eqb, eqb-true}
+use borrow.Author.Tests.{lt-ltb, le-ltb, ltb-true, ltb-false, eq-eqb, ne-eqb, eqb-true}
 use Rattle.product.specs.declared.literal.Key.{Key}
-use Rattle.product.specs.declared.literal.Key.the-variants.{User, Thread as ThreadKey}
-use Rattle.product.specs.Atom.{agrees, numberOf, compareAtoms, orderOf}
+use Rattle.product.specs.declared.literal.Key.the-variants.{User, Thread as ThreadKey, Segment as SegmentKey, Defined}
+use Rattle.product.specs.declared.literal.Literal.{Literal}
+use Rattle.product.specs.declared.literal.Literal.the-variants.{Plain, Barred}
+use Rattle.product.specs.Atom.{agrees, atomOf, numberOf, compareAtoms, orderOf}
 use Rattle.product.proofs.Ordering.{is-equal, compare-equal, compare-same}
 use Rattle.model.specs.Lists.{any, keep, each}
 use Rattle.model.specs.Limits.{mostSegments}
 use Rattle.model.specs.Threads.{sameKey, isIn}
-use Rattle.model.specs.Cells.{Row, Table, cell, rowAt, numberCell, userCell, noKey, keyIn, hasKey, keysIn, keyCell, literalIn, framesOf}
+use Rattle.model.specs.Cells.{Row, Table, cell, rowAt, numberCell, userCell, noKey, keyIn, hasKey, keysIn, keyCell, definedCell, signed, literalIn, framesOf}
+use Rattle.model.proofs.Literals.{keyIn-segment, keyIn-defined}
 use Rattle.model.proofs.Lists.{caseBool, same-truth, any-map, any-keep, each-suc}
 use Rattle.checking.specs.Deciding.{keysAt}
-use Rattle.checking.specs.Steps.{hasCode, inherited, ownNumber}
+use Rattle.checking.specs.Steps.{hasCode, inherited, listable}
 
 -- ---- the eight comparisons of a row
 
@@ -158,30 +161,103 @@ module _ (t : Table) (n : ℕ) where
       simp (thread-not-user r (cell (rowAt t 0) userCell), not-listed (ThreadKey r) (λ x. thread-not-listed x r) t n)
       (or-false (sameKey (ThreadKey r) (ThreadKey (cell (rowAt t 0) numberCell))) ∙ same-threads r (cell (rowAt t 0) numberCell))
 
-  -- ---- the literal that x stands for, by its range
+  holds-segment : (s : ℕ) → ltb s mostSegments ≡ true → keysAt t n (SegmentKey s) ≡ inherited t n s
+  holds-segment s e =
+      let low : s < mostSegments = ltb-true s mostSegments e in
+      ap (keysAt t n) (sym (keyIn-segment s low)) ∙ holds-listed s (omega arith)
 
-  module _ (x : ℕ) where
-    pub plain-listed : x < 32768 → (b : Bool) → b ≡ inherited t n x → b ≡ agrees (keysAt t n) (literalIn x)
-    plain-listed h b e =
-        let rest : x % 32768 ≡ x = omega arith in
-        e ∙ sym (holds-listed x (omega arith)) ∙ sym (simp (lt-ltb x 65536 (omega arith), lt-ltb x 32768 h, rest))
+  holds-defined : (k : ℕ) → ltb (definedCell k) noKey ≡ true → keysAt t n (Defined k) ≡ inherited t n (definedCell k)
+  holds-defined k e = ap (keysAt t n) (sym (keyIn-defined k)) ∙ holds-listed (definedCell k) (ltb-true (definedCell k) noKey e)
 
-    pub barred-listed : 32768 ≤ x → x < 65536 → (b : Bool) → b ≡ inherited t n (x - 32768) → not b ≡ agrees (keysAt t n) (literalIn x)
-    barred-listed l h b e =
-        let rest : x % 32768 ≡ x - 32768 = omega arith in
-        ap not (e ∙ sym (holds-listed (x - 32768) (omega arith))) ∙ sym (simp (lt-ltb x 65536 h, le-ltb x 32768 l, rest))
+  -- ---- a key that is matched, and the literal that holds it
 
-    abbrev ownKey : Key
-    ownKey = cond (ltb x 262144) (User (x % 65536)) (ThreadKey (x % 65536))
+  module _ {k : Key} {number : ℕ} where
+    pub user-key : k ≡ User number → eqb (cell (rowAt t 0) userCell) number ≡ keysAt t n k
+    user-key e = sym (ap (keysAt t n) e ∙ holds-user number)
 
-    holds-own : keysAt t n ownKey ≡ eqb (ownNumber t x) (x % 65536)
-    unfolding ownNumber
-    holds-own = caseBool (ltb x 262144) (λ e. simp e (holds-user (x % 65536))) (λ e. simp e (holds-thread (x % 65536)))
+    pub thread-key : k ≡ ThreadKey number → eqb (cell (rowAt t 0) numberCell) number ≡ keysAt t n k
+    thread-key e = sym (ap (keysAt t n) e ∙ holds-thread number)
 
-    module _ (h : 65536 ≤ x) (own : ℕ) (o : own ≡ ownNumber t x) where
-      pub plain-own : x / 65536 % 2 ≡ 0 → eqb own (x % 65536) ≡ agrees (keysAt t n) (literalIn x)
-      plain-own s = ap (λ (k : ℕ). eqb k (x % 65536)) o ∙ sym holds-own ∙ sym (simp (le-ltb x 65536 h, eq-eqb (x / 65536 % 2) 0 s))
+    module _ {code : ℕ} {b : Bool} (l : listable k ≡ true) (h : b ≡ inherited t n code) where
+      pub segment-key : k ≡ SegmentKey number → code ≡ number → b ≡ keysAt t n k
+      segment-key e c = h ∙ ap (inherited t n) c ∙ sym (ap (keysAt t n) e ∙ holds-segment number (ap listable (sym e) ∙ l))
 
-      pub barred-own : (x / 65536 % 2 ≡ 0 → ⊥) → not (eqb own (x % 65536)) ≡ agrees (keysAt t n) (literalIn x)
-      barred-own s =
-          ap not (ap (λ (k : ℕ). eqb k (x % 65536)) o ∙ sym holds-own) ∙ sym (simp (le-ltb x 65536 h, ne-eqb (x / 65536 % 2) 0 s))
+      pub defined-key : k ≡ Defined number → code ≡ number + mostSegments → b ≡ keysAt t n k
+      defined-key e c =
+          let same : code ≡ definedCell number = omega (arith, c) in
+          h ∙ ap (inherited t n) same ∙ sym (ap (keysAt t n) e ∙ holds-defined number (ap listable (sym e) ∙ l))
+
+  module _ {l : Literal} {k : Key} {b : Bool} (h : b ≡ keysAt t n k) where
+    pub plain-agrees : l ≡ Plain k → b ≡ agrees (keysAt t n) l
+    plain-agrees e = h ∙ ap (agrees (keysAt t n)) (sym e)
+
+    pub barred-agrees : l ≡ Barred k → not b ≡ agrees (keysAt t n) l
+    barred-agrees e = ap not h ∙ ap (agrees (keysAt t n)) (sym e)
+
+-- ---- a literal that a cell stands for has a key with a code
+
+module _ {l : Literal} {k : Key} (h : listable (atomOf l) ≡ true) where
+  pub plain-listable : l ≡ Plain k → listable k ≡ true
+  plain-listable e = ap (λ (x : Literal). listable (atomOf x)) (sym e) ∙ h
+
+  pub barred-listable : l ≡ Barred k → listable k ≡ true
+  barred-listable e = ap (λ (x : Literal). listable (atomOf x)) (sym e) ∙ h
+
+pub defined-low : {k : Key} {number : ℕ} → k ≡ Defined number → listable k ≡ true → number + mostSegments < noKey
+defined-low {k} {number} e h = let l = ltb-true (definedCell number) noKey (ap listable (sym e) ∙ h) in omega (arith, l)
+
+listable-code : (code : ℕ) → code < 32768 → listable (keyIn code) ≡ true
+listable-code code low =
+    caseBool (ltb code mostSegments)
+    (λ e. simp e)
+    (λ e. let high = ltb-false code mostSegments e in simp e (lt-ltb (definedCell (code - mostSegments)) noKey (omega arith)))
+
+signed-key : (plain : Bool) (k : Key) → atomOf (signed plain k) ≡ k
+signed-key true k = refl
+signed-key false k = refl
+
+pub literal-listable : (x : ℕ) → listable (atomOf (literalIn x)) ≡ true
+literal-listable x =
+    caseBool (ltb x 65536)
+    (λ e. simp e (ap listable (signed-key (ltb x 32768) (keyIn (x % 32768))) ∙ listable-code (x % 32768) (omega arith)))
+    (λ e.
+    let own : Key = cond (ltb x 262144) (User (x % 65536)) (ThreadKey (x % 65536)) in
+    simp e (ap listable (signed-key (eqb (x / 65536 % 2) 0) own) ∙ caseBool (ltb x 262144) (λ f. simp f) (λ f. simp f)))
+
+-- ---- the literal of a cell, by the cell's range
+
+module _ (x : ℕ) where
+  pub plain-segment : x < 32768 → x < mostSegments → Plain (SegmentKey x) ≡ literalIn x
+  plain-segment h l =
+      let rest : x % 32768 ≡ x = omega arith in
+      sym (simp (lt-ltb x 65536 (omega arith), lt-ltb x 32768 h, rest, lt-ltb x mostSegments l))
+
+  pub plain-defined : x < 32768 → mostSegments ≤ x → Plain (Defined (x - mostSegments)) ≡ literalIn x
+  plain-defined h l =
+      let rest : x % 32768 ≡ x = omega arith in
+      sym (simp (lt-ltb x 65536 (omega arith), lt-ltb x 32768 h, rest, le-ltb x mostSegments l))
+
+  module _ (h : 32768 ≤ x) (g : x < 65536) where
+    rest : x % 32768 ≡ x - 32768
+    rest = omega arith
+
+    pub barred-segment : x - 32768 < mostSegments → Barred (SegmentKey (x - 32768)) ≡ literalIn x
+    barred-segment l = sym (simp (lt-ltb x 65536 g, le-ltb x 32768 h, rest, lt-ltb (x - 32768) mostSegments l))
+
+    pub barred-defined : mostSegments ≤ x - 32768 → Barred (Defined (x - 32768 - mostSegments)) ≡ literalIn x
+    barred-defined l = sym (simp (lt-ltb x 65536 g, le-ltb x 32768 h, rest, le-ltb (x - 32768) mostSegments l))
+
+  module _ (h : 65536 ≤ x) where
+    module _ (s : x / 65536 % 2 ≡ 0) where
+      pub plain-user : x < 262144 → Plain (User (x % 65536)) ≡ literalIn x
+      plain-user l = sym (simp (le-ltb x 65536 h, eq-eqb (x / 65536 % 2) 0 s, lt-ltb x 262144 l))
+
+      pub plain-thread : 262144 ≤ x → Plain (ThreadKey (x % 65536)) ≡ literalIn x
+      plain-thread l = sym (simp (le-ltb x 65536 h, eq-eqb (x / 65536 % 2) 0 s, le-ltb x 262144 l))
+
+    module _ (s : x / 65536 % 2 ≡ 0 → ⊥) where
+      pub barred-user : x < 262144 → Barred (User (x % 65536)) ≡ literalIn x
+      barred-user l = sym (simp (le-ltb x 65536 h, ne-eqb (x / 65536 % 2) 0 s, lt-ltb x 262144 l))
+
+      pub barred-thread : 262144 ≤ x → Barred (ThreadKey (x % 65536)) ≡ literalIn x
+      barred-thread l = sym (simp (le-ltb x 65536 h, ne-eqb (x / 65536 % 2) 0 s, le-ltb x 262144 l))

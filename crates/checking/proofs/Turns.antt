@@ -12,7 +12,7 @@ use lib.ListN.{length, drop, drop-of-length-le}
 use lib.Seq.{drop-cons}
 use borrow.Author.Tests.{eq-eqb, ne-eqb, eqb-true}
 use Rattle.product.specs.declared.literal.Literal.{Literal}
-use Rattle.product.specs.Atom.{agrees}
+use Rattle.product.specs.Atom.{agrees, atomOf}
 use Rattle.product.specs.Product.{Product, opens}
 use Rattle.model.specs.Lists.{any, first, isSome, each}
 use Rattle.model.specs.Limits.{mostFrames}
@@ -21,7 +21,8 @@ use Rattle.model.specs.Operations.{shares, deny}
 use Rattle.model.specs.Cells.{Row, Table, cell, rowAt, frameCount, literalIn, usedRows, productIn}
 use Rattle.model.proofs.Lists.{caseBool, clash, each-snoc}
 use Rattle.checking.specs.Deciding.{keysAt, opensRow, isDeny, headOf, openingOf}
-use Rattle.checking.specs.Steps.{hasCode, inherited, deniesFrom}
+use Rattle.checking.specs.Steps.{hasCode, inherited, listable, deniesFrom}
+use Rattle.checking.proofs.Codes.{literal-listable}
 
 step-down : (i : ℕ) → 0 < i → i ≡ suc (i - 1)
 step-down i h = omega arith
@@ -76,11 +77,14 @@ and-false true = refl
 and-false false = refl
 
 module _ {keys : KeySet} {v : Row} {k : ℕ} (l : Left keys v k) where
+  pub left-listable : (x : Literal) → x ≡ literalIn (cell v k) → listable (atomOf x) ≡ true
+  left-listable x i = ap (λ (y : Literal). listable (atomOf y)) i ∙ literal-listable (cell v k)
+
   pub left-end : k ≡ 0 → opens keys (productIn v .product) ≡ true
   unfolding opens
   left-end z = l .rest ∙ ap (λ (j : ℕ). opens keys (literals v j)) z
 
-  module _ (z : k ≡ 0 → ⊥) (b : Bool) (e : b ≡ agrees keys (literalIn (cell v k))) where
+  module _ (z : k ≡ 0 → ⊥) (x : Literal) (i : x ≡ literalIn (cell v k)) (b : Bool) (e : b ≡ agrees keys x) where
     last : opens keys (literals v k) ≡ (opens keys (literals v (k - 1)) && b)
     last =
         let s : k ≡ suc (k - 1) = omega (arith, z) in
@@ -89,7 +93,7 @@ module _ {keys : KeySet} {v : Row} {k : ℕ} (l : Left keys v k) where
         ∙ ap (opens keys) (each-snoc (λ i. literalIn (cell v i)) 1 (k - 1))
         ∙ opens-last keys (literals v (k - 1)) (literalIn (cell v (1 + (k - 1))))
         ∙ ap (λ (i : ℕ). opens keys (literals v (k - 1)) && agrees keys (literalIn (cell v i))) j
-        ∙ ap (λ (a : Bool). opens keys (literals v (k - 1)) && a) (sym e)
+        ∙ ap (λ (a : Bool). opens keys (literals v (k - 1)) && a) (sym (e ∙ ap (agrees keys) i))
 
     pub left-hit : b ≡ true → Left keys v (k - 1)
     left-hit q = record { rest = l .rest ∙ last ∙ ap (λ (a : Bool). opens keys (literals v (k - 1)) && a) q ∙ and-true (opens keys (literals v (k - 1))) }

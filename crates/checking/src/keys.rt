@@ -1,18 +1,22 @@
-// The key search: whether a thread's key set has a key. The codes are compared, and no key is made of them.
+// The literal of a cell, and whether a thread's key set agrees with it.
 ghost use mathlib.Core.Path.{_≡_};
+ghost use mathlib.Core.Bool.{true};
 ghost use Prim.Native.Nat.{_≤_};
-ghost use Rattle.product.specs.Atom.{agrees};
+ghost use Rattle.product.specs.Atom.{agrees, atomOf};
 ghost use Rattle.model.specs.Cells.{literalIn};
 ghost use Rattle.checking.specs.Deciding.{keysAt};
-ghost use Rattle.checking.specs.Steps.{hasCode, inherited, ownNumber, Clamped};
+ghost use Rattle.checking.specs.Steps.{hasCode, inherited, listable, Clamped};
 use model::arrays::BARRED_LISTED;
 use model::arrays::BARRED_OWN;
+use model::arrays::DEFINED_CODES;
 use model::arrays::LISTED_CELLS;
 use model::arrays::NUMBER;
 use model::arrays::Row;
 use model::arrays::THREAD_CELLS;
 use model::arrays::Thread;
 use model::arrays::USER;
+use product::literal::Key;
+use product::literal::Literal;
 
 const MOST_FRAMES: usize = 16;
 
@@ -24,34 +28,75 @@ pub(crate) fn clamp(frames: u16) -> usize
     if n <= MOST_FRAMES { n } else { MOST_FRAMES }
 }
 
-// Whether the key set of the thread, with that many frames, agrees with the literal that x stands for.
-pub(crate) fn agrees(thread: &Thread, depth: usize, x: u32) -> bool
-    requires { ⌜ depth ≤ 16 ⌝ }
-    ensures { λ r. ⌜ r ≡ agrees (keysAt (now (thread .entry)) depth) (literalIn x) ⌝ }
+// The literal that a cell of a product row stands for.
+pub(crate) fn literal_in(x: u32) -> Literal
+    ensures { λ r. ⌜ r ≡ literalIn x ⌝ }
 {
     if x < BARRED_LISTED {
-        return inherits(thread, depth, x as u16);
-    }
-    if x < LISTED_CELLS {
-        return !inherits(thread, depth, (x - BARRED_LISTED) as u16);
-    }
-    let own = own_number(thread, x);
-    let number = (x % LISTED_CELLS) as u16;
-    if x / BARRED_OWN % 2 == 0 {
-        own == number
+        let code = x as u16;
+        if code < DEFINED_CODES {
+            Literal::Plain(Key::Segment(code))
+        } else {
+            Literal::Plain(Key::Defined(code - DEFINED_CODES))
+        }
+    } else if x < LISTED_CELLS {
+        let code = (x - BARRED_LISTED) as u16;
+        if code < DEFINED_CODES {
+            Literal::Barred(Key::Segment(code))
+        } else {
+            Literal::Barred(Key::Defined(code - DEFINED_CODES))
+        }
     } else {
-        own != number
+        let number = (x % LISTED_CELLS) as u16;
+        if x / BARRED_OWN % 2 == 0 {
+            if x < THREAD_CELLS {
+                Literal::Plain(Key::User(number))
+            } else {
+                Literal::Plain(Key::Thread(number))
+            }
+        } else {
+            if x < THREAD_CELLS {
+                Literal::Barred(Key::User(number))
+            } else {
+                Literal::Barred(Key::Thread(number))
+            }
+        }
     }
 }
 
-// The number that a U or R key is compared with: the user's or the thread's.
-fn own_number(thread: &Thread, x: u32) -> u16
-    ensures { λ r. ⌜ r ≡ ownNumber (now (thread .entry)) x ⌝ }
+// Whether the key set of the thread, with that many frames, agrees with the literal: a plain key is in it, a barred one is not. Its U and R keys are
+// the user's and the thread's own, its S and D keys those that the frames hand over, asked for by their code in a key list.
+pub(crate) fn agrees(thread: &Thread, depth: usize, literal: Literal) -> bool
+    requires { ⌜ (depth ≤ 16) × (listable (atomOf literal) ≡ true) ⌝ }
+    ensures { λ r. ⌜ r ≡ agrees (keysAt (now (thread .entry)) depth) literal ⌝ }
 {
-    if x < THREAD_CELLS {
-        thread[0][USER]
-    } else {
-        thread[0][NUMBER]
+    match literal {
+        Literal::Plain(key) => {
+            let code = match key {
+                Key::User(n) => {
+                    return thread[0][USER] == n;
+                }
+                Key::Thread(n) => {
+                    return thread[0][NUMBER] == n;
+                }
+                Key::Segment(n) => n,
+                Key::Defined(n) => n + DEFINED_CODES,
+            };
+            inherits(thread, depth, code)
+        }
+        Literal::Barred(key) => {
+            let code = match key {
+                Key::User(n) => {
+                    return thread[0][USER] != n;
+                }
+                Key::Thread(n) => {
+                    return thread[0][NUMBER] != n;
+                }
+                Key::Segment(n) => n,
+                Key::Defined(n) => n + DEFINED_CODES,
+            };
+            !inherits(thread, depth, code)
+        }
     }
 }
 

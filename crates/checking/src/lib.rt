@@ -7,6 +7,7 @@ ghost use Rattle.checking.specs.Deciding.{openingOf, headVerdict};
 ghost use Rattle.checking.specs.Steps.{deniesFrom};
 use crate::keys::agrees;
 use crate::keys::clamp;
+use crate::keys::literal_in;
 use model::answer::Answer;
 use model::answer::Refusal;
 use model::arrays::FRAMES;
@@ -64,7 +65,8 @@ pub fn opening(thread: &Thread, products: &Products, operation: u32) -> u32
                     }
                     break;
                 }
-                if !agrees(thread, depth, products[p][k]) {
+                let literal = literal_in(products[p][k]);
+                if !agrees(thread, depth, literal) {
                     break;
                 }
                 k -= 1;

@@ -66,6 +66,17 @@ every-atom (and t u) = both-and (every-atom t) (every-atom u)
 every-atom (term t) = every-atom t
 every-atom (or t u) = both-and (every-atom t) (every-atom u)
 
+-- what every atom is one of, it is one of more
+pub every-more : (f g : Atom → Bool) → ((a : Atom) → f a ≡ true → g a ≡ true) → {l : Level} (t : Tree l) → everyAtom f t ≡ true → everyAtom g t ≡ true
+unfolding everyAtom
+every-more f g m (atom a) h = m a h
+every-more f g m (negate t) h = every-more f g m t h
+every-more f g m (bracket t) h = every-more f g m t h
+every-more f g m (factor t) h = every-more f g m t h
+every-more f g m (and t u) h = let b = and-both (everyAtom f t) (everyAtom f u) h in both-and (every-more f g m t (b .0)) (every-more f g m u (b .1))
+every-more f g m (term t) h = every-more f g m t h
+every-more f g m (or t u) h = let b = and-both (everyAtom f t) (everyAtom f u) h in both-and (every-more f g m t (b .0)) (every-more f g m u (b .1))
+
 -- what the tree's literals have as products, and AND and OR keep, every product has
 module _
     {P : Product → Type 0}

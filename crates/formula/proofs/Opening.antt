@@ -1,7 +1,7 @@
 -- The opening law of an accepted text, its bounds, and with them the laws of the compiler. Assumes nothing.
 use mathlib.Core.Path.{_≡_, refl, sym, ap, _∙_}
 use mathlib.Core.Bool.{true, false}
-use mathlib.Core.List.{[], _∷_}
+use mathlib.Core.List.{List, [], _∷_}
 use mathlib.Core.Option.{some}
 use Prim.Native.Nat.{ℕ, _≤_}
 use native.Mathlib.Omega.{arith}
@@ -9,7 +9,8 @@ use lib.Dec.{leb, ltb}
 use lib.ListN.{length}
 use borrow.Author.Tests.{leb-true, ltb-true}
 use Rattle.product.specs.declared.literal.Literal.{Literal}
-use Rattle.product.specs.Atom.{numberOf, atomOf}
+use Rattle.product.specs.declared.literal.Key.the-variants.{User, Thread, Segment, Defined}
+use Rattle.product.specs.Atom.{Atom, numberOf, atomOf}
 use Rattle.product.specs.Product.{All, no-more, and-more}
 use Rattle.product.specs.Sum.{Sum, opensAny, narrow, fitsNode}
 use Rattle.product.specs.Code.{Numbered}
@@ -20,13 +21,13 @@ use Rattle.product.proofs.Storing.{sum-back}
 use Rattle.product.proofs.Ordered.{Ordered, ordered-once}
 use Rattle.formula.specs.declared.text.Issued.{Issued}
 use Rattle.formula.specs.Tree.{ors, Tree}
-use Rattle.formula.specs.Text.{issuedOf, issuedTo, allIssued}
+use Rattle.formula.specs.Text.{Text, issuedOf, issuedTo, allIssued}
 use Rattle.formula.specs.Nodes.{products, fits}
 use Rattle.formula.specs.Outcome.{Outcome, accepted, tooWide, judgeList, outcomeOf}
-use Rattle.formula.specs.Compiler.{Kept, Bounded, Laws}
+use Rattle.formula.specs.Compiler.{Kept, Bounded, everything, Laws}
 use Rattle.formula.specs.Opening.{Opened, OpeningLaw, AcceptedWhere, textHolds, HoldsSpelt, StoredLaw, StoredOpens}
 use Rattle.formula.proofs.Reading.{reader-complete}
-use Rattle.formula.proofs.Nodes.{opening, every-atom, products-ordered, products-atoms, products-witness, fits-node}
+use Rattle.formula.proofs.Nodes.{opening, every-atom, every-more, products-ordered, products-atoms, products-witness, fits-node}
 use Rattle.formula.proofs.Judging.{outcome-text, Judged, formula, none-such, judged, list-fits, judged-fits, judged-accepted}
 
 -- the bounds
@@ -102,6 +103,24 @@ unfolding textHolds
 holds-spelt i s t h ρ =
     rw (reader-complete (λ a. true) s t (record { spelt = h .spelt; shallow = h .shallow; known-atoms = every-atom t }))
 
+-- a text under some counts is one under the greatest
+
+issued-everywhere : (i : Issued) (a : Atom) → issuedTo i a ≡ true → issuedTo everything a ≡ true
+unfolding issuedTo
+issued-everywhere i (User n) h = let b = and-both (ltb n 65536) (ltb n (i .users)) h in simp (b .0)
+issued-everywhere i (Thread n) h = let b = and-both (ltb n 65536) (ltb n (i .threads)) h in simp (b .0)
+issued-everywhere i (Segment n) h = let b = and-both (ltb n 65536) (ltb n (i .segments)) h in simp (b .0)
+issued-everywhere i (Defined n) h = let b = and-both (ltb n 65536) (ltb n (i .defined)) h in simp (b .0)
+
+text-everywhere : (i : Issued) (s : List ℕ) (t : Tree ors) → Text i s t → Text everything s t
+text-everywhere i s t h =
+    record { spelt = h .spelt; size = h .size; short = h .short; shallow = h .shallow; issued = every-more (issuedTo i) (issuedTo everything) (issued-everywhere i) t (h .issued) }
+
+compiled-everywhere : (i : Issued) (s : List ℕ) (ps : Sum) → outcomeOf i s ≡ accepted ps → outcomeOf everything s ≡ accepted ps
+compiled-everywhere i s ps e =
+    let o = opening-law i s ps e in
+    accepted-where everything s (o .tree) (text-everywhere i s (o .tree) (o .text)) (o .fit) (o .witness .0) (o .witness .1) ∙ ap accepted (sym (o .list))
+
 -- the laws of the compiler, of that formula
 pub laws : Laws outcomeOf textHolds
 laws =
@@ -109,6 +128,7 @@ laws =
       opening = λ i s ps e ρ. let o = opening-law i s ps e in o .law ρ ∙ sym (holds-spelt i s (o .tree) (o .text) ρ);
       bounds = λ i s ps e. opening-law i s ps e .bounds;
       issued = λ i s ps e. let o = opening-law i s ps e in rw (o .list) (products-atoms (issuedTo i) false (o .tree) (o .text .issued));
+      everywhere = compiled-everywhere;
     }
 
 -- what is stored

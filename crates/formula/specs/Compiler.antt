@@ -33,6 +33,10 @@ pub record Bounded (ps : Sum) : Type 0 where
 abbrev pub Meaning : Type 0
 Meaning = (Atom → Bool) → List ℕ → Bool
 
+-- every key there can be is handed out
+abbrev pub everything : Issued
+everything = record { users = 65536; threads = 65536; segments = 65536; defined = 65536 }
+
 -- A compiler keeps a meaning. This crate's is `outcomeOf` and keeps `textHolds`: `laws` in `proofs/Opening.antt`.
 pub record Laws (compile : Compiler) (holds : Meaning) : Type 0 where
   -- a key set opens a product of an accepted text exactly where the formula is true of it
@@ -40,3 +44,5 @@ pub record Laws (compile : Compiler) (holds : Meaning) : Type 0 where
   pub bounds : (i : Issued) (s : List ℕ) (ps : Sum) → compile i s ≡ accepted ps → Bounded ps
   -- its keys are handed out
   pub issued : (i : Issued) (s : List ℕ) (ps : Sum) → compile i s ≡ accepted ps → All (λ p. All (λ x. issuedTo i (atomOf x) ≡ true) p) ps
+  -- its products are the text's, whatever keys were handed out when it was compiled
+  pub everywhere : (i : Issued) (s : List ℕ) (ps : Sum) → compile i s ≡ accepted ps → compile everything s ≡ accepted ps

@@ -12,8 +12,13 @@ use Rattle.model.specs.Cells.{Cells, stepCells}
 use Rattle.model.specs.Serving.{Serves, Answers}
 
 module _ (d d′ : Cells) (r : Answer) where
-  pub as-request : (text : List ℕ) (q : Request) {q′ : Request} → q ≡ q′ → Serves d q′ text r d′ → Serves d q text r d′
-  as-request text q e s = rw e s
+  -- a request is served by its call's function, which is lent some of the arrays
+  module _ (text : List ℕ) (q : Request) {q′ : Request} (e : q ≡ q′) (lent left : Cells → Cells) where
+    pub with-text : ((x : Cells) → Serves (lent x) q′ text r (left x)) → lent d ≡ d → left d ≡ d′ → Serves d q text r d′
+    with-text s before after = let h = s d in rw e (rw (before, after) at h)
+
+    pub as-request : ((t : List ℕ) (x : Cells) → Serves (lent x) q′ t r (left x)) → lent d ≡ d → left d ≡ d′ → Serves d q text r d′
+    as-request s = with-text (s text)
 
   -- a well formed call is its request
   pub as-call : (x : Call) (q : Request) → decoded x ≡ WellFormed q → Serves d q (x .text) r d′ → Answers d x r d′

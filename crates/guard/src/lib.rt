@@ -1,7 +1,8 @@
 // The guard: the one entry for the twelve calls, on the arrays that the host lends.
 ghost use mathlib.Core.Path.{_≡_};
 ghost use Rattle.call.specs.Calls.{callWith};
-ghost use Rattle.model.specs.Serving.{cellsWith, Serves, Answers};
+ghost use Rattle.model.specs.Cells.{cellsWith};
+ghost use Rattle.model.specs.Serving.{Serves, Answers};
 use call::request::Decoded;
 use call::request::Request;
 use call::request::decode;
@@ -38,7 +39,12 @@ pub fn call(
     c: u16,
     text: &[u8],
 ) -> Answer
-    ensures { λ r. ⌜ Answers (cellsWith (now (registry .entry)) (now (makers .entry)) (now (segments .entry)) (now (locks .entry)) (now (threads .entry))) (callWith letter a b c (now (text .entry))) r (cellsWith (now (registry .exit)) (now (makers .exit)) (now (segments .exit)) (now (locks .exit)) (now (threads .exit))) ⌝ }
+    ensures { λ r. ⌜ Answers
+        (cellsWith (now (registry .entry)) (now (makers .entry)) (now (segments .entry)) (now (locks .entry))
+        (now (threads .entry)))
+        (callWith letter a b c (now (text .entry))) r
+        (cellsWith (now (registry .exit)) (now (makers .exit)) (now (segments .exit)) (now (locks .exit))
+        (now (threads .exit))) ⌝ }
 {
     match decode(letter, a, b, c, text.len()) {
         Decoded::Corrupt => Answer::Refused(Refusal::Corrupt),
@@ -64,7 +70,12 @@ fn serve(
     request: Request,
     text: &[u8],
 ) -> Answer
-    ensures { λ r. ⌜ Serves (cellsWith (now (registry .entry)) (now (makers .entry)) (now (segments .entry)) (now (locks .entry)) (now (threads .entry))) request (now (text .entry)) r (cellsWith (now (registry .exit)) (now (makers .exit)) (now (segments .exit)) (now (locks .exit)) (now (threads .exit))) ⌝ }
+    ensures { λ r. ⌜ Serves
+        (cellsWith (now (registry .entry)) (now (makers .entry)) (now (segments .entry)) (now (locks .entry))
+        (now (threads .entry)))
+        request (now (text .entry)) r
+        (cellsWith (now (registry .exit)) (now (makers .exit)) (now (segments .exit)) (now (locks .exit))
+        (now (threads .exit))) ⌝ }
 {
     match request {
         Request::NewUser => new_user(registry),

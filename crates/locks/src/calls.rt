@@ -1,10 +1,9 @@
 // L and D.
 ghost use mathlib.Core.Path.{_≡_};
-ghost use mathlib.Core.List.{List};
-ghost use Prim.Native.Nat.{ℕ, _<_};
+ghost use Prim.Native.Nat.{_<_};
 ghost use Rattle.call.specs.declared.request.Request.the-variants.{AddLock, DropLock};
-ghost use Rattle.model.specs.Cells.{Row, Table};
-ghost use Rattle.model.specs.Serving.{cellsWith, Serves};
+ghost use Rattle.model.specs.Cells.{registryIs, makersAre, segmentsAre, locksAre, _and_};
+ghost use Rattle.model.specs.Serving.{ServesText, ServesLent};
 ghost use Rattle.locks.specs.Steps.{issuedIn, LockJudged, LockStored};
 use crate::rows::add_rows;
 use crate::rows::drop_rows;
@@ -48,7 +47,11 @@ pub fn add_lock(
     operations: u16,
     text: &[u8],
 ) -> Answer
-    ensures { λ r. ⌜ ((threads : List Table) → Serves (cellsWith (now (registry .entry)) (now (makers .entry)) (now (segments .entry)) (now (locks .entry)) threads) (AddLock user segment operations) (now (text .entry)) r (cellsWith (now (registry .exit)) (now (makers .entry)) (now (segments .entry)) (now (locks .exit)) threads)) ⌝ }
+    ensures { λ r. ⌜ ServesText
+        (registryIs (now (registry .entry)) and makersAre (now (makers .entry))
+        and segmentsAre (now (segments .entry)) and locksAre (now (locks .entry)))
+        (AddLock user segment operations) (now (text .entry)) r
+        (registryIs (now (registry .exit)) and locksAre (now (locks .exit))) ⌝ }
 {
     if !is_user(registry, user) {
         return Answer::Refused(Refusal::UnknownUser);
@@ -139,7 +142,10 @@ pub fn drop_lock(
     user: u16,
     lock: u16,
 ) -> Answer
-    ensures { λ r. ⌜ ((makers : Row) (threads : List Table) (text : List ℕ) → Serves (cellsWith (now (registry .entry)) makers (now (segments .entry)) (now (locks .entry)) threads) (DropLock user lock) text r (cellsWith (now (registry .entry)) makers (now (segments .entry)) (now (locks .exit)) threads)) ⌝ }
+    ensures { λ r. ⌜ ServesLent
+        (registryIs (now (registry .entry)) and segmentsAre (now (segments .entry)) and locksAre (now (locks .entry)))
+        (DropLock user lock) r
+        (locksAre (now (locks .exit))) ⌝ }
 {
     if !is_user(registry, user) {
         return Answer::Refused(Refusal::UnknownUser);

@@ -26,7 +26,7 @@ use Rattle.model.specs.declared.answer.Refusal.{Refusal}
 use Rattle.model.specs.Lists.{orDefault, tailOf}
 use Rattle.model.specs.Limits.{mostUsers, mostThreads, mostSegments, mostDefined, mostListed, mostStanding, mostFrames, mostNumbers, passes}
 use Rattle.model.specs.Threads.{Thread, sameKey}
-use Rattle.model.specs.Model.{State, emptyState, Segment, nowhere, segmentAt, Place, free, taken, isFree, liveIn, threadIn, nobody, placeFor, placeOf, threadAt, isOfLock, homeOf, issued, conditions, withPlaces, withSegments, onSegment, onThread, atPlace, pushFrame, popFrame, giveKey, takeKey, lockProduct, addProducts, dropProducts, update, judged, stepDecoded, step}
+use Rattle.model.specs.Model.{State, emptyState, Segment, nowhere, segmentAt, Place, free, taken, isFree, liveIn, threadIn, nobody, placeFor, placeOf, threadAt, isOfLock, homeOf, issued, conditions, withUsers, withThreadNumbers, withLockNumbers, withMakers, withSegments, withPlaces, onSegment, onThread, atPlace, pushFrame, popFrame, giveKey, takeKey, lockProduct, addProducts, dropProducts, update, judged, stepDecoded, step}
 use Rattle.model.specs.Replay.{stateAfter}
 use Rattle.model.specs.Bounds.{Within, BoundsAlways, Bounds}
 use Rattle.model.proofs.Lists.{length-keep, length-append-one, Everywhere, everywhere-set, everywhere-append-one, everywhere-replicate}
@@ -94,6 +94,32 @@ kept-within d k =
       lockNumbers = k .lockNumbers;
     }
 
+-- a part within its limit in the place of what was there
+module _ {d : State} (k : Kept d) where
+  with-users : (x : ℕ) → x ≤ mostUsers → Kept (withUsers d x)
+  with-users x h =
+      record { users = h; threadNumbers = k .threadNumbers; lockNumbers = k .lockNumbers; defined = k .defined; segments = k .segments; places = k .places }
+
+  with-thread-numbers : (x : ℕ) → x ≤ mostNumbers → Kept (withThreadNumbers d x)
+  with-thread-numbers x h =
+      record { users = k .users; threadNumbers = h; lockNumbers = k .lockNumbers; defined = k .defined; segments = k .segments; places = k .places }
+
+  with-lock-numbers : (x : ℕ) → x ≤ mostNumbers → Kept (withLockNumbers d x)
+  with-lock-numbers x h =
+      record { users = k .users; threadNumbers = k .threadNumbers; lockNumbers = h; defined = k .defined; segments = k .segments; places = k .places }
+
+  with-makers : (x : List ℕ) → length x ≤ mostDefined → Kept (withMakers d x)
+  with-makers x h =
+      record { users = k .users; threadNumbers = k .threadNumbers; lockNumbers = k .lockNumbers; defined = h; segments = k .segments; places = k .places }
+
+  with-segments : (x : List Segment) → SegmentsKept x → Kept (withSegments d x)
+  with-segments x h =
+      record { users = k .users; threadNumbers = k .threadNumbers; lockNumbers = k .lockNumbers; defined = k .defined; segments = h; places = k .places }
+
+  with-places : (x : List Place) → PlacesKept x → Kept (withPlaces d x)
+  with-places x h =
+      record { users = k .users; threadNumbers = k .threadNumbers; lockNumbers = k .lockNumbers; defined = k .defined; segments = k .segments; places = h }
+
 -- ---- each part under each kind of change
 
 places-set : (places : List Place) → PlacesKept places → (i : ℕ) (p : Place) → Shallow p → PlacesKept (set places i p)
@@ -152,45 +178,24 @@ module _ (compile : Compiler) (d : State) (k : Kept d) (text : List ℕ) where
   abbrev Keeps : Request → Type 0
   Keeps q = firstRefusal (conditions compile d q text) ≡ none → Kept (update compile d q text)
 
-  with-places : (places : List Place) → PlacesKept places → Kept (withPlaces d places)
-  with-places places h =
-      record { users = k .users; threadNumbers = k .threadNumbers; lockNumbers = k .lockNumbers; defined = k .defined; segments = k .segments; places = h }
-
-  with-segments : (segments : List Segment) → SegmentsKept segments → Kept (withSegments d segments)
-  with-segments segments h =
-      record { users = k .users; threadNumbers = k .threadNumbers; lockNumbers = k .lockNumbers; defined = k .defined; segments = h; places = k .places }
-
   at-place : (a : ℕ) (f : Place → Place) → Shallow (f (getD (d .places) (placeOf a (d .places)) free)) → Kept (atPlace d a f)
-  at-place a f h = with-places _ (places-set (d .places) (k .places) (placeOf a (d .places)) _ h)
+  at-place a f h = with-places k _ (places-set (d .places) (k .places) (placeOf a (d .places)) _ h)
 
   on-segment : (s : ℕ) (f : Segment → Segment) → SegmentKept (f (segmentAt d s)) → Kept (onSegment d s f)
-  on-segment s f h = with-segments _ (segments-set (d .segments) (k .segments) s (f (segmentAt d s)) h)
+  on-segment s f h = with-segments k _ (segments-set (d .segments) (k .segments) s (f (segmentAt d s)) h)
 
   keep-user : Keeps NewUser
   unfolding conditions update
-  keep-user e =
-      record {
-        users = within mostUsers (suc (d .users)) (all-fail (conditions compile d NewUser text) e .0);
-        threadNumbers = k .threadNumbers;
-        lockNumbers = k .lockNumbers;
-        defined = k .defined;
-        segments = k .segments;
-        places = k .places;
-      }
+  keep-user e = with-users k _ (within mostUsers (suc (d .users)) (all-fail (conditions compile d NewUser text) e .0))
 
   keep-start : (a : ℕ) → Keeps (StartThread a)
   unfolding conditions update
   keep-start a e =
       let full = all-fail (conditions compile d (StartThread a) text) e .1 .0 in
       let numbers = neither (passes mostThreads (suc (liveIn (d .places)))) (passes mostNumbers (suc (d .threadNumbers))) full .1 in
-      record {
-        users = k .users;
-        threadNumbers = within mostNumbers (suc (d .threadNumbers)) numbers;
-        lockNumbers = k .lockNumbers;
-        defined = k .defined;
-        segments = k .segments;
-        places = places-set (d .places) (k .places) (placeFor (d .threadNumbers) isFree (d .places)) _ zero-le;
-      }
+      with-thread-numbers
+      (with-places k _ (places-set (d .places) (k .places) (placeFor (d .threadNumbers) isFree (d .places)) _ zero-le))
+      _ (within mostNumbers (suc (d .threadNumbers)) numbers)
 
   keep-end : (a : ℕ) → Keeps (EndThread a)
   unfolding conditions update
@@ -201,7 +206,7 @@ module _ (compile : Compiler) (d : State) (k : Kept d) (text : List ℕ) where
   keep-segment a b e =
       let full = all-fail (conditions compile d (NewSegment a b) text) e .1 .1 .0 in
       let room = within mostSegments (suc (length (d .segments))) full in
-      with-segments _ (segments-add (d .segments) (k .segments) _ (record { listed = suc-le-suc zero-le; products = zero-le }) room)
+      with-segments k _ (segments-add (d .segments) (k .segments) _ (record { listed = suc-le-suc zero-le; products = zero-le }) room)
 
   keep-key : (a : ℕ) → Keeps (NewKey a)
   unfolding conditions update
@@ -209,14 +214,7 @@ module _ (compile : Compiler) (d : State) (k : Kept d) (text : List ℕ) where
       let more : length (d .makers ++ a ∷ []) ≡ suc (length (d .makers)) = length-append-one (d .makers) a in
       let full = all-fail (conditions compile d (NewKey a) text) e .1 .0 in
       let room : suc (length (d .makers)) ≤ mostDefined = within mostDefined (suc (length (d .makers))) full in
-      record {
-        users = k .users;
-        threadNumbers = k .threadNumbers;
-        lockNumbers = k .lockNumbers;
-        defined = omega arith;
-        segments = k .segments;
-        places = k .places;
-      }
+      with-makers k _ (omega arith)
 
   keep-give : (a b c : ℕ) → Keeps (GiveKey a b c)
   unfolding conditions update
@@ -237,14 +235,7 @@ module _ (compile : Compiler) (d : State) (k : Kept d) (text : List ℕ) where
       let full = all-fail (conditions compile d (AddLock a b c) text) e .1 .1 .1 .1 .1 .1 .1 .0 in
       let (products, numbers) = neither (passes mostStanding n) (passes mostNumbers (suc (d .lockNumbers))) full in
       let more = add-kept (d .lockNumbers) c ps (segmentAt d b) (k .segments .each b) (within mostStanding n products) in
-      record {
-        users = k .users;
-        threadNumbers = k .threadNumbers;
-        lockNumbers = within mostNumbers (suc (d .lockNumbers)) numbers;
-        defined = k .defined;
-        segments = segments-set (d .segments) (k .segments) b _ more;
-        places = k .places;
-      }
+      with-lock-numbers (with-segments k _ (segments-set (d .segments) (k .segments) b _ more)) _ (within mostNumbers (suc (d .lockNumbers)) numbers)
 
   keep-drop : (a b : ℕ) → Keeps (DropLock a b)
   unfolding conditions update

@@ -33,6 +33,9 @@ examples =
       backHappens = refl;
       deepHappens = refl;
       editsHappen = refl;
+      standingHappens = refl;
+      standingCode = refl;
+      standingSheet = refl;
       callFits = record { wellFormed = refl; known = refl; entry = _; handedOut = refl; taken = refl };
       callLive = refl;
       accessFits = record { wellFormed = refl; known = refl; entry = _; handedOut = refl; taken = refl };

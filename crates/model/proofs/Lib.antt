@@ -15,7 +15,9 @@ pub mod Widths
 pub mod Granting
 pub mod Numbering
 pub mod Mirror
+pub mod StoredLocks
 pub mod Refusing
+pub mod LockTexts
 pub mod Bounds
 pub mod Examples
 pub mod Trials

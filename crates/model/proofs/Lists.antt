@@ -2,27 +2,22 @@
 use mathlib.Core.Path.{_≡_, refl, sym, ap, subst, _∙_}
 use mathlib.Core.Logic.{_≢_}
 use mathlib.Core.Bool.{Bool, true, false, _&&_, _||_, cond, true≢false, false≢true, or-assoc}
-use mathlib.Core.List.{List, [], _∷_, _++_, map, append-assoc, List·Memᴰ, List·Memᴰ·head, List·Memᴰ·tail}
+use mathlib.Core.List.{List, [], _∷_, _++_, map, append-nil, append-assoc, List·Memᴰ, List·Memᴰ·head, List·Memᴰ·tail}
 use mathlib.Core.Option.{Option, none, some}
 use Prim.Native.Nat.{ℕ, zero, suc, _+_, _≤_, _<_, zero-le, suc-le-suc}
 use native.Mathlib.Omega.{arith}
 use native.Mathlib.Nat.{add-zero, add-suc, suc-add, le-of-suc-le-suc, not-suc-le-zero}
 use lib.Dec.{eqb, eqb·suc-suc, eqb·suc-zero, eqb·zero-suc}
-use lib.ListN.{length, getD, set, replicate, getElem?, length-set}
+use lib.ListN.{length, getD, set, replicate, getElem?, length-set, length-append}
 use lib.Seq.{sets, getD-set-same, getD-set-other, ext-getD}
 use borrow.Author.Tests.{eqb-true, eqb-false, eq-eqb}
-use Rattle.model.specs.Lists.{any, keep, first, isSome, indexOf, each, mapOption, put, adjust}
+use Rattle.model.specs.Lists.{any, keep, first, isSome, indexOf, each, concatMap, total, mapOption, put, adjust}
 
 -- every element
 module _ {A : Type 0} where
   abbrev pub All : (A → Type 0) → List A → Type 0
   All P [] = Unit {0}
   All P (x ∷ xs) = P x × All P xs
-
--- what f gives of each element, one after the other
-abbrev pub concatMap : {A B : Type 0} → (A → List B) → List A → List B
-concatMap f [] = []
-concatMap f (x ∷ xs) = f x ++ concatMap f xs
 
 pub caseBool {ℓ} : {A : Type ℓ} (b : Bool) → (b ≡ true → A) → (b ≡ false → A) → A
 caseBool true t f = t refl
@@ -104,6 +99,10 @@ module _ {A : Type 0} where
   keep-all p [] h = refl
   keep-all p (x ∷ xs) h = simp (h .0, keep-all p xs (h .1))
 
+  pub keep-none : (p : A → Bool) (xs : List A) → any p xs ≡ false → keep p xs ≡ []
+  keep-none p [] h = refl
+  keep-none p (x ∷ xs) h = caseBool (p x) (λ e. clash (any-passes p x (x ∷ xs) (List·Memᴰ·head refl) e) h) (λ e. simp e (keep-none p xs (rw e at h)))
+
   pub keep-keep : (p q : A → Bool) (xs : List A) → keep p (keep q xs) ≡ keep q (keep p xs)
   keep-keep p q [] = refl
   keep-keep p q (x ∷ xs) =
@@ -174,6 +173,10 @@ module _ {A B : Type 0} where
   map-append f [] ys = refl
   map-append f (x ∷ xs) ys = rw (map-append f xs ys)
 
+  pub map-same : (f g : A → B) → ((x : A) → f x ≡ g x) → (xs : List A) → map f xs ≡ map g xs
+  map-same f g h [] = refl
+  map-same f g h (x ∷ xs) = rw (h x, map-same f g h xs)
+
   pub concatMap-append : (f : A → List B) (xs ys : List A) → concatMap f (xs ++ ys) ≡ concatMap f xs ++ concatMap f ys
   concatMap-append f [] ys = refl
   concatMap-append f (x ∷ xs) ys = rw (concatMap-append f xs ys) (sym (append-assoc (f x) (concatMap f xs) (concatMap f ys)))
@@ -181,6 +184,37 @@ module _ {A B : Type 0} where
   pub keep-map : (p : B → Bool) (f : A → B) (xs : List A) → keep p (map f xs) ≡ map f (keep (λ x. p (f x)) xs)
   keep-map p f [] = refl
   keep-map p f (x ∷ xs) = caseBool (p (f x)) (λ e. simp (e, keep-map p f xs)) (λ e. simp (e, keep-map p f xs))
+
+  pub concatMap-map : {C : Type 0} (g : B → List C) (f : A → B) (xs : List A) → concatMap g (map f xs) ≡ concatMap (λ x. g (f x)) xs
+  concatMap-map g f [] = refl
+  concatMap-map g f (x ∷ xs) = rw (concatMap-map g f xs)
+
+  pub concatMap-same : (f g : A → List B) (xs : List A) → All (λ x. f x ≡ g x) xs → concatMap f xs ≡ concatMap g xs
+  concatMap-same f g [] h = refl
+  concatMap-same f g (x ∷ xs) h = rw (h .0, concatMap-same f g xs (h .1))
+
+  pub length-concatMap : (f : A → List B) (xs : List A) → length (concatMap f xs) ≡ total (map (λ x. length (f x)) xs)
+  length-concatMap f [] = refl
+  length-concatMap f (x ∷ xs) = length-append (f x) (concatMap f xs) ∙ ap (λ (n : ℕ). length (f x) + n) (length-concatMap f xs)
+
+  pub keep-each : (p : B → Bool) (f : A → List B) (xs : List A) → keep p (concatMap f xs) ≡ concatMap (λ x. keep p (f x)) xs
+  keep-each p f [] = refl
+  keep-each p f (x ∷ xs) = keep-append p (f x) (concatMap f xs) ∙ ap (λ (ys : List B). keep p (f x) ++ ys) (keep-each p f xs)
+
+  -- only the element at index s yields something
+  pub concatMap-at : (f : A → List B) (d : A) (ys : List B) → f d ≡ [] → (xs : List A) (s : ℕ)
+      → ((i : ℕ) → f (getD xs i d) ≡ cond (eqb s i) ys []) → concatMap f xs ≡ ys
+  concatMap-at f d ys e [] s h = sym e ∙ h s ∙ rw (eqb-self s)
+  concatMap-at f d ys e (x ∷ xs) zero h =
+      let here : f x ≡ ys = h zero in
+      rw here (ap (λ (zs : List B). ys ++ zs) (nothing xs (λ i. h (suc i) ∙ rw eqb·zero-suc)) ∙ append-nil ys)
+    where
+      nothing : (zs : List A) → ((i : ℕ) → f (getD zs i d) ≡ []) → concatMap f zs ≡ []
+      nothing [] k = refl
+      nothing (z ∷ zs) k = let here : f z ≡ [] = k zero in rw here (nothing zs (λ i. k (suc i)))
+  concatMap-at f d ys e (x ∷ xs) (suc s) h =
+      let here : f x ≡ [] = h zero ∙ rw eqb·suc-zero in
+      rw here (concatMap-at f d ys e xs s (λ i. h (suc i) ∙ rw eqb·suc-suc))
 
   -- a test that is the same for all that x yields
   pub keep-concatMap : (p : B → Bool) (q : A → Bool) (f : A → List B) → ((x : A) → keep p (f x) ≡ cond (q x) (f x) [])

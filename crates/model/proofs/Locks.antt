@@ -1,26 +1,27 @@
 -- The products on the segments and the history's standing locks. A ghost list has the standing locks with their products, in the order of their
 -- numbers; a segment's products are those of the locks on it. So the check is a chain of laws of lists, and the opening law enters at one place.
 -- Assumes nothing.
-use mathlib.Core.Path.{_≡_, refl, sym, ap, _∙_}
+use mathlib.Core.Path.{_≡_, refl, sym, ap, subst, _∙_}
 use mathlib.Core.Bool.{Bool, true, false, _&&_, _||_, not, cond}
 use mathlib.Core.List.{List, [], _∷_, _++_, map, append-nil, List·Memᴰ, List·Memᴰ·head, List·Memᴰ·tail}
 use mathlib.Core.Option.{Option, none, some}
 use Prim.Native.Nat.{ℕ, suc, _≤_, _<_}
 use native.Mathlib.Omega.{arith}
 use lib.Dec.{eqb}
-use lib.ListN.{length, getD, set, length-map}
+use lib.ListN.{length, getD, set}
 use borrow.Author.Tests.{eqb-true, eqb-false, eq-eqb, ne-eqb, lt-ltb}
 use Rattle.product.specs.Product.{Product, opens}
 use Rattle.product.specs.Sum.{Sum, opensAny}
 use Rattle.formula.specs.declared.text.Issued.{Issued}
-use Rattle.formula.specs.Outcome.{accepted}
-use Rattle.formula.specs.Compiler.{Compiler, Meaning, Laws}
+use Rattle.formula.specs.Outcome.{Outcome, accepted, sumIn}
+use Rattle.formula.specs.Compiler.{Compiler, Meaning, Laws, everything}
 use Rattle.call.proofs.Truth.{and-left, and-right}
-use Rattle.model.specs.Lists.{any, keep, first, mapOption, indexOf, rising}
+use Rattle.model.specs.Lists.{any, keep, first, concatMap, mapOption, indexOf, rising}
 use Rattle.model.specs.Threads.{KeySet}
 use Rattle.model.specs.Model.{Segment, LockProduct, lockProduct, opensFor, isOfLock, hasLock, nowhere, addProducts, dropProducts}
 use Rattle.model.specs.History.{Lock}
-use Rattle.model.proofs.Lists.{All, concatMap, caseBool, same-truth, eqb-self, any-found, any-passes, any-at, all-at, any-same, any-map, any-concatMap, any-keep, any-and, from-any, map-append, concatMap-append, keep-append, keep-map, keep-concatMap, keep-keep, keep-idle, first-keep, first-map, first-same, All-map, All-append, All-keep, indexOf-lt, indexOf-passes}
+use Rattle.model.specs.StoredLocks.{standsOn, productsOf, storedOf}
+use Rattle.model.proofs.Lists.{All, caseBool, same-truth, eqb-self, any-found, any-passes, any-at, all-at, any-same, any-map, any-concatMap, any-keep, any-and, from-any, map-append, concatMap-append, concatMap-map, concatMap-same, keep-append, keep-map, keep-concatMap, keep-keep, keep-idle, first-keep, first-map, first-same, All-map, All-append, All-keep, indexOf-lt, indexOf-passes}
 use Rattle.model.proofs.Segments.{productsAt, products-set}
 
 -- a standing lock with its products
@@ -81,7 +82,7 @@ first-lock p (l ∷ ls) =
     first-rows p (l .number) (l .operations) (l .products) (concatMap rowsOf ls)
     ∙ caseBool (any p (rowsOf l)) (λ e. simp e) (λ e. simp e (first-lock p ls))
 
-opens-any : (keys : KeySet) (ps : Sum) → opensAny keys ps ≡ any (opens keys) ps
+pub opens-any : (keys : KeySet) (ps : Sum) → opensAny keys ps ≡ any (opens keys) ps
 unfolding opensAny
 opens-any keys [] = refl
 opens-any keys (p ∷ ps) = ap (λ (b : Bool). opens keys p || b) (opens-any keys ps)
@@ -228,27 +229,48 @@ module _ (compile : Compiler) where
       go [] = caseBool (eqb (l .number) n) (λ e. simp e) (λ e. simp e)
       go (p ∷ ps) = let h = go ps in caseBool (eqb (l .number) n) (λ e. simp e (ap (λ (rs : List LockProduct). lockProduct (l .number) (l .operations) p ∷ rs) (rw e at h))) (λ e. simp e (rw e at h))
 
-  -- what a standing lock has on its segment is what the compiler made of its text
-  pub lock-products : (segments : List Segment) (numbers : ℕ) (locks : List Lock) (c : AgreeLocks segments numbers locks) (l : Lock) → List·Memᴰ l locks
-      → (i : Issued) × (ps : Sum) × (compile i (l .text) ≡ accepted ps) × (length (keep (isOfLock (l .number)) (productsAt segments (l .segment))) ≡ length ps)
-  lock-products segments numbers locks c l m =
-      let n = l .number in
-      let s = l .segment in
-      let (x, e, i, k) = single n (c .standing) (c .rising) l (rw (c .written) at m) refl in
-      let sound = all-at (Sound (c .home) numbers) (c .standing) (c .sound) x i in
-      let on : isOn s x ≡ true = eq-eqb (x .segment) s (ap (λ (z : Lock). z .segment) e) in
-      let rows : keep (isOfLock n) (productsAt segments s) ≡ rowsOf x ++ [] =
-      ap (keep (isOfLock n)) (c .rows s)
-      ∙ keep-concatMap (isOfLock n) (λ y. eqb (y .number) n) rowsOf (own-rows n) (keep (isOn s) (c .standing))
-      ∙ ap (concatMap rowsOf) (keep-keep (λ y. eqb (y .number) n) (isOn s) (c .standing) ∙ ap (keep (isOn s)) k ∙ one on) in (
-        sound .issue,
-        x .products,
-        ap (λ (z : Lock). compile (sound .issue) (z .text)) (sym e) ∙ sound .made,
-        ap length rows ∙ ap length (append-nil (rowsOf x)) ∙ length-map (x .products) (lockProduct (x .number) (x .operations)),
-      )
-    where
-      one : {x : Standing} → isOn (l .segment) x ≡ true → keep (isOn (l .segment)) (x ∷ []) ≡ x ∷ []
-      one h = simp h
+  -- ---- what the segments store
+
+  module _ (meaning : Meaning) (laws : Laws compile meaning) (segments : List Segment) (numbers : ℕ) (locks : List Lock) (c : AgreeLocks segments numbers locks) where
+    -- which keys were handed out when the lock was made makes no difference
+    made-of : (l : Standing) → Sound (c .home) numbers l → compile everything (l .text) ≡ accepted (l .products)
+    made-of l k = laws .everywhere (k .issue) (l .text) (l .products) (k .made)
+
+    rows-stored : (l : Standing) → Sound (c .home) numbers l → rowsOf l ≡ storedOf compile (lockIn l)
+    rows-stored l k = ap (λ (o : Outcome). map (lockProduct (l .number) (l .operations)) (sumIn o)) (sym (made-of l k))
+
+    pub segment-stores : (s : ℕ) → productsAt segments s ≡ concatMap (storedOf compile) (keep (standsOn s) locks)
+    segment-stores s =
+        c .rows s
+        ∙ concatMap-same rowsOf (λ l. storedOf compile (lockIn l)) (keep (isOn s) (c .standing))
+        (All-keep (λ l. rowsOf l ≡ storedOf compile (lockIn l)) (isOn s) (c .standing) (All-map rows-stored (c .standing) (c .sound)))
+        ∙ sym (concatMap-map (storedOf compile) lockIn (keep (isOn s) (c .standing)))
+        ∙ ap (concatMap (storedOf compile)) (sym (keep-map (standsOn s) lockIn (c .standing)) ∙ ap (keep (standsOn s)) (sym (c .written)))
+
+    module _ (l : Lock) (m : List·Memᴰ l locks) where
+      one : (x : Standing) × (lockIn x ≡ l) × List·Memᴰ x (c .standing) × (keep (λ y. eqb (y .number) (l .number)) (c .standing) ≡ x ∷ [])
+      one = single (l .number) (c .standing) (c .rising) l (rw (c .written) at m) refl
+
+      pub lock-made : compile everything (l .text) ≡ accepted (productsOf compile (l .text))
+      lock-made =
+          let (x, e, i, k) = one in
+          let made = made-of x (all-at (Sound (c .home) numbers) (c .standing) (c .sound) x i) in
+          subst (λ (z : Lock). compile everything (z .text) ≡ accepted (productsOf compile (z .text))) e (made ∙ ap (λ (o : Outcome). accepted (sumIn o)) (sym made))
+
+      -- what is stored for a standing lock, on its segment and on any other
+      pub lock-stores : (s : ℕ) → keep (isOfLock (l .number)) (productsAt segments s) ≡ cond (standsOn s l) (storedOf compile l) []
+      lock-stores s =
+          let n = l .number in
+          let (x, e, i, k) = one in
+          ap (keep (isOfLock n)) (c .rows s)
+          ∙ keep-concatMap (isOfLock n) (λ y. eqb (y .number) n) rowsOf (own-rows n) (keep (isOn s) (c .standing))
+          ∙ ap (concatMap rowsOf) (keep-keep (λ y. eqb (y .number) n) (isOn s) (c .standing) ∙ ap (keep (isOn s)) k)
+          ∙ alone x
+          ∙ ap (λ (rs : List LockProduct). cond (isOn s x) rs []) (rows-stored x (all-at (Sound (c .home) numbers) (c .standing) (c .sound) x i))
+          ∙ ap (λ (z : Lock). cond (standsOn s z) (storedOf compile z) []) e
+        where
+          alone : (x : Standing) → concatMap rowsOf (keep (isOn s) (x ∷ [])) ≡ cond (isOn s x) (rowsOf x) []
+          alone x = caseBool (isOn s x) (λ h. simp (h, append-nil)) (λ h. simp h)
 
   -- ---- L and D
 

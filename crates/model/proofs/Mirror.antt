@@ -15,7 +15,7 @@ use Rattle.product.specs.Sum.{Sum}
 use Rattle.formula.specs.declared.text.Issued.{Issued}
 use Rattle.formula.specs.Outcome.{accepted, outcomeOf}
 use Rattle.formula.specs.Opening.{textHolds}
-use Rattle.formula.specs.Compiler.{Compiler}
+use Rattle.formula.specs.Compiler.{Compiler, everything}
 use Rattle.formula.proofs.Opening.{laws, opening-law, holds-spelt}
 use Rattle.call.specs.declared.request.Request.{Request}
 use Rattle.call.specs.declared.request.Request.the-variants.{NewUser, StartThread, EndThread, NewSegment, NewKey, GiveKey, TakeKey, AddLock, DropLock, CallSegment, ReturnCall, Access}
@@ -32,11 +32,11 @@ use Rattle.model.specs.Model.{State, emptyState, Segment, issued, nowher
 use Rattle.model.specs.Cells.{Cells, Sized, rowAt, tableAt, keyIn, hasKey, stateOf}
 use Rattle.model.specs.History.{Event, Entry, Lock, event, history, counts, acceptedOf}
 use Rattle.model.specs.Replay.{stateAfter, eventsOf}
-use Rattle.model.specs.Mirror.{makersOf, MirrorByLaws, Spelt, Mirror}
+use Rattle.model.specs.Mirror.{makersOf, issuedBy, MirrorByLaws, Spelt, Mirror}
 use Rattle.model.proofs.Lists.{caseBool, same-truth, eqb-self, any-passes, at-lt, isSome-some}
 use Rattle.model.proofs.Literals.{keyIn-segment}
 use Rattle.model.proofs.Segments.{entryOf, entry-low, entry-is}
-use Rattle.model.proofs.Locks.{found, lock-homed, lock-stands, lock-products}
+use Rattle.model.proofs.Locks.{found, lock-homed, lock-stands, lock-made}
 use Rattle.model.proofs.Agreement.{Agrees, agree, found-as, thread-as}
 use Rattle.model.proofs.SegmentTables.{kept-list}
 use Rattle.model.proofs.Refinement.{segment-is, segment-shaped, handed, follows}
@@ -44,7 +44,7 @@ use Rattle.model.proofs.Refinement.{segment-is, segment-shaped, handed,
 -- ---- threads, segments and locks
 
 module _ (compile : Compiler) (es : List Event) (d : State) (c : Agrees compile d (history es) (λ k. acceptedOf k es)) where
-  issued-as : issued d ≡ record { users = acceptedOf 85 es; threads = acceptedOf 83 es; segments = acceptedOf 78 es; defined = acceptedOf 75 es }
+  issued-as : issued d ≡ issuedBy es
   issued-as = λ i. record { users = c .counts .0 i; threads = c .counts .1 i; segments = c .counts .2 i; defined = c .counts .3 i }
 
   segment-as : (s : ℕ) → isSegment d s ≡ isSome (history es .segments s)
@@ -171,6 +171,5 @@ mirror =
           let d = stateAfter outcomeOf emptyState xs in
           let es = eventsOf outcomeOf emptyState xs in
           let k : List·Memᴰ l (history es .locks) = rw (f .events) at m in
-          let (i, ps, made, count) = lock-products outcomeOf (d .segments) (d .lockNumbers) (history es .locks) (agree outcomeOf textHolds laws xs .locks) l k in
-          spelt i (l .text) ps made;
+          spelt everything (l .text) _ (lock-made outcomeOf textHolds laws (d .segments) (d .lockNumbers) (history es .locks) (agree outcomeOf textHolds laws xs .locks) l k);
     }

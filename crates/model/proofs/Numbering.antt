@@ -5,12 +5,10 @@ use mathlib.Core.List.{List, _∷_, List·Memᴰ}
 use mathlib.Core.Option.{some}
 use Prim.Native.Nat.{ℕ, _<_}
 use native.Mathlib.Omega.{arith}
-use lib.ListN.{length, getD, set, length-set}
+use lib.ListN.{length, getD, set, length-set, length-map}
 use lib.Seq.{getD-set-same}
 use borrow.Author.Tests.{ltb-true, not-false}
-use Rattle.product.specs.Sum.{Sum}
-use Rattle.formula.specs.declared.text.Issued.{Issued}
-use Rattle.formula.specs.Outcome.{accepted, outcomeOf}
+use Rattle.formula.specs.Outcome.{outcomeOf}
 use Rattle.formula.specs.Opening.{textHolds}
 use Rattle.formula.specs.Compiler.{Compiler, Meaning, Laws}
 use Rattle.formula.proofs.Opening.{laws}
@@ -22,11 +20,13 @@ use Rattle.model.specs.declared.answer.Answer.{Answer}
 use Rattle.model.specs.declared.answer.Answer.the-variants.{Accepted}
 use Rattle.model.specs.Lists.{keep}
 use Rattle.model.specs.Threads.{Frame, Thread}
-use Rattle.model.specs.Model.{State, emptyState, Segment, nowhere, segmentAt, isLock, isOfLock, homeOf, giveKey, takeKey, newest, conditions, update, answer, step}
+use Rattle.model.specs.Model.{State, emptyState, Segment, nowhere, lockProduct, segmentAt, isLock, isOfLock, homeOf, giveKey, takeKey, newest, conditions, update, answer, step}
 use Rattle.model.specs.History.{History, Lock, event, advance, history, listOf, acceptedOf}
 use Rattle.model.specs.Replay.{reached, stateAfter, eventsOf, answerTo}
+use Rattle.model.specs.StoredLocks.{productsOf, storedOf}
 use Rattle.model.specs.Numbering.{Numbers, NumberingByLaws, Numbering}
-use Rattle.model.proofs.Locks.{found, lock-homed, lock-products, locks-rise}
+use Rattle.model.proofs.Lists.{eqb-self}
+use Rattle.model.proofs.Locks.{found, lock-homed, lock-stores, locks-rise}
 use Rattle.model.proofs.Agreement.{Agrees, agree, thread-as, counted, step-agrees, keys-agree}
 use Rattle.model.proofs.Checking.{taken}
 use Rattle.model.proofs.Refinement.{refinement-by-laws, follows}
@@ -73,7 +73,7 @@ module _ (compile : Compiler) (holds : Meaning) (law : Laws compile holds) (d : 
       t .number ∙ ap length (sym (listed-as b (takeKey k) lt (ap (λ (s : State). s .segments) (t .state))))
 
   dropped-as : (a b n : ℕ) → decoded next ≡ WellFormed (DropLock a b) → r ≡ Accepted n → (l : Lock) → List·Memᴰ l (h .locks) → l .number ≡ b
-      → (i : Issued) × (ps : Sum) × (compile i (l .text) ≡ accepted ps) × (n ≡ length ps)
+      → n ≡ length (productsOf compile (l .text))
   unfolding answer conditions
   dropped-as a b n e w l m same =
       let t = taken compile d next (DropLock a b) n e w in
@@ -81,8 +81,12 @@ module _ (compile : Compiler) (holds : Meaning) (law : Laws compile holds) (d : 
       let home : homeOf d b ≡ l .segment =
       sym (found compile (d .segments) (d .lockNumbers) (h .locks) (c .locks) b there)
       ∙ ap (c .locks .home) (sym same) ∙ lock-homed compile (d .segments) (d .lockNumbers) (h .locks) (c .locks) l m in
-      let (i, ps, made, count) = lock-products compile (d .segments) (d .lockNumbers) (h .locks) (c .locks) l m in
-      (i, ps, made, t .number ∙ ap₂ (λ (k s : ℕ). length (keep (isOfLock k) (segmentAt d s .products))) (sym same) home ∙ count)
+      let own : keep (isOfLock (l .number)) (segmentAt d (l .segment) .products) ≡ storedOf compile l =
+      lock-stores compile holds law (d .segments) (d .lockNumbers) (h .locks) (c .locks) l m (l .segment) ∙ rw (eqb-self (l .segment)) in
+      t .number
+      ∙ ap₂ (λ (k s : ℕ). length (keep (isOfLock k) (segmentAt d s .products))) (sym same) home
+      ∙ ap length own
+      ∙ length-map (productsOf compile (l .text)) (lockProduct (l .number) (l .operations))
 
 on-model : (compile : Compiler) (holds : Meaning) → Laws compile holds → (xs : List Call) (next : Call)
     → Numbers compile (eventsOf compile emptyState xs) next (step compile (stateAfter compile emptyState xs) next .answer)

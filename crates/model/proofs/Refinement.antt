@@ -28,11 +28,11 @@ use Rattle.call.proofs.Truth.{and-left, and-right, neither}
 use Rattle.model.specs.declared.answer.Refusal.{Refusal}
 use Rattle.model.specs.declared.answer.Answer.{Answer}
 use Rattle.model.specs.Lists.{keep, each, isSome, indexOf, orDefault}
-use Rattle.model.specs.Limits.{mostThreads, mostSegments, mostStanding, mostFrames, passes}
+use Rattle.model.specs.Limits.{mostThreads, mostSegments, mostDefined, mostStanding, mostFrames, passes}
 use Rattle.model.specs.Operations.{execute, read, write, includes}
 use Rattle.model.specs.Threads.{Thread}
 use Rattle.model.specs.Model.{State, emptyState, Segment, nowhere, Place, free, taken, isFree, liveIn, findThread, nobody, threadAt, placeFor, placeOf, hasLock, isLock, issued, conditions, withPlaces, withSegments, onSegment, onThread, atPlace, pushFrame, popFrame, giveKey, takeKey, addProducts, dropProducts, update, answer, judged, stepDecoded, step}
-use Rattle.model.specs.Cells.{Row, Table, Cells, Tables, Sized, cell, rowAt, tableAt, segmentCount, definedCell, keyIn, hasKey, keysIn, usedRows, productIn, placeIn, depthOf, framesOf, listRow, segmentOf, segmentIn, stateOf, setCell, onTable, countUp, withSegmentTables, startThread, endThread, newSegment, giveCode, takeCode, endRows, addRows, dropRows, pushRow, popRow, atThread, store, judgedCells, stepCellsDecoded, stepCells, zeros, emptyCells}
+use Rattle.model.specs.Cells.{Row, Table, Cells, Tables, Sized, cell, rowAt, tableAt, segmentCount, definedCell, keyIn, hasKey, keysIn, usedRows, productIn, placeIn, depthOf, framesOf, listRow, segmentOf, segmentIn, stateOf, setCell, onTable, countUp, registryIs, makersAre, segmentsAre, locksAre, threadsAre, handOut, startThread, endThread, newSegment, giveCode, takeCode, endRows, addRows, dropRows, pushRow, popRow, atThread, store, judgedCells, stepCellsDecoded, stepCells, zeros, emptyCells}
 use Rattle.model.specs.History.{Event, event}
 use Rattle.model.specs.Replay.{cellsAfter, eventsIn, stateAfter, eventsOf}
 use Rattle.model.specs.Refinement.{Follows, RefinementByLaws, Refinement}
@@ -85,15 +85,32 @@ module _ (k : ℕ) (t : Table) (s : Shaped k t) where
   shaped-cell : (i j x : ℕ) → i < k → Shaped k (setCell t i j x)
   shaped-cell i j x lt = shaped-row i _ (length-set (rowAt t i) j x ∙ s .cells i lt)
 
+-- an array of its size in the place of what was there
+module _ {d : Cells} (c : Sized d) where
+  sized-registry : (x : Row) → length x ≡ 8 → Sized (registryIs x d)
+  sized-registry x h = record { registry = h; makers = c .makers; segments = c .segments; locks = c .locks; threads = c .threads }
+
+  sized-makers : (x : Row) → length x ≡ mostDefined → Sized (makersAre x d)
+  sized-makers x h = record { registry = c .registry; makers = h; segments = c .segments; locks = c .locks; threads = c .threads }
+
+  sized-segments : (x : List Table) → Tables mostSegments 2 x → Sized (segmentsAre x d)
+  sized-segments x h = record { registry = c .registry; makers = c .makers; segments = h; locks = c .locks; threads = c .threads }
+
+  sized-locks : (x : List Table) → Tables mostSegments mostStanding x → Sized (locksAre x d)
+  sized-locks x h = record { registry = c .registry; makers = c .makers; segments = c .segments; locks = h; threads = c .threads }
+
+  sized-threads : (x : List Table) → Tables mostThreads (suc mostFrames) x → Sized (threadsAre x d)
+  sized-threads x h = record { registry = c .registry; makers = c .makers; segments = c .segments; locks = c .locks; threads = h }
+
+  sized-count : (j : ℕ) → Sized (handOut j d)
+  sized-count j = sized-registry _ (length-set (d .registry) j _ ∙ c .registry)
+
 -- ---- the parts of the state
 
 -- a lock's set has an operation, so it is not 0
 operations-some : (o : ℕ) → (includes o execute || includes o read || includes o write) ≡ true → 0 < o
 operations-some zero h = absurd (false≢true h)
 operations-some (suc o) h = omega arith
-
-abbrev withLockTables : Cells → Row → List Table → Cells
-withLockTables d r locks = record { registry = r; makers = d .makers; segments = d .segments; locks = locks; threads = d .threads }
 
 module _ (r : Row) (size : length r ≡ 8) where
   counted : (j : ℕ) → j < 8 → cell (countUp r j) j ≡ suc (cell r j)
@@ -195,9 +212,6 @@ module _ (d : Cells) (c : Sized d) where
     abbrev Holds : Request → Type 0
     Holds q = firstRefusal (conditions compile (stateOf d) q text) ≡ none → Stored q
 
-    registry-size : (j : ℕ) → length (countUp (d .registry) j) ≡ 8
-    registry-size j = length-set (d .registry) j _ ∙ c .registry
-
     store-user : Holds NewUser
     unfolding conditions update store stateOf
     store-user e =
@@ -206,7 +220,7 @@ module _ (d : Cells) (c : Sized d) where
           state =
               state-path (counted (d .registry) (c .registry) 0 (omega arith)) (n 0 1 (λ p. omega arith)) (n 0 4 (λ p. omega arith))
               (makers-kept 0 (λ p. omega arith)) (segments-kept 0 (λ p. omega arith) (segmentIn d)) refl;
-          sized = record { registry = registry-size 0; makers = c .makers; segments = c .segments; locks = c .locks; threads = c .threads };
+          sized = sized-count c 0;
         }
 
     store-start : (a : ℕ) → Holds (StartThread a)
@@ -226,14 +240,7 @@ module _ (d : Cells) (c : Sized d) where
               state-path (n 1 0 (λ p. omega arith)) (counted r (c .registry) 1 (omega arith)) (n 1 4 (λ p. omega arith)) (makers-kept 1 (λ p. omega arith))
               (segments-kept 1 (λ p. omega arith) (segmentIn d))
               (places-set (d .threads) i (startThread k a) (λ x. taken k (record { user = a; frames = [] })) (start-place k a (tableAt (d .threads) i) (let l = t .rows in omega arith)));
-          sized =
-              record {
-                registry = registry-size 1;
-                makers = c .makers;
-                segments = c .segments;
-                locks = c .locks;
-                threads = tables-set 64 17 (d .threads) (c .threads) i _ (λ u. shaped-row 17 (tableAt (d .threads) i) t 0 _ refl);
-              };
+          sized = sized-count (sized-threads c _ (tables-set 64 17 (d .threads) (c .threads) i _ (λ u. shaped-row 17 (tableAt (d .threads) i) t 0 _ refl))) 1;
         }
 
     -- a change of a live thread's table
@@ -243,13 +250,7 @@ module _ (d : Cells) (c : Sized d) where
     unfolding stateOf
     thread-stored a p f F h s = (
       ap (withPlaces (stateOf d)) (places-set (d .threads) (placeOf a places) f F h),
-      record {
-        registry = c .registry;
-        makers = c .makers;
-        segments = c .segments;
-        locks = c .locks;
-        threads = tables-set 64 17 (d .threads) (c .threads) (placeOf a places) _ (λ u. s);
-      },
+      sized-threads c _ (tables-set 64 17 (d .threads) (c .threads) (placeOf a places) _ (λ u. s)),
     )
 
     alive : (a : ℕ) → not (isSome (findThread a places)) ≡ false → Lives a places
@@ -294,7 +295,7 @@ module _ (d : Cells) (c : Sized d) where
               ∙ take-suc-set (d .makers) k a (let q = c .makers in omega arith)
               ∙ ap (λ (x : ℕ). take x (d .makers) ++ a ∷ []) (sym old))
               (segments-kept 3 (λ p. omega arith) (segmentIn d)) refl;
-          sized = record { registry = registry-size 3; makers = length-set (d .makers) k a ∙ c .makers; segments = c .segments; locks = c .locks; threads = c .threads };
+          sized = sized-count (sized-makers c _ (length-set (d .makers) k a ∙ c .makers)) 3;
         }
 
     listed-row : (b : ℕ) → b < count → length (listRow b (tableAt (d .segments) b)) ≡ 8
@@ -351,13 +352,11 @@ module _ (d : Cells) (c : Sized d) where
               ∙ ap₂ (λ (x y : ℕ). each (segmentIn d) 0 x ++ record { owner = a; kind = b; keys = SegmentKey y ∷ []; products = [] } ∷ []) (sym old) (sym (length-segments ∙ old)))
               refl;
           sized =
-              record {
-                registry = registry-size 2;
-                makers = c .makers;
-                segments = tables-set 64 2 (d .segments) (c .segments) s _ (λ u. record { rows = refl; cells = two-rows s });
-                locks = tables-set 64 8 (d .locks) (c .locks) s _ (λ u. shaped-cell 8 t (shaped 64 8 (d .locks) (c .locks) s u) 0 0 0 (omega arith));
-                threads = c .threads;
-              };
+              sized-count
+              (sized-segments
+              (sized-locks c _ (tables-set 64 8 (d .locks) (c .locks) s _ (λ u. shaped-cell 8 t (shaped 64 8 (d .locks) (c .locks) s u) 0 0 0 (omega arith))))
+              _ (tables-set 64 2 (d .segments) (c .segments) s _ (λ u. record { rows = refl; cells = two-rows s })))
+              2;
         }
       where
         two-rows : (s j : ℕ) → j < 2 → length (rowAt (newSegment s a b) j) ≡ 8
@@ -368,20 +367,14 @@ module _ (d : Cells) (c : Sized d) where
     -- a change of one segment's key list
     list-stored : (s : ℕ) → s < count → (f : Table → Table) (F : Segment → Segment)
         → segmentOf s (f (tableAt (d .segments) s)) (tableAt (d .locks) s) ≡ F (segmentIn d s) → Shaped 2 (f (tableAt (d .segments) s))
-        → (stateOf (withSegmentTables d (onTable (d .segments) s f)) ≡ onSegment (stateOf d) s F) × Sized (withSegmentTables d (onTable (d .segments) s f))
+        → (stateOf (segmentsAre (onTable (d .segments) s f) d) ≡ onSegment (stateOf d) s F) × Sized (segmentsAre (onTable (d .segments) s f) d)
     unfolding stateOf
     list-stored s lt f F h sh = (
       ap (withSegments (stateOf d))
-          (segments-set (withSegmentTables d (onTable (d .segments) s f)) s lt F
+          (segments-set (segmentsAre (onTable (d .segments) s f) d) s lt F
           (λ j ne. ap (λ (g : Table). segmentOf j g (tableAt (d .locks) j)) (table-other (d .segments) s _ j ne))
           (ap (λ (g : Table). segmentOf s g (tableAt (d .locks) s)) (getD-set-same (d .segments) s _ [] (let q = c .segments .count in omega arith)) ∙ h)),
-      record {
-        registry = c .registry;
-        makers = c .makers;
-        segments = tables-set 64 2 (d .segments) (c .segments) s _ (λ u. sh);
-        locks = c .locks;
-        threads = c .threads;
-      },
+      sized-segments c _ (tables-set 64 2 (d .segments) (c .segments) s _ (λ u. sh)),
     )
 
     -- row 1 of a segment's table replaced by 8 cells
@@ -420,15 +413,14 @@ module _ (d : Cells) (c : Sized d) where
     -- a change of one segment's product rows
     rows-set : (s : ℕ) → s < count → (r : Row) (f : Table → Table) (F : Segment → Segment)
         → segmentOf s (tableAt (d .segments) s) (f (tableAt (d .locks) s)) ≡ F (segmentIn d s)
-        → each (segmentIn (withLockTables d r (onTable (d .locks) s f))) 0 count ≡ set segments s (F (getD segments s nowhere))
+        → each (segmentIn (registryIs r (locksAre (onTable (d .locks) s f) d))) 0 count ≡ set segments s (F (getD segments s nowhere))
     rows-set s lt r f F h =
-        segments-set (withLockTables d r (onTable (d .locks) s f)) s lt F
+        segments-set (registryIs r (locksAre (onTable (d .locks) s f) d)) s lt F
         (λ j ne. ap (segmentOf j (tableAt (d .segments) j)) (table-other (d .locks) s _ j ne))
         (ap (segmentOf s (tableAt (d .segments) s)) (getD-set-same (d .locks) s _ [] (let q = c .locks .count in omega arith)) ∙ h)
 
-    rows-sized : (s : ℕ) (r : Row) (f : Table → Table) → length r ≡ 8 → Shaped 8 (f (tableAt (d .locks) s)) → Sized (withLockTables d r (onTable (d .locks) s f))
-    rows-sized s r f l sh =
-        record { registry = l; makers = c .makers; segments = c .segments; locks = tables-set 64 8 (d .locks) (c .locks) s _ (λ u. sh); threads = c .threads }
+    rows-sized : (s : ℕ) (r : Row) (f : Table → Table) → length r ≡ 8 → Shaped 8 (f (tableAt (d .locks) s)) → Sized (registryIs r (locksAre (onTable (d .locks) s f) d))
+    rows-sized s r f l sh = sized-registry (sized-locks c _ (tables-set 64 8 (d .locks) (c .locks) s _ (λ u. sh))) r l
 
     store-drop : (a n : ℕ) → Holds (DropLock a n)
     unfolding conditions update store stateOf
@@ -478,7 +470,7 @@ module _ (d : Cells) (c : Sized d) where
               (add-table i ps b k o g t (bounded .each) (law .issued i text ps is) handed-out makers some few (sh .rows) (omega arith)))
               refl;
           sized =
-              rows-sized b (countUp r 4) (addRows k o ps) (registry-size 4)
+              rows-sized b (countUp r 4) (addRows k o ps) (sized-count c 4 .registry)
               (record { rows = length-addRows k o ps t ∙ sh .rows; cells = λ j l. add-sizes j k o ps t (bounded .each) (sh .rows) (sh .cells) l });
         }
 

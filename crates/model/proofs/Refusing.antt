@@ -133,11 +133,11 @@ in-order compile d (Access a b c) text = refl
 -- ---- one call
 
 module _ (compile : Compiler) (d : Cells) where
-  judged-refused : (q : Request) (text : List ℕ) (o : Option Refusal) (r : Refusal) → (judgedCells compile d q text o .answer ≡ Refused r) ↔ (o ≡ some r)
+  pub judged-refused : (q : Request) (text : List ℕ) (o : Option Refusal) (r : Refusal) → (judgedCells compile d q text o .answer ≡ Refused r) ↔ (o ≡ some r)
   judged-refused q text none r = (λ h. cc, λ h. cc)
   judged-refused q text (some s) r = (λ h. cc, λ h. cc)
 
-  judged-accepted : (q : Request) (text : List ℕ) (o : Option Refusal) → (isAccepted (judgedCells compile d q text o .answer) ≡ true) ↔ (o ≡ none)
+  pub judged-accepted : (q : Request) (text : List ℕ) (o : Option Refusal) → (isAccepted (judgedCells compile d q text o .answer) ≡ true) ↔ (o ≡ none)
   judged-accepted q text none = (λ h. refl, λ h. refl)
   judged-accepted q text (some s) = (λ h. cc, λ h. cc)
 
@@ -157,7 +157,7 @@ module _ (compile : Compiler) (d : Cells) where
   refusal-unchanged NotWellFormed text r h = refl
   refusal-unchanged (WellFormed q) text r h = judged-unchanged q text (firstRefusal (conditions compile (stateOf d) q text)) r h
 
-  answer-decoded : (x : Call) (k : Decoded) → decoded x ≡ k → stepCells compile d x .answer ≡ stepCellsDecoded compile d k (x .text) .answer
+  pub answer-decoded : (x : Call) (k : Decoded) → decoded x ≡ k → stepCells compile d x .answer ≡ stepCellsDecoded compile d k (x .text) .answer
   unfolding stepCells
   answer-decoded x k e = ap (λ (j : Decoded). stepCellsDecoded compile d j (x .text) .answer) e
 

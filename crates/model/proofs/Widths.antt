@@ -42,7 +42,7 @@ use Rattle.model.specs.Limits.{mostUsers, mostThreads, mostSegments, mos
 use Rattle.model.specs.Operations.{denies, grants, execute}
 use Rattle.model.specs.Threads.{Thread, sameKey, keySet}
 use Rattle.model.specs.Model.{LockProduct, Segment, nowhere, segmentAt, Place, free, isFree, liveIn, threadIn, nobody, placeFor, placeOf, threadAt, isOfLock, hasLock, isLock, homeOf, issued, opensFor, opening, lockOf, conditions, newest, answer}
-use Rattle.model.specs.Cells.{Row, Table, Cells, Sized, cell, rowAt, tableAt, userCount, threadCount, segmentCount, definedCount, lockCount, frameCount, liveCell, noKey, definedCell, keyIn, hasKey, keyRow, literalCell, isUsed, usedRows, framesOf, depthOf, placeIn, productIn, listRow, segmentOf, stateOf, setCell, onTable, countUp, withSegmentTables, startThread, endThread, newSegment, giveCode, takeCode, endRows, storeRows, productRow, addRows, dropRows, pushRow, popRow, atThread, store, judgedCells, stepCellsDecoded, stepCells, zeros, emptyCells}
+use Rattle.model.specs.Cells.{Row, Table, Cells, Sized, cell, rowAt, tableAt, userCount, threadCount, segmentCount, definedCount, lockCount, frameCount, liveCell, noKey, definedCell, keyIn, hasKey, keyRow, literalCell, isUsed, usedRows, framesOf, depthOf, placeIn, productIn, listRow, segmentOf, stateOf, setCell, onTable, registryIs, makersAre, segmentsAre, locksAre, threadsAre, handOut, startThread, endThread, newSegment, giveCode, takeCode, endRows, storeRows, productRow, addRows, dropRows, pushRow, popRow, atThread, store, judgedCells, stepCellsDecoded, stepCells, zeros, emptyCells}
 use Rattle.model.specs.Replay.{cellsAfter}
 use Rattle.model.specs.Widths.{word, doubleWord, Fitting, Fields, AllFields, Contained, WidthsByLaws, Widths}
 use Rattle.model.proofs.Lists.{All, caseBool, some-inj, All-append, All-keep, length-keep, length-append-one, indexOf-lt, Everywhere, everywhere-set, everywhere-sets, everywhere-all, all-everywhere}
@@ -82,6 +82,26 @@ module _ (m : ℕ) where
 -- a row of cells that are written out
 low-cells : (m : ℕ) → 0 < m → (w : Row) → All (λ x. x < m) w → Low m w
 low-cells m = everywhere-all (λ x. x < m) 0
+
+-- an array that fits in the place of what was there
+module _ {d : Cells} (k : Fitting d) where
+  fitting-registry : (x : Row) → Low doubleWord x → Fitting (registryIs x d)
+  fitting-registry x h = record { registry = h; makers = k .makers; segments = k .segments; locks = k .locks; threads = k .threads }
+
+  fitting-makers : (x : Row) → Low word x → Fitting (makersAre x d)
+  fitting-makers x h = record { registry = k .registry; makers = h; segments = k .segments; locks = k .locks; threads = k .threads }
+
+  fitting-segments : (x : List Table) → LowTables word x → Fitting (segmentsAre x d)
+  fitting-segments x h = record { registry = k .registry; makers = k .makers; segments = h; locks = k .locks; threads = k .threads }
+
+  fitting-locks : (x : List Table) → LowTables doubleWord x → Fitting (locksAre x d)
+  fitting-locks x h = record { registry = k .registry; makers = k .makers; segments = k .segments; locks = h; threads = k .threads }
+
+  fitting-threads : (x : List Table) → LowTables word x → Fitting (threadsAre x d)
+  fitting-threads x h = record { registry = k .registry; makers = k .makers; segments = k .segments; locks = k .locks; threads = h }
+
+  fitting-count : (j : ℕ) → suc (cell (d .registry) j) ≤ mostNumbers → Fitting (handOut j d)
+  fitting-count j l = fitting-registry _ (low-set doubleWord (d .registry) (k .registry) j (suc (cell (d .registry) j)) (omega arith))
 
 -- row 0 of a table that is begun
 first-low : (x y o : ℕ) → x < word → y < word → o < word → Low word (x ∷ y ∷ 0 ∷ o ∷ 0 ∷ 0 ∷ 0 ∷ 0 ∷ [])
@@ -265,9 +285,6 @@ module _ (compile : Compiler) (d : Cells) (c : Sized d) (k : Fitting d) (text : 
   low-locks : (i : ℕ) (f : Table → Table) → LowRows doubleWord (f (tableAt (d .locks) i)) → LowTables doubleWord (onTable (d .locks) i f)
   low-locks i f h = low-table doubleWord (d .locks) (k .locks) i _ h
 
-  low-count : (j : ℕ) → suc (cell (d .registry) j) ≤ mostNumbers → Low doubleWord (countUp (d .registry) j)
-  low-count j l = low-set doubleWord (d .registry) (k .registry) j (suc (cell (d .registry) j)) (omega arith)
-
   -- an accepted request
   record AcceptedFits (q : Request) : Type 0 where
     pub stored : Fitting (store compile d q text)
@@ -282,7 +299,7 @@ module _ (compile : Compiler) (d : Cells) (c : Sized d) (k : Fitting d) (text : 
       let n : ℕ = cell (d .registry) userCount in
       let room : suc n ≤ mostUsers = within mostUsers (suc n) (all-fail (conditions compile (stateOf d) NewUser text) e .0) in
       record {
-        stored = record { registry = low-count userCount (omega arith); makers = k .makers; segments = k .segments; locks = k .locks; threads = k .threads };
+        stored = fitting-count k userCount (omega arith);
         answered = omega arith;
       }
 
@@ -296,13 +313,9 @@ module _ (compile : Compiler) (d : Cells) (c : Sized d) (k : Fitting d) (text : 
       let i : ℕ = placeFor n isFree places in
       record {
         stored =
-            record {
-              registry = low-count threadCount room;
-              makers = k .makers;
-              segments = k .segments;
-              locks = k .locks;
-              threads = low-threads i (startThread n a) (start-low n a (tableAt (d .threads) i) (omega arith) (l .a) (k .threads i));
-            };
+            fitting-count
+            (fitting-threads k _ (low-threads i (startThread n a) (start-low n a (tableAt (d .threads) i) (omega arith) (l .a) (k .threads i))))
+            threadCount room;
         answered = omega arith;
       }
 
@@ -310,13 +323,7 @@ module _ (compile : Compiler) (d : Cells) (c : Sized d) (k : Fitting d) (text : 
   at-thread : (a : ℕ) (f : Table → Table) → ((t : Table) → LowRows word t → LowRows word (f t)) → Fitting (atThread d a f)
   at-thread a f h =
       let i : ℕ = placeOf a (stateOf d .places) in
-      record {
-        registry = k .registry;
-        makers = k .makers;
-        segments = k .segments;
-        locks = k .locks;
-        threads = low-threads i f (h (tableAt (d .threads) i) (k .threads i));
-      }
+      fitting-threads k _ (low-threads i f (h (tableAt (d .threads) i) (k .threads i)))
 
   fit-end : (a : ℕ) → Holds (EndThread a)
   unfolding store answer
@@ -354,13 +361,11 @@ module _ (compile : Compiler) (d : Cells) (c : Sized d) (k : Fitting d) (text : 
       let room : suc (length (stateOf d .segments)) ≤ mostSegments = within mostSegments (suc (length (stateOf d .segments))) (f .1 .1 .0) in
       record {
         stored =
-            record {
-              registry = low-count segmentCount (omega arith);
-              makers = k .makers;
-              segments = low-segments s (newSegment s a b) (new-low s a b (omega arith) (l .a) (l .b));
-              locks = low-locks s (λ t. endRows t 0) (end-low 0 (tableAt (d .locks) s) (k .locks s));
-              threads = k .threads;
-            };
+            fitting-count
+            (fitting-segments
+            (fitting-locks k _ (low-locks s (λ t. endRows t 0) (end-low 0 (tableAt (d .locks) s) (k .locks s))))
+            _ (low-segments s (newSegment s a b) (new-low s a b (omega arith) (l .a) (l .b))))
+            segmentCount (omega arith);
         answered = omega arith;
       }
 
@@ -373,21 +378,13 @@ module _ (compile : Compiler) (d : Cells) (c : Sized d) (k : Fitting d) (text : 
       let size : length (d .makers) ≡ mostDefined = c .makers in
       let room : suc (length made) ≤ mostDefined = within mostDefined (suc (length made)) (all-fail (conditions compile (stateOf d) (NewKey a) text) e .1 .0) in
       record {
-        stored =
-            record {
-              registry = low-count definedCount (omega arith);
-              makers = low-set word (d .makers) (k .makers) n a (l .a);
-              segments = k .segments;
-              locks = k .locks;
-              threads = k .threads;
-            };
+        stored = fitting-count (fitting-makers k _ (low-set word (d .makers) (k .makers) n a (l .a))) definedCount (omega arith);
         answered = omega arith;
       }
 
   -- a change of a segment's table
-  at-segment : (s : ℕ) (f : Table → Table) → LowRows word (f (tableAt (d .segments) s)) → Fitting (withSegmentTables d (onTable (d .segments) s f))
-  at-segment s f h =
-      record { registry = k .registry; makers = k .makers; segments = low-segments s _ h; locks = k .locks; threads = k .threads }
+  at-segment : (s : ℕ) (f : Table → Table) → LowRows word (f (tableAt (d .segments) s)) → Fitting (segmentsAre (onTable (d .segments) s f) d)
+  at-segment s f h = fitting-segments k _ (low-segments s _ h)
 
   fit-give : (a b n : ℕ) → Holds (GiveKey a b n)
   unfolding conditions store answer stateOf
@@ -427,14 +424,7 @@ module _ (compile : Compiler) (d : Cells) (c : Sized d) (k : Fitting d) (text : 
       let few : length rows ≤ mostStanding = segment-fits s (omega arith) .products in
       let fewer : length (keep (isOfLock n) rows) ≤ length rows = length-keep (isOfLock n) rows in
       record {
-        stored =
-            record {
-              registry = k .registry;
-              makers = k .makers;
-              segments = k .segments;
-              locks = low-locks s (dropRows n) (drop-low n (tableAt (d .locks) s) (k .locks s));
-              threads = k .threads;
-            };
+        stored = fitting-locks k _ (low-locks s (dropRows n) (drop-low n (tableAt (d .locks) s) (k .locks s)));
         answered = omega arith;
       }
 
@@ -451,13 +441,9 @@ module _ (compile : Compiler) (d : Cells) (c : Sized d) (k : Fitting d) (text : 
       let room : suc n ≤ mostNumbers = within mostNumbers (suc n) (neither (passes mostStanding standing) _ (f .1 .1 .1 .1 .1 .1 .1 .0) .1) in
       record {
         stored =
-            record {
-              registry = low-count lockCount room;
-              makers = k .makers;
-              segments = k .segments;
-              locks = low-locks b (addRows n o ps) (add-low n o ps (tableAt (d .locks) b) (omega arith) few (law .bounds i text ps is .each) (k .locks b));
-              threads = k .threads;
-            };
+            fitting-count
+            (fitting-locks k _ (low-locks b (addRows n o ps) (add-low n o ps (tableAt (d .locks) b) (omega arith) few (law .bounds i text ps is .each) (k .locks b))))
+            lockCount room;
         answered = omega arith;
       }
 

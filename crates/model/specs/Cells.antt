@@ -53,6 +53,34 @@ pub record Cells : Type 0 where
   pub locks : List Table
   pub threads : List Table
 
+-- the arrays, in the order in which they are lent
+abbrev pub cellsWith : Row → Row → List Table → List Table → List Table → Cells
+cellsWith registry makers segments locks threads =
+    record { registry = registry; makers = makers; segments = segments; locks = locks; threads = threads }
+
+-- one array put in the place of what was there
+abbrev pub registryIs : Row → Cells → Cells
+registryIs registry d = cellsWith registry (d .makers) (d .segments) (d .locks) (d .threads)
+
+abbrev pub makersAre : Row → Cells → Cells
+makersAre makers d = cellsWith (d .registry) makers (d .segments) (d .locks) (d .threads)
+
+abbrev pub segmentsAre : List Table → Cells → Cells
+segmentsAre segments d = cellsWith (d .registry) (d .makers) segments (d .locks) (d .threads)
+
+abbrev pub locksAre : List Table → Cells → Cells
+locksAre locks d = cellsWith (d .registry) (d .makers) (d .segments) locks (d .threads)
+
+abbrev pub threadsAre : List Table → Cells → Cells
+threadsAre threads d = cellsWith (d .registry) (d .makers) (d .segments) (d .locks) threads
+
+abbrev pub unchanged : Cells → Cells
+unchanged d = d
+
+infixr 50 _and_
+abbrev pub _and_ : (Cells → Cells) → (Cells → Cells) → Cells → Cells
+_and_ f g d = f (g d)
+
 abbrev pub cell : Row → ℕ → ℕ
 cell w j = getD w j 0
 
@@ -270,72 +298,37 @@ pushRow w t = setCell (set t (suc (depthOf t)) w) 0 frameCount (suc (depthOf t))
 abbrev pub popRow : Table → Table
 popRow t = setCell t 0 frameCount (depthOf t - 1)
 
-abbrev pub withRegistry : Cells → Row → Cells
-withRegistry d registry = record { registry = registry; makers = d .makers; segments = d .segments; locks = d .locks; threads = d .threads }
-
-abbrev pub withSegmentTables : Cells → List Table → Cells
-withSegmentTables d segments = record { registry = d .registry; makers = d .makers; segments = segments; locks = d .locks; threads = d .threads }
-
 -- the table of thread n
 abbrev pub atThread : Cells → ℕ → (Table → Table) → Cells
-atThread d n f =
-    record {
-      registry = d .registry;
-      makers = d .makers;
-      segments = d .segments;
-      locks = d .locks;
-      threads = onTable (d .threads) (placeOf n (stateOf d .places)) f;
-    }
+atThread d n f = threadsAre (onTable (d .threads) (placeOf n (stateOf d .places)) f) d
+
+-- one more handed out
+abbrev pub handOut : ℕ → Cells → Cells
+handOut j d = registryIs (countUp (d .registry) j) d
 
 module _ (compile : Compiler) where
   unfoldable pub store : Cells → Request → List ℕ → Cells
-  store d NewUser text = withRegistry d (countUp (d .registry) userCount)
+  store d NewUser text = handOut userCount d
   store d (StartThread a) text =
       let n = cell (d .registry) threadCount in
-      record {
-        registry = countUp (d .registry) threadCount;
-        makers = d .makers;
-        segments = d .segments;
-        locks = d .locks;
-        threads = onTable (d .threads) (placeFor n isFree (stateOf d .places)) (startThread n a);
-      }
+      let place = placeFor n isFree (stateOf d .places) in
+      handOut threadCount (threadsAre (onTable (d .threads) place (startThread n a)) d)
   store d (EndThread a) text = atThread d a endThread
   store d (NewSegment a b) text =
       let s = cell (d .registry) segmentCount in
-      record {
-        registry = countUp (d .registry) segmentCount;
-        makers = d .makers;
-        segments = set (d .segments) s (newSegment s a b);
-        locks = onTable (d .locks) s (λ t. endRows t 0);
-        threads = d .threads;
-      }
+      handOut segmentCount
+      (segmentsAre (set (d .segments) s (newSegment s a b))
+      (locksAre (onTable (d .locks) s (λ t. endRows t 0)) d))
   store d (NewKey a) text =
-      record {
-        registry = countUp (d .registry) definedCount;
-        makers = set (d .makers) (cell (d .registry) definedCount) a;
-        segments = d .segments;
-        locks = d .locks;
-        threads = d .threads;
-      }
-  store d (GiveKey a b c) text = withSegmentTables d (onTable (d .segments) b (giveCode b (definedCell c)))
-  store d (TakeKey a b c) text = withSegmentTables d (onTable (d .segments) b (takeCode b (definedCell c)))
+      let k = cell (d .registry) definedCount in
+      handOut definedCount (makersAre (set (d .makers) k a) d)
+  store d (GiveKey a b c) text = segmentsAre (onTable (d .segments) b (giveCode b (definedCell c))) d
+  store d (TakeKey a b c) text = segmentsAre (onTable (d .segments) b (takeCode b (definedCell c))) d
   store d (AddLock a b c) text =
+      let n = cell (d .registry) lockCount in
       let ps = sumIn (compile (issued (stateOf d)) text) in
-      record {
-        registry = countUp (d .registry) lockCount;
-        makers = d .makers;
-        segments = d .segments;
-        locks = onTable (d .locks) b (addRows (cell (d .registry) lockCount) c ps);
-        threads = d .threads;
-      }
-  store d (DropLock a b) text =
-      record {
-        registry = d .registry;
-        makers = d .makers;
-        segments = d .segments;
-        locks = onTable (d .locks) (homeOf (stateOf d) b) (dropRows b);
-        threads = d .threads;
-      }
+      handOut lockCount (locksAre (onTable (d .locks) b (addRows n c ps)) d)
+  store d (DropLock a b) text = locksAre (onTable (d .locks) (homeOf (stateOf d) b) (dropRows b)) d
   store d (CallSegment a b) text = atThread d a (pushRow (listRow b (tableAt (d .segments) b)))
   store d (ReturnCall a) text = atThread d a popRow
   store d (Access a b c) text = d
@@ -373,10 +366,4 @@ zeros n k = replicate n (replicate k (replicate 8 0))
 
 abbrev pub emptyCells : Cells
 emptyCells =
-    record {
-      registry = replicate 8 0;
-      makers = replicate mostDefined 0;
-      segments = zeros mostSegments 2;
-      locks = zeros mostSegments mostStanding;
-      threads = zeros mostThreads (suc mostFrames);
-    }
+    cellsWith (replicate 8 0) (replicate mostDefined 0) (zeros mostSegments 2) (zeros mostSegments mostStanding) (zeros mostThreads (suc mostFrames))

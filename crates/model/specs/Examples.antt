@@ -6,7 +6,8 @@ use mathlib.Core.List.{List, [], _∷_, _++_}
 use mathlib.Core.Option.{some}
 use Prim.Native.Nat.{ℕ}
 use lib.ListN.{replicate, take}
-use Rattle.product.specs.declared.literal.Key.the-variants.{Segment as SegmentKey}
+use Rattle.product.specs.declared.literal.Key.the-variants.{User, Segment as SegmentKey, Defined}
+use Rattle.product.specs.declared.literal.Literal.the-variants.{Plain, Barred}
 use Rattle.formula.specs.Outcome.{outcomeOf}
 use Rattle.formula.specs.Examples.{bytes, Examples as FormulaExamples}
 use Rattle.journal.specs.declared.file.Verdict.the-variants.{Readable}
@@ -15,7 +16,7 @@ use Rattle.journal.specs.Examples.{emptyFile}
 use Rattle.model.specs.declared.answer.Refusal.the-variants.{UnknownUser, NoThread, Full, Malformed, Unsatisfiable, Denied, NotGranted}
 use Rattle.model.specs.Lists.{mapOption}
 use Rattle.model.specs.Threads.{keySet}
-use Rattle.model.specs.Model.{threadAt}
+use Rattle.model.specs.Model.{LockProduct, lockProduct, segmentAt, threadAt}
 use Rattle.model.specs.Cells.{stateOf}
 use Rattle.model.specs.History.{Event, History}
 use Rattle.model.specs.Granting.{calls, accesses, Fits}
@@ -143,6 +144,24 @@ edits =
     ∷ ok (E 0) 2
     ∷ []
 
+-- what is stored of two locks on segment 0 with one dropped between them, and of one on segment 1; no thread ever has the keys U0 and U1 both
+abbrev pub standing : List Event
+standing =
+    ok U 0
+    ∷ ok U 1
+    ∷ ok (N 0 0) 0
+    ∷ ok (N 1 1) 1
+    ∷ ok (K 0) 0
+    ∷ ok (L 0 0 1 (bytes "D0&U1&S1&!S0&U0")) 0
+    ∷ ok (L 0 0 1 (bytes "D0|U1")) 1
+    ∷ ok (L 1 1 6 (bytes "!D0")) 2
+    ∷ ok (D 0 1) 2
+    ∷ ok (L 0 0 9 (bytes "!(U0&!S1)")) 3
+    ∷ []
+
+abbrev pub productsOn : ℕ → List LockProduct
+productsOn s = segmentAt (stateOf (reached outcomeOf (callsOf standing))) s .products
+
 -- the history after the first n events of the route
 abbrev pub before : ℕ → History
 before n = historyOf outcomeOf (callsOf (take n route))
@@ -163,6 +182,13 @@ pub record Examples : Type 0 where
   pub backHappens : Happens back
   pub deepHappens : Happens deep
   pub editsHappen : Happens edits
+  pub standingHappens : Happens standing
+  pub standingCode : productsOn 0
+      ≡ lockProduct 0 1 (Plain (User 0) ∷ Plain (User 1) ∷ Barred (SegmentKey 0) ∷ Plain (SegmentKey 1) ∷ Plain (Defined 0) ∷ [])
+      ∷ lockProduct 3 9 (Barred (User 0) ∷ [])
+      ∷ lockProduct 3 9 (Plain (SegmentKey 1) ∷ [])
+      ∷ []
+  pub standingSheet : productsOn 1 ≡ lockProduct 2 6 (Barred (Defined 0) ∷ []) ∷ []
   -- the premises of `Granting` hold before the first C of the route, before its first A, which is granted, and before its last, which isn't
   pub callFits : Fits (before 9) (C 0 0) (calls 0 0)
   pub callLive : before 9 .threads 0 ≡ some (record { user = 0; frames = [] })

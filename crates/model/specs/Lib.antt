@@ -8,10 +8,12 @@ pub mod Cells
 pub mod Serving
 pub mod History
 pub mod Replay
+pub mod StoredLocks
 pub mod Granting
 pub mod Refusing
 pub mod Numbering
 pub mod Mirror
+pub mod LockTexts
 pub mod Refinement
 pub mod Bounds
 pub mod Letters

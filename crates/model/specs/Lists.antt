@@ -1,8 +1,8 @@
 -- Lists, optional values and maps from numbers, as the definitions use them. Assumes nothing.
 use mathlib.Core.Bool.{Bool, true, false, _&&_, _||_, cond}
-use mathlib.Core.List.{List, [], _∷_}
+use mathlib.Core.List.{List, [], _∷_, _++_}
 use mathlib.Core.Option.{Option, none, some}
-use Prim.Native.Nat.{ℕ, zero, suc}
+use Prim.Native.Nat.{ℕ, zero, suc, _+_}
 use lib.Dec.{eqb, ltb}
 
 module _ {ℓ} {A : Type ℓ} where
@@ -54,6 +54,15 @@ module _ {ℓ κ} {A : Type ℓ} {B : Type κ} where
   abbrev pub orDefault : B → (A → B) → Option A → B
   orDefault d f none = d
   orDefault d f (some x) = f x
+
+-- what f gives of each element, one after the other
+abbrev pub concatMap : {A B : Type 0} → (A → List B) → List A → List B
+concatMap f [] = []
+concatMap f (x ∷ xs) = f x ++ concatMap f xs
+
+abbrev pub total : List ℕ → ℕ
+total [] = 0
+total (n ∷ ns) = n + total ns
 
 -- each number is above the one before it
 abbrev pub rising : List ℕ → Bool

@@ -1,6 +1,6 @@
 -- The state is what the history says: after any list of calls from the empty state, what the numbers 1 to 9 of the table ask of users, threads,
--- segments, key lists, defined keys and locks, the list of calls and answers tells. (14 and 15 are in `Granting`. How many products a segment has, which
--- 10 asks in L, is not said here.) And the text of each standing lock spells a formula, which is what the text holds for. Proved in
+-- segments, key lists, defined keys and locks, the list of calls and answers tells. (14 and 15 are in `Granting`, 11 to 13 and
+-- what 10 asks in L in `LockTexts`, what is stored for locks in `StoredLocks`.) And the text of each standing lock spells a formula, which is what the text holds for. Proved in
 -- `proofs/Mirror.antt`. Assumes nothing.
 use mathlib.Core.Path.{_≡_}
 use mathlib.Core.Bool.{Bool, cond}
@@ -30,9 +30,13 @@ abbrev pub makersOf : List Event → List ℕ
 makersOf [] = []
 makersOf (e ∷ es) = let rest = makersOf es in cond (counts 75 e) (e .call .a ∷ rest) rest
 
+-- the keys that the accepted U, S, N and K handed out
+abbrev pub issuedBy : List Event → Issued
+issuedBy es = record { users = acceptedOf 85 es; threads = acceptedOf 83 es; segments = acceptedOf 78 es; defined = acceptedOf 75 es }
+
 pub record Mirrors (es : List Event) (d : State) : Type 0 where
   -- handed out are as many users, thread numbers, segments, defined keys and lock numbers as U, S, N, K and L were accepted
-  pub handedOut : issued d ≡ record { users = acceptedOf 85 es; threads = acceptedOf 83 es; segments = acceptedOf 78 es; defined = acceptedOf 75 es }
+  pub handedOut : issued d ≡ issuedBy es
   pub lockNumbers : d .lockNumbers ≡ acceptedOf 76 es
   -- each defined key's maker
   pub makers : d .makers ≡ makersOf es

@@ -257,13 +257,30 @@ module _ (compile : Compiler) where
 
 -- ---- what an accepted call changes
 
-abbrev pub withPlaces : State → List Place → State
-withPlaces d places =
-    record { users = d .users; threadNumbers = d .threadNumbers; lockNumbers = d .lockNumbers; makers = d .makers; segments = d .segments; places = places }
+-- one part put in the place of what was there
+abbrev pub withUsers : State → ℕ → State
+withUsers d users =
+    record { users = users; threadNumbers = d .threadNumbers; lockNumbers = d .lockNumbers; makers = d .makers; segments = d .segments; places = d .places }
+
+abbrev pub withThreadNumbers : State → ℕ → State
+withThreadNumbers d threadNumbers =
+    record { users = d .users; threadNumbers = threadNumbers; lockNumbers = d .lockNumbers; makers = d .makers; segments = d .segments; places = d .places }
+
+abbrev pub withLockNumbers : State → ℕ → State
+withLockNumbers d lockNumbers =
+    record { users = d .users; threadNumbers = d .threadNumbers; lockNumbers = lockNumbers; makers = d .makers; segments = d .segments; places = d .places }
+
+abbrev pub withMakers : State → List ℕ → State
+withMakers d makers =
+    record { users = d .users; threadNumbers = d .threadNumbers; lockNumbers = d .lockNumbers; makers = makers; segments = d .segments; places = d .places }
 
 abbrev pub withSegments : State → List Segment → State
 withSegments d segments =
     record { users = d .users; threadNumbers = d .threadNumbers; lockNumbers = d .lockNumbers; makers = d .makers; segments = segments; places = d .places }
+
+abbrev pub withPlaces : State → List Place → State
+withPlaces d places =
+    record { users = d .users; threadNumbers = d .threadNumbers; lockNumbers = d .lockNumbers; makers = d .makers; segments = d .segments; places = places }
 
 abbrev pub onSegment : State → ℕ → (Segment → Segment) → State
 onSegment d s f = withSegments d (set (d .segments) s (f (segmentAt d s)))
@@ -311,48 +328,22 @@ dropProducts n g = withProducts g (keep (λ r. not (isOfLock n r)) (g .products)
 
 module _ (compile : Compiler) where
   unfoldable pub update : State → Request → List ℕ → State
-  update d NewUser text =
-      record {
-        users = suc (d .users);
-        threadNumbers = d .threadNumbers;
-        lockNumbers = d .lockNumbers;
-        makers = d .makers;
-        segments = d .segments;
-        places = d .places;
-      }
+  update d NewUser text = withUsers d (suc (d .users))
   update d (StartThread a) text =
-      record {
-        users = d .users;
-        threadNumbers = suc (d .threadNumbers);
-        lockNumbers = d .lockNumbers;
-        makers = d .makers;
-        segments = d .segments;
-        places = set (d .places) (placeFor (d .threadNumbers) isFree (d .places)) (taken (d .threadNumbers) (record { user = a; frames = [] }));
-      }
+      let n = d .threadNumbers in
+      let new = taken n (record { user = a; frames = [] }) in
+      withThreadNumbers (withPlaces d (set (d .places) (placeFor n isFree (d .places)) new)) (suc n)
   update d (EndThread a) text = atPlace d a (λ p. free)
   update d (NewSegment a b) text =
       let s = length (d .segments) in
       withSegments d (d .segments ++ record { owner = a; kind = b; keys = SegmentKey s ∷ []; products = [] } ∷ [])
-  update d (NewKey a) text =
-      record {
-        users = d .users;
-        threadNumbers = d .threadNumbers;
-        lockNumbers = d .lockNumbers;
-        makers = d .makers ++ a ∷ [];
-        segments = d .segments;
-        places = d .places;
-      }
+  update d (NewKey a) text = withMakers d (d .makers ++ a ∷ [])
   update d (GiveKey a b c) text = onSegment d b (giveKey c)
   update d (TakeKey a b c) text = onSegment d b (takeKey c)
   update d (AddLock a b c) text =
-      record {
-        users = d .users;
-        threadNumbers = d .threadNumbers;
-        lockNumbers = suc (d .lockNumbers);
-        makers = d .makers;
-        segments = set (d .segments) b (addProducts (d .lockNumbers) c (sumIn (compile (issued d) text)) (segmentAt d b));
-        places = d .places;
-      }
+      let n = d .lockNumbers in
+      let ps = sumIn (compile (issued d) text) in
+      withLockNumbers (onSegment d b (addProducts n c ps)) (suc n)
   update d (DropLock a b) text = onSegment d (homeOf d b) (dropProducts b)
   update d (CallSegment a b) text = atPlace d a (onThread (pushFrame b (segmentAt d b .keys)))
   update d (ReturnCall a) text = atPlace d a (onThread popFrame)

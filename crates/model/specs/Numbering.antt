@@ -6,9 +6,7 @@ use mathlib.Core.List.{List, _∷_, map, List·Memᴰ}
 use mathlib.Core.Option.{some}
 use Prim.Native.Nat.{ℕ}
 use lib.ListN.{length}
-use Rattle.product.specs.Sum.{Sum}
-use Rattle.formula.specs.declared.text.Issued.{Issued}
-use Rattle.formula.specs.Outcome.{accepted, outcomeOf}
+use Rattle.formula.specs.Outcome.{outcomeOf}
 use Rattle.formula.specs.Compiler.{Compiler, Meaning, Laws}
 use Rattle.call.specs.declared.request.Request.the-variants.{EndThread, GiveKey, TakeKey, DropLock, ReturnCall}
 use Rattle.call.specs.declared.request.Decoded.the-variants.{WellFormed}
@@ -19,6 +17,7 @@ use Rattle.model.specs.Lists.{rising}
 use Rattle.model.specs.Threads.{Frame, Thread}
 use Rattle.model.specs.History.{Event, Lock, event, advance, history, listOf}
 use Rattle.model.specs.Replay.{events, answerTo}
+use Rattle.model.specs.StoredLocks.{productsOf}
 
 -- What the events before the next call say of its answer r. Where it is accepted, the history has the thread, frame or lock that it names: that is
 -- `Mirror` with `Refusing`.
@@ -29,9 +28,9 @@ pub record Numbers (compile : Compiler) (es : List Event) (next : Call) (r : Ans
   -- G and T: keys now in the list
   pub keyGiven : (a b c n : ℕ) → decoded next ≡ WellFormed (GiveKey a b c) → r ≡ Accepted n → n ≡ length (listOf (advance (history es) (event next r)) b)
   pub keyTaken : (a b c n : ℕ) → decoded next ≡ WellFormed (TakeKey a b c) → r ≡ Accepted n → n ≡ length (listOf (advance (history es) (event next r)) b)
-  -- D: products removed, as many as the compiler made of the lock's text under some counts of keys handed out
+  -- D: products removed, those of the lock's text
   pub dropped : (a b n : ℕ) → decoded next ≡ WellFormed (DropLock a b) → r ≡ Accepted n → (l : Lock) → List·Memᴰ l (history es .locks) → l .number ≡ b
-      → (i : Issued) × (ps : Sum) × (compile i (l .text) ≡ accepted ps) × (n ≡ length ps)
+      → n ≡ length (productsOf compile (l .text))
   -- R: the segment left
   pub left : (a n : ℕ) → decoded next ≡ WellFormed (ReturnCall a) → r ≡ Accepted n → (t : Thread) → history es .threads a ≡ some t
       → (f : Frame) (fs : List Frame) → t .frames ≡ f ∷ fs → n ≡ f .segment

@@ -2,8 +2,8 @@
 -- with the desk and every lent byte unchanged. Accepted is all the rest.' Over the arrays, whatever numbers are in them, and over every
 -- compiler. Proved in `proofs/Refusing.antt`. Assumes nothing.
 use mathlib.Core.Path.{_≡_}
-use mathlib.Core.Bool.{Bool, true, false, cond}
-use mathlib.Core.List.{List, _∷_, _++_, map, List·Memᴰ}
+use mathlib.Core.Bool.{Bool, true, false}
+use mathlib.Core.List.{List, [], _∷_, _++_, map, List·Memᴰ}
 use mathlib.Core.Logic.{_↔_}
 use Prim.Native.Nat.{ℕ, _≤_}
 use lib.Dec.{eqb}
@@ -16,7 +16,7 @@ use Rattle.model.specs.declared.answer.Refusal.{Refusal}
 use Rattle.model.specs.declared.answer.Refusal.the-variants.{Corrupt}
 use Rattle.model.specs.declared.answer.Answer.the-variants.{Refused}
 use Rattle.model.specs.Answers.{refusalNumber, isAccepted}
-use Rattle.model.specs.Lists.{any, rising}
+use Rattle.model.specs.Lists.{any, indexOf, rising}
 use Rattle.model.specs.Model.{State, conditions}
 use Rattle.model.specs.Cells.{Cells, stateOf, stepCells}
 
@@ -34,8 +34,11 @@ pub record FirstHolds (r : Refusal) (cs : List (Condition Refusal)) : Type 0 whe
   pub refusal : condition .refusal ≡ r
 
 -- the table's order: 'Checked in that order, 10 last'
+abbrev pub order : List ℕ
+order = 18 ∷ 1 ∷ 2 ∷ 3 ∷ 4 ∷ 5 ∷ 6 ∷ 22 ∷ 24 ∷ 7 ∷ 8 ∷ 9 ∷ 20 ∷ 11 ∷ 12 ∷ 13 ∷ 14 ∷ 15 ∷ 19 ∷ 21 ∷ 23 ∷ 25 ∷ 10 ∷ []
+
 abbrev pub rank : Refusal → ℕ
-rank r = let n = refusalNumber r in cond (eqb n 10) 19 n
+rank r = indexOf (eqb (refusalNumber r)) order
 
 pub record Refuses (compile : Compiler) (d : Cells) (x : Call) : Type 0 where
   -- 18 'before all else', exactly where the call is not well formed

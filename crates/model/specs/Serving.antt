@@ -9,20 +9,29 @@ use Rattle.call.specs.Calls.{Call}
 use Rattle.call.specs.Conditions.{firstRefusal}
 use Rattle.model.specs.declared.answer.Answer.{Answer}
 use Rattle.model.specs.Model.{conditions}
-use Rattle.model.specs.Cells.{Row, Table, Cells, stateOf, judgedCells, stepCells}
-
--- the five arrays, in the order in which they are lent
-abbrev pub cellsWith : Row → Row → List Table → List Table → List Table → Cells
-cellsWith registry makers segments locks threads = record { registry = registry; makers = makers; segments = segments; locks = locks; threads = threads }
+use Rattle.model.specs.Cells.{Cells, stateOf, judgedCells, stepCells}
 
 -- r is the answer and d are the arrays afterwards
 pub record Gives (o : record { cells : Cells; answer : Answer }) (r : Answer) (d : Cells) : Type 0 where
   pub answer : r ≡ o .answer
   pub cells : d ≡ o .cells
 
--- a well formed call on arrays d, with its text: r is the answer and d′ are the arrays afterwards
+-- what a well formed call on arrays d, with its text, leaves and answers
+abbrev pub served : Cells → Request → List ℕ → record { cells : Cells; answer : Answer }
+served d q text = judgedCells outcomeOf d q text (firstRefusal (conditions outcomeOf (stateOf d) q text))
+
+-- r is its answer and d′ are the arrays afterwards
 abbrev pub Serves : Cells → Request → List ℕ → Answer → Cells → Type 0
-Serves d q text r d′ = Gives (judgedCells outcomeOf d q text (firstRefusal (conditions outcomeOf (stateOf d) q text))) r d′
+Serves d q text r d′ = Gives (served d q text) r d′
+
+-- A function that is lent some of the arrays: `lent` puts what it is lent over any other arrays, and `changed` puts what it leaves over those. Every
+-- array that `changed` does not name is as it was, and what the arrays that are not lent hold makes no difference.
+abbrev pub ServesText : (Cells → Cells) → Request → List ℕ → Answer → (Cells → Cells) → Type 0
+ServesText lent q text r changed = (d : Cells) → Serves (lent d) q text r (changed (lent d))
+
+-- of a call that has no text
+abbrev pub ServesLent : (Cells → Cells) → Request → Answer → (Cells → Cells) → Type 0
+ServesLent lent q r changed = (text : List ℕ) → ServesText lent q text r changed
 
 -- any call
 abbrev pub Answers : Cells → Call → Answer → Cells → Type 0

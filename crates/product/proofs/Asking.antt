@@ -1,23 +1,24 @@
 -- A key set asked element by element: what a loop over keys, over a row's literals or over rows takes off at place i, and what a literal's
 -- sign makes of the answer for its key. Assumes nothing.
-use mathlib.Core.Path.{_≡_}
+use mathlib.Core.Path.{_≡_, sym, ap, _∙_}
 use mathlib.Core.Bool.{Bool, true, false, not, _&&_, _||_}
 use mathlib.Core.List.{List, []}
-use Prim.Native.Nat.{ℕ, _+_, _/_, _%_, _≤_, _<_}
+use Prim.Native.Nat.{ℕ, _+_, _≤_, _<_}
 use native.Mathlib.Omega.{arith}
 use native.Mathlib.Numerals.{add-one}
 use lib.Dec.{eqb}
 use lib.ListN.{length, getD, drop, drop-of-length-le}
 use lib.Seq.{drop-cons}
-use borrow.Author.Tests.{eq-eqb, ne-eqb}
+use Rattle.product.specs.declared.literal.Key.{Key}
+use Rattle.product.specs.declared.literal.Literal.{Literal}
+use Rattle.product.specs.declared.literal.Literal.the-variants.{Plain, Barred}
 use Rattle.product.specs.Atom.{Atom, agrees}
 use Rattle.product.specs.Product.{opens}
 use Rattle.product.specs.Sum.{opensAny}
-use Rattle.product.specs.Code.{literalAt}
+use Rattle.product.specs.Code.{literalOf}
 use Rattle.product.specs.Cells.{sizeOf, productOf, productsOf}
 use Rattle.product.specs.Steps.{Size}
 use Rattle.product.specs.Held.{member, heldBy}
-use Rattle.product.proofs.Codes.{key-code}
 use Rattle.product.proofs.Lists.{part-cons, part-past}
 
 -- a list of keys
@@ -32,13 +33,12 @@ member-past k keys i h = rw (drop-of-length-le keys h)
 
 -- a literal, by its sign
 
-pub plain-agrees : (keys : List ℕ) (x : ℕ) → x % 2 ≡ 0 → agrees (heldBy keys) (literalAt x) ≡ member (x / 2) keys
-unfolding literalAt
-plain-agrees keys x h = rw (eq-eqb (x % 2) 0 h, key-code (x / 2))
+module _ (keys : List ℕ) {l : Literal} (k : Key) {r : Bool} (h : r ≡ heldBy keys k) where
+  pub plain-agrees : l ≡ Plain k → r ≡ agrees (heldBy keys) l
+  plain-agrees e = h ∙ ap (agrees (heldBy keys)) (sym e)
 
-pub barred-agrees : (keys : List ℕ) (x : ℕ) → (x % 2 ≡ 0 → ⊥) → agrees (heldBy keys) (literalAt x) ≡ not (member (x / 2) keys)
-unfolding literalAt
-barred-agrees keys x h = rw (ne-eqb (x % 2) 0 h, key-code (x / 2))
+  pub barred-agrees : l ≡ Barred k → not r ≡ agrees (heldBy keys) l
+  barred-agrees e = ap not h ∙ ap (agrees (heldBy keys)) (sym e)
 
 -- a row's product
 
@@ -46,13 +46,13 @@ module _ {row : List ℕ} {n : ℕ} (z : Size row n) (ρ : Atom → Bool) (i : �
   inside : sizeOf row ≤ length row
   inside = omega (arith, z .size, z .small, z .cells)
 
-  pub opens-next : i < n → opens ρ (drop i (productOf row)) ≡ (agrees ρ (literalAt (getD row i 0)) && opens ρ (drop (i + 1) (productOf row)))
+  pub opens-next : i < n → opens ρ (drop i (productOf row)) ≡ (agrees ρ (literalOf (getD row i 0)) && opens ρ (drop (i + 1) (productOf row)))
   unfolding opens
-  opens-next h = rw (part-cons literalAt row (sizeOf row) inside i 0 (omega (arith, z .size)))
+  opens-next h = rw (part-cons literalOf row (sizeOf row) inside i 0 (omega (arith, z .size)))
 
   pub opens-past : n ≤ i → opens ρ (drop i (productOf row)) ≡ true
   unfolding opens
-  opens-past h = rw (part-past literalAt row (sizeOf row) inside i (omega (arith, z .size)))
+  opens-past h = rw (part-past literalOf row (sizeOf row) inside i (omega (arith, z .size)))
 
 -- rows
 

@@ -1,34 +1,22 @@
--- Literals compare as their numbers do, and a number is that of the literal which it stands for. The idea: a key's number is a pair of kind
--- and number, read as two digits of base 65,536, and a literal's a pair of key and sign, of base 2; pairs compare by the first digit, then
--- by the second. Assumes nothing.
-use mathlib.Core.Path.{_≡_, refl, sym, ap, _∙_}
-use mathlib.Core.Bool.{Bool, true, false, cond}
+-- A number is that of the literal which it stands for, the code reads and writes such numbers, and its tests on keys and literals are those of
+-- their order. The idea: a key's number is a pair of kind and number, read as two digits of base 65,536, and a literal's a pair of key and
+-- sign, of base 2. Assumes nothing.
+use mathlib.Core.Path.{_≡_, refl, sym, ap, ap₂, _∙_}
+use mathlib.Core.Bool.{Bool, true, false, not, cond, _&&_, and-true}
 use Prim.Native.Nat.{ℕ, _+_, _*_, _-_, _/_, _%_, _≤_, _<_}
 use native.Mathlib.Omega.{arith}
-use native.Mathlib.Nat.{mul-le-mul-left, mul-suc}
 use lib.Dec.{ltb, eqb}
 use borrow.Author.Tests.{ltb-true, ltb-false, lt-ltb, le-ltb, eqb-true, eqb-false}
 use Rattle.product.specs.declared.literal.Key.{Key}
 use Rattle.product.specs.declared.literal.Key.the-variants.{User, Thread, Segment, Defined}
 use Rattle.product.specs.declared.literal.Literal.{Literal}
 use Rattle.product.specs.declared.literal.Literal.the-variants.{Plain, Barred}
-use Rattle.product.specs.Atom.{kindOf, numberOf, orderOf, thenBy, compareAtoms, atomOf, signOf, compareLiterals}
+use Rattle.product.specs.Atom.{Order, Less, Equal, Greater, isLess, isEqual, kindOf, numberOf, orderOf, thenBy, compareAtoms, atomOf, signOf, compareLiterals}
 use Rattle.product.specs.Product.{same, before, opposed}
-use Rattle.product.specs.Code.{keyCode, codeOf, keyAt, literalAt, Encoded}
-use Rattle.product.specs.Steps.{EncodedKey, opposedCodes}
+use Rattle.product.specs.Code.{keyCode, codeOf, keyAt, literalAt, literalOf, Encoded}
+use Rattle.product.specs.Steps.{EncodedKey}
+use Rattle.product.proofs.Truth.{and-not-self}
 use Rattle.product.proofs.Numbers.{less-order, equal-order, greater-order, order-cases, order-tests}
-
--- two pairs compare as the numbers that they are two digits of do, where the second digit of the lesser pair is below the base
-pairs : (base x y a b c d : ℕ) → x ≡ base * a + b → y ≡ base * c + d → (a < c → b < base) → (c < a → d < base) → thenBy (orderOf a c) (orderOf b d) ≡ orderOf x y
-pairs base x y a b c d p q low high =
-    order-cases (λ o. thenBy o (orderOf b d) ≡ orderOf x y) a c
-    (λ h. let l = low h in let m = further a c h in sym (less-order (omega arith)))
-    (λ h. let e : base * a ≡ base * c = ap (λ (n : ℕ). base * n) h in order-cases (λ o. o ≡ orderOf x y) b d
-    (λ k. sym (less-order (omega arith))) (λ k. sym (equal-order (omega arith))) (λ k. sym (greater-order (omega arith))))
-    (λ h. let l = high h in let m = further c a h in sym (greater-order (omega arith)))
-  where
-    further : (m n : ℕ) → m < n → base * m + base ≤ base * n
-    further m n h = let k = mul-le-mul-left base h in omega (arith, mul-suc base m)
 
 -- keys
 
@@ -48,14 +36,6 @@ digits c = go (ltb c 65536) (ltb c 131072) (ltb c 196608) refl refl refl
     go false true r e f g = let l = ltb-false c 65536 e in let h = ltb-true c 131072 f in record { whole = omega arith; most = omega arith; digit = λ _. omega arith }
     go false false true e f g = let l = ltb-false c 131072 f in let h = ltb-true c 196608 g in record { whole = omega arith; most = omega arith; digit = λ _. omega arith }
     go false false false e f g = let l = ltb-false c 196608 g in record { whole = omega arith; most = omega arith; digit = λ k. omega arith }
-
-keys-compare : (c d : ℕ) → compareAtoms (keyAt c) (keyAt d) ≡ orderOf c d
-unfolding compareAtoms
-keys-compare c d =
-    let p = digits c in
-    let q = digits d in
-    pairs 65536 c d (kindOf (keyAt c)) (numberOf (keyAt c)) (kindOf (keyAt d)) (numberOf (keyAt d)) (p .whole) (q .whole)
-    (λ h. p .digit (omega (arith, q .most))) (λ h. q .digit (omega (arith, p .most)))
 
 pub key-code : (c : ℕ) → keyCode (keyAt c) ≡ c
 unfolding keyCode
@@ -90,14 +70,6 @@ parts x = go (eqb (x % 2) 0) refl
     go true e = record { key = refl; sign = sym (eqb-true (x % 2) 0 e) }
     go false e = let n = eqb-false (x % 2) 0 e in record { key = refl; sign = omega arith }
 
-pub literals-compare : (x y : ℕ) → compareLiterals (literalAt x) (literalAt y) ≡ orderOf x y
-unfolding compareLiterals
-literals-compare x y =
-    let p = parts x in
-    let q = parts y in
-    rw (p .key, q .key, p .sign, q .sign, keys-compare (x / 2) (y / 2))
-    (pairs 2 x y (x / 2) (x % 2) (y / 2) (y % 2) (omega arith) (omega arith) (λ _. omega arith) (λ _. omega arith))
-
 pub literal-code : (x : ℕ) → codeOf (literalAt x) ≡ x
 unfolding codeOf
 literal-code x = let p = parts x in rw (p .key, p .sign, key-code (x / 2)) (omega arith)
@@ -110,16 +82,19 @@ pub barred-at : (c : ℕ) → literalAt (2 * c + 1) ≡ Barred (keyAt c)
 unfolding literalAt
 barred-at c = let e : (2 * c + 1) % 2 ≡ 1 = omega arith in let d : (2 * c + 1) / 2 ≡ c = omega arith in rw (e, d)
 
--- the tests on literals, on their numbers
+-- the code reads a number as one below 524,288, and writes such numbers
 
-pub same-codes : (x y : ℕ) → same (literalAt x) (literalAt y) ≡ eqb x y
-same-codes x y = rw (literals-compare x y) (order-tests x y .1)
+pub read-code : (x : ℕ) → codeOf (literalOf x) ≡ x % 524288
+read-code x = literal-code (x % 524288)
 
-pub before-codes : (x y : ℕ) → before (literalAt x) (literalAt y) ≡ ltb x y
-before-codes x y = rw (literals-compare x y) (order-tests x y .0)
+pub low-code : (x : ℕ) → x < 524288 → codeOf (literalOf x) ≡ x
+low-code x h = let e : x % 524288 ≡ x = omega arith in read-code x ∙ e
 
-pub opposed-codes : (x y : ℕ) → opposed (literalAt x) (literalAt y) ≡ opposedCodes x y
-opposed-codes x y = rw (same-codes x y, parts x .key, parts y .key, keys-compare (x / 2) (y / 2), order-tests (x / 2) (y / 2) .1)
+pub read-again : (x : ℕ) → literalOf (codeOf (literalOf x)) ≡ literalOf x
+read-again x = let e : x % 524288 % 524288 ≡ x % 524288 = omega arith in ap literalOf (read-code x) ∙ ap literalAt e
+
+pub encoded-read : {l : Literal} {v : ℕ} → Encoded l v → literalOf v ≡ l
+encoded-read {l} {v} e = let m : v % 524288 ≡ v = omega (arith, e .low) in ap literalAt m ∙ e .back
 
 -- a key of 16 bits and a literal of it have the numbers that the code makes of them
 
@@ -137,8 +112,152 @@ key-encoded {k} {c} j e p h =
 
 pub plain-encoded : {l : Literal} {k : Key} {c : ℕ} → l ≡ Plain k → EncodedKey k c → Encoded l (2 * c)
 unfolding codeOf
-plain-encoded {l} {k} {c} e h = record { code = rw (e, h .code) (omega arith); back = plain-at c ∙ rw (h .back, e) }
+plain-encoded {l} {k} {c} e h = record { code = rw (e, h .code) (omega arith); back = plain-at c ∙ rw (h .back, e); low = omega (arith, h .small) }
 
 pub barred-encoded : {l : Literal} {k : Key} {c : ℕ} → l ≡ Barred k → EncodedKey k c → Encoded l (2 * c + 1)
 unfolding codeOf
-barred-encoded {l} {k} {c} e h = record { code = rw (e, h .code); back = barred-at c ∙ rw (h .back, e) }
+barred-encoded {l} {k} {c} e h = record { code = rw (e, h .code); back = barred-at c ∙ rw (h .back, e); low = omega (arith, h .small) }
+
+-- the tests on keys by their kinds and numbers, and on literals by their keys and signs
+
+equal-both : (o p : Order) → isEqual (thenBy o p) ≡ (isEqual o && isEqual p)
+equal-both Less p = refl
+equal-both Equal p = refl
+equal-both Greater p = refl
+
+module _ (a b : Key) {k l : ℕ} (e : k ≡ kindOf a) (f : l ≡ kindOf b) where
+  pub keys-same : {m n : ℕ} → m ≡ numberOf a → n ≡ numberOf b → (eqb k l && eqb m n) ≡ isEqual (compareAtoms a b)
+  unfolding compareAtoms
+  keys-same {m} {n} g h =
+      rw (e, f, g, h)
+      (sym (equal-both (orderOf (kindOf a) (kindOf b)) (orderOf (numberOf a) (numberOf b))
+      ∙ ap₂ (λ (x y : Bool). x && y) (order-tests (kindOf a) (kindOf b) .1) (order-tests (numberOf a) (numberOf b) .1)))
+
+  pub kind-same : {m n : ℕ} → k ≡ l → m ≡ numberOf a → n ≡ numberOf b → ltb m n ≡ isLess (compareAtoms a b)
+  unfolding compareAtoms
+  kind-same {m} {n} s g h =
+      let o : orderOf (kindOf a) (kindOf b) ≡ Equal = equal-order (sym e ∙ s ∙ f) in
+      rw (g, h, o) (sym (order-tests (numberOf a) (numberOf b) .0))
+
+  pub kind-other : (k ≡ l → ⊥) → ltb k l ≡ isLess (compareAtoms a b)
+  unfolding compareAtoms
+  kind-other d =
+      order-cases (λ o. ltb k l ≡ isLess (thenBy o (orderOf (numberOf a) (numberOf b)))) (kindOf a) (kindOf b)
+      (λ h. lt-ltb k l (omega (arith, e, f)))
+      (λ h. absurd (d (omega (arith, e, f))))
+      (λ h. le-ltb k l (omega (arith, e, f)))
+
+-- the other way round
+turned-round : (a b : Key) → not (isLess (compareAtoms b a)) ≡ isLess (thenBy (compareAtoms a b) Less)
+unfolding compareAtoms
+turned-round a b =
+    order-cases
+    (λ o. not (isLess (thenBy (orderOf (kindOf b) (kindOf a)) (orderOf (numberOf b) (numberOf a)))) ≡ isLess (thenBy (thenBy o (orderOf (numberOf a) (numberOf b))) Less))
+    (kindOf a) (kindOf b)
+    (λ h. rw (greater-order h))
+    (λ h. rw (equal-order (sym h))
+    (order-cases (λ o. not (isLess (orderOf (numberOf b) (numberOf a))) ≡ isLess (thenBy o Less)) (numberOf a) (numberOf b)
+    (λ i. rw (greater-order i)) (λ i. rw (equal-order (sym i))) (λ i. rw (less-order i))))
+    (λ h. rw (less-order h))
+
+less-then : (o : Order) → isLess (thenBy o Equal) ≡ isLess o
+less-then Less = refl
+less-then Equal = refl
+less-then Greater = refl
+
+less-not : (o : Order) → isLess (thenBy o Greater) ≡ isLess o
+less-not Less = refl
+less-not Equal = refl
+less-not Greater = refl
+
+equal-then : (o : Order) → isEqual (thenBy o Equal) ≡ isEqual o
+equal-then Less = refl
+equal-then Equal = refl
+equal-then Greater = refl
+
+never-equal : (o p : Order) → isEqual p ≡ false → isEqual (thenBy o p) ≡ false
+never-equal Less p e = refl
+never-equal Equal p e = e
+never-equal Greater p e = refl
+
+module _ {x y : Literal} {a b : Key} where
+  module _ (e : x ≡ Plain a) (f : y ≡ Plain b) where
+    pub plain-plain-same : {r : Bool} → r ≡ isEqual (compareAtoms a b) → r ≡ same x y
+    unfolding compareLiterals orderOf
+    plain-plain-same g = rw (e, f) (g ∙ sym (equal-then (compareAtoms a b)))
+
+    pub plain-plain-before : {r : Bool} → r ≡ isLess (compareAtoms a b) → r ≡ before x y
+    unfolding compareLiterals orderOf
+    plain-plain-before g = rw (e, f) (g ∙ sym (less-then (compareAtoms a b)))
+
+    pub plain-plain-opposed : false ≡ opposed x y
+    unfolding compareLiterals orderOf
+    plain-plain-opposed = rw (e, f, equal-then (compareAtoms a b)) (sym (and-not-self (isEqual (compareAtoms a b))))
+
+  module _ (e : x ≡ Plain a) (f : y ≡ Barred b) where
+    pub plain-barred-same : false ≡ same x y
+    unfolding compareLiterals orderOf
+    plain-barred-same = rw (e, f) (sym (never-equal (compareAtoms a b) Less refl))
+
+    pub plain-barred-before : {r : Bool} → r ≡ isLess (compareAtoms b a) → not r ≡ before x y
+    unfolding compareLiterals orderOf
+    plain-barred-before g = rw (e, f) (ap not g ∙ turned-round a b)
+
+    pub plain-barred-opposed : {r : Bool} → r ≡ isEqual (compareAtoms a b) → r ≡ opposed x y
+    unfolding compareLiterals orderOf
+    plain-barred-opposed g = rw (e, f, never-equal (compareAtoms a b) Less refl) (g ∙ sym (and-true (isEqual (compareAtoms a b))))
+
+  module _ (e : x ≡ Barred a) (f : y ≡ Plain b) where
+    pub barred-plain-same : false ≡ same x y
+    unfolding compareLiterals orderOf
+    barred-plain-same = rw (e, f) (sym (never-equal (compareAtoms a b) Greater refl))
+
+    pub barred-plain-before : {r : Bool} → r ≡ isLess (compareAtoms a b) → r ≡ before x y
+    unfolding compareLiterals orderOf
+    barred-plain-before g = rw (e, f) (g ∙ sym (less-not (compareAtoms a b)))
+
+    pub barred-plain-opposed : {r : Bool} → r ≡ isEqual (compareAtoms a b) → r ≡ opposed x y
+    unfolding compareLiterals orderOf
+    barred-plain-opposed g = rw (e, f, never-equal (compareAtoms a b) Greater refl) (g ∙ sym (and-true (isEqual (compareAtoms a b))))
+
+  module _ (e : x ≡ Barred a) (f : y ≡ Barred b) where
+    pub barred-barred-same : {r : Bool} → r ≡ isEqual (compareAtoms a b) → r ≡ same x y
+    unfolding compareLiterals orderOf
+    barred-barred-same g = rw (e, f) (g ∙ sym (equal-then (compareAtoms a b)))
+
+    pub barred-barred-before : {r : Bool} → r ≡ isLess (compareAtoms a b) → r ≡ before x y
+    unfolding compareLiterals orderOf
+    barred-barred-before g = rw (e, f) (g ∙ sym (less-then (compareAtoms a b)))
+
+    pub barred-barred-opposed : false ≡ opposed x y
+    unfolding compareLiterals orderOf
+    barred-barred-opposed = rw (e, f, equal-then (compareAtoms a b)) (sym (and-not-self (isEqual (compareAtoms a b))))
+
+-- the key of a number, by its first digit
+
+module _ (c : ℕ) where
+  pub user-at : c / 65536 ≡ 0 → User (c % 65536) ≡ keyAt c
+  unfolding keyAt
+  user-at e =
+      let l : c < 65536 = omega (arith, e) in
+      let m : c % 65536 ≡ c = omega (arith, e) in
+      rw (m, lt-ltb c 65536 l)
+
+  pub thread-at : c / 65536 ≡ 1 → Thread (c % 65536) ≡ keyAt c
+  unfolding keyAt
+  thread-at e =
+      let m : c % 65536 ≡ c - 65536 = omega (arith, e) in
+      rw (m, le-ltb c 65536 (omega (arith, e)), lt-ltb c 131072 (omega (arith, e)))
+
+  pub segment-at : c / 65536 ≡ 2 → Segment (c % 65536) ≡ keyAt c
+  unfolding keyAt
+  segment-at e =
+      let m : c % 65536 ≡ c - 131072 = omega (arith, e) in
+      rw (m, le-ltb c 65536 (omega (arith, e)), le-ltb c 131072 (omega (arith, e)), lt-ltb c 196608 (omega (arith, e)))
+
+  pub defined-at : c < 262144 → (c / 65536 ≡ 0 → ⊥) → (c / 65536 ≡ 1 → ⊥) → (c / 65536 ≡ 2 → ⊥) → Defined (c % 65536) ≡ keyAt c
+  unfolding keyAt
+  defined-at h u t s =
+      let e : c / 65536 ≡ 3 = omega (arith, h, u, t, s) in
+      let m : c % 65536 ≡ c - 196608 = omega (arith, e) in
+      rw (m, le-ltb c 65536 (omega (arith, e)), le-ltb c 131072 (omega (arith, e)), le-ltb c 196608 (omega (arith, e)))

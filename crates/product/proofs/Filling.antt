@@ -1,5 +1,5 @@
--- Rows being filled with products. The idea: up to 8 products the rows are at every moment the cells of the sum that they read as, so that
--- two of them are the same row exactly where they are the same product; and capping a list at each step is capping it at the end.
+-- Rows being filled with products. The idea: up to 8 products the rows are at every moment the cells of the sum that they read as, and
+-- capping a list at each step is capping it at the end.
 -- Assumes nothing.
 use mathlib.Core.Path.{_≡_, refl, sym, ap, _∙_}
 use mathlib.Core.Bool.{Bool, true, false, cond, _&&_, _||_, and-false, and-true}
@@ -7,18 +7,17 @@ use mathlib.Core.List.{List, [], _∷_, _++_, map, map-append}
 use mathlib.Core.Option.{none, some}
 use Prim.Native.Nat.{ℕ, zero, suc, _+_, _-_, _≤_, _<_}
 use native.Mathlib.Omega.{arith}
-use lib.Dec.{leb, eqb}
-use lib.ListN.{length, getD, set, take, drop, replicate, length-append, length-map, length-take, length-replicate, List·getD-append}
-use lib.Seq.{append-snoc, set-at, getD-take, length-take-le}
-use borrow.Author.Tests.{le-leb, lt-leb, leb-true, eqb-true, eq-eqb}
+use lib.Dec.{leb}
+use lib.ListN.{length, getD, set, take, drop, replicate, length-append, length-map, length-take, length-replicate}
+use lib.Seq.{append-snoc, set-at}
+use borrow.Author.Tests.{le-leb, lt-leb, leb-true}
 use Rattle.product.specs.Product.{Product, same, contradictory, sameProduct}
 use Rattle.product.specs.Sum.{Sum, Sum?, joinAll, conjoin, disjoin, present, consistent, firsts, tidy, narrow, fitsNode, cap, joined}
-use Rattle.product.specs.Code.{codeOf, literalAt}
+use Rattle.product.specs.Code.{literalOf}
 use Rattle.product.specs.Cells.{sizeOf, productOf, productsOf, sumOf, rowOf, blankRow, rowsOf, Written}
-use Rattle.product.specs.Steps.{add, addTo, addEach, Clean, Filled, Row, sameFrom, sameCells}
+use Rattle.product.specs.Steps.{add, addTo, addEach, Clean, Filled, Row}
 use Rattle.product.proofs.Truth.{and-both}
-use Rattle.product.proofs.Codes.{same-codes}
-use Rattle.product.proofs.Lists.{getD-mapped, read, read-all, part-snoc, length-part, part-cons, part-past}
+use Rattle.product.proofs.Lists.{part-snoc, length-part, part-cons, part-past}
 
 -- lists of products: how wide they are
 
@@ -85,7 +84,7 @@ each-append x (p ∷ ps) qs = each-append (addTo x p) ps qs
 -- the sums that rows read as
 
 short-product : (row : List ℕ) → length (productOf row) ≤ 6
-short-product row = omega (arith, length-map (take (sizeOf row) row) literalAt, length-take (sizeOf row) row)
+short-product row = omega (arith, length-map (take (sizeOf row) row) literalOf, length-take (sizeOf row) row)
 
 narrow-rows : (n : ℕ) (rows : List (List ℕ)) → narrow (productsOf n rows) ≡ true
 unfolding narrow
@@ -120,79 +119,10 @@ module _ {rows : List (List ℕ)} {n : ℕ} (h : n ≤ 8) (c : Clean rows n) whe
   pub clean-count : length (productsOf n rows) ≡ n
   clean-count = length-part productOf rows n (omega (arith, clean-length))
 
-  pub clean-row : (i : ℕ) → i < n → getD rows i [] ≡ rowOf (productOf (getD rows i []))
-  clean-row i k =
-      let l : length (take n rows) ≡ n = length-take-le n rows (omega (arith, clean-length)) in
-      let m : length (map rowOf (productsOf n rows)) ≡ n = length-map (productsOf n rows) rowOf ∙ clean-count in
-      ap (λ (r : List (List ℕ)). getD r i []) (c .cells h)
-      ∙ List·getD-append (map rowOf (productsOf n rows)) (replicate (8 - length (productsOf n rows)) blankRow) [] i (omega arith)
-      ∙ getD-mapped rowOf (productsOf n rows) i [] [] (omega (arith, clean-count))
-      ∙ ap rowOf (getD-mapped productOf (take n rows) i [] [] (omega arith) ∙ ap productOf (getD-take n rows i [] k))
-
--- two rows that are the cells of their products
-
-row-length : (row : List ℕ) → row ≡ rowOf (productOf row) → length row ≡ 8
-row-length row e =
-    let p = productOf row in
-    ap length e ∙ length-append (map codeOf p ++ replicate (7 - length p) 0) (length p ∷ [])
-    ∙ omega (arith, length-append (map codeOf p) (replicate (7 - length p) 0), length-map p codeOf, length-replicate {A = ℕ} (7 - length p) 0, short-product row)
-
-eqb-same : (n : ℕ) → eqb n n ≡ true
-eqb-same n = eq-eqb n n refl
-
-cells-same : (a : List ℕ) → sameCells a a ≡ true
-cells-same a = simp eqb-same
-
-reads-same : (a b : List ℕ) (n i : ℕ) → sameFrom a b i n ≡ true → read 0 a i n ≡ read 0 b i n
-unfolding read
-reads-same a b zero i e = refl
-reads-same a b (suc zero) i e = rw (eqb-true (getD a i 0) (getD b i 0) e)
-reads-same a b (suc (suc n)) i e =
-    let h = and-both (eqb (getD a i 0) (getD b i 0)) (sameFrom a b (suc i) (suc n)) e in
-    rw (eqb-true (getD a i 0) (getD b i 0) (h .0), reads-same a b (suc n) (suc i) (h .1))
-
-same-cells : (a b : List ℕ) → length a ≡ 8 → length b ≡ 8 → sameCells a b ≡ true → a ≡ b
-same-cells a b l m h =
-    sym (read-all 0 a 8 l) ∙ reads-same a b 8 0 h ∙ read-all 0 b 8 m
-
-codes-same : (xs : List ℕ) → sameProduct (map literalAt xs) (map literalAt xs) ≡ true
-unfolding sameProduct
-codes-same [] = refl
-codes-same (x ∷ xs) = rw (same-codes x x, eqb-same x) (codes-same xs)
-
-same-codes-all : (xs ys : List ℕ) → sameProduct (map literalAt xs) (map literalAt ys) ≡ true → xs ≡ ys
-unfolding sameProduct
-same-codes-all [] [] h = refl
-same-codes-all [] (y ∷ ys) h = cc
-same-codes-all (x ∷ xs) [] h = cc
-same-codes-all (x ∷ xs) (y ∷ ys) h =
-    let b = and-both (same (literalAt x) (literalAt y)) (sameProduct (map literalAt xs) (map literalAt ys)) h in
-    let e : x ≡ y = eqb-true x y (sym (same-codes x y) ∙ b .0) in
-    let t = same-codes-all xs ys (b .1) in
-    cc
-
-pub same-rows : (a b : List ℕ) → a ≡ rowOf (productOf a) → b ≡ rowOf (productOf b) → sameCells a b ≡ sameProduct (productOf a) (productOf b)
-same-rows a b p q = go (sameCells a b) (sameProduct (productOf a) (productOf b)) refl refl
-  where
-    go : (x y : Bool) → sameCells a b ≡ x → sameProduct (productOf a) (productOf b) ≡ y → x ≡ y
-    go true true d e = refl
-    go true false d e =
-        let i = same-cells a b (row-length a p) (row-length b q) d in
-        let s : sameProduct (productOf a) (productOf b) ≡ true = rw (← i) (codes-same (take (sizeOf a) a)) in
-        cc
-    go false true d e =
-        let i = same-codes-all (take (sizeOf a) a) (take (sizeOf b) b) e in
-        let j : a ≡ b = p ∙ ap (λ (x : List ℕ). rowOf (map literalAt x)) i ∙ sym q in
-        let s : sameCells a b ≡ true = rw (← j) (cells-same a) in
-        cc
-    go false false d e = refl
-
 -- a loop that looks for a row among clean ones: what is left at i, and at the end
 module _ {rows : List (List ℕ)} {n : ℕ} {row : List ℕ} (c : (n ≤ 8) × (Clean rows n) × (row ≡ rowOf (productOf row))) (i : ℕ) where
-  pub present-same : i < n → (drop i (productsOf n rows) ≡ productOf (getD rows i []) ∷ drop (i + 1) (productsOf n rows))
-      × (sameCells row (getD rows i []) ≡ sameProduct (productOf row) (productOf (getD rows i [])))
-  present-same h =
-      (part-cons productOf rows n (omega (arith, c .0, clean-length (c .0) (c .1))) i [] h, same-rows row (getD rows i []) (c .2) (clean-row (c .0) (c .1) i h))
+  pub present-next : i < n → drop i (productsOf n rows) ≡ productOf (getD rows i []) ∷ drop (i + 1) (productsOf n rows)
+  present-next h = part-cons productOf rows n (omega (arith, c .0, clean-length (c .0) (c .1))) i [] h
 
   pub present-past : n ≤ i → drop i (productsOf n rows) ≡ []
   present-past h = part-past productOf rows n (omega (arith, c .0, clean-length (c .0) (c .1))) i h

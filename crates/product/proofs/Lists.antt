@@ -5,7 +5,7 @@ use Prim.Native.Nat.{ℕ, zero, suc, _+_, _-_, _≤_, _<_}
 use native.Mathlib.Omega.{arith}
 use native.Mathlib.Numerals.{add-one}
 use lib.ListN.{length, getD, set, take, drop, replicate, length-map, List·getD-map, drop-of-length-le, take-append-drop}
-use lib.Seq.{take-all, drop-drop, take-take, take-suc-set, take-set-lt, drop-set-lt, length-take-le, getD-take, drop-cons}
+use lib.Seq.{take-all, drop-drop, take-take, take-suc, take-suc-set, take-set-lt, drop-set-lt, length-take-le, getD-take, drop-cons}
 
 module _ {A B : Type 0} (f : A → B) where
   pub map-take : (n : ℕ) (s : List A) → map f (take n s) ≡ take n (map f s)
@@ -23,14 +23,6 @@ pub getD-mapped : {A B : Type 0} (f : A → B) (l : List A) (i : ℕ) (d : A) (e
 getD-mapped f [] i d e h = let z : ⊥ = omega arith in absurd z
 getD-mapped f (x ∷ l) zero d e h = refl
 getD-mapped f (x ∷ l) (suc i) d e h = getD-mapped f l i d e (omega arith)
-
-pub map-map : {A B C : Type 0} (f : A → B) (g : B → C) (s : List A) → map g (map f s) ≡ map (λ x. g (f x)) s
-map-map f g [] = refl
-map-map f g (x ∷ s) = ap (λ u. g (f x) ∷ u) (map-map f g s)
-
-pub map-id : {A : Type 0} (f : A → A) → ((x : A) → f x ≡ x) → (s : List A) → map f s ≡ s
-map-id f h [] = refl
-map-id f h (x ∷ s) = rw (h x, map-id f h s)
 
 pub head-drop : {A : Type 0} (i : ℕ) (l : List A) (d : A) → getD (drop i l) 0 d ≡ getD l i d
 head-drop zero l d = refl
@@ -87,6 +79,9 @@ module _ {X Y : Type 0} (f : X → Y) where
   -- one element further, after it was stored
   pub part-snoc : (l : List X) (n : ℕ) (v : X) → n < length l → part (set l n v) (n + 1) ≡ part l n ++ f v ∷ []
   part-snoc l n v h = rw (add-one n, take-suc-set l n v h) (map-append f (take n l) (v ∷ []))
+
+  pub part-step : (l : List X) (n : ℕ) (d : X) → n < length l → part l (n + 1) ≡ part l n ++ f (getD l n d) ∷ []
+  part-step l n d h = rw (add-one n, take-suc l n d h) (map-append f (take n l) (getD l n d ∷ []))
 
   -- what stands past a store
   pub part-after : (l : List X) (n i : ℕ) (v : X) → i < n → drop (i + 1) (part (set l i v) n) ≡ drop (i + 1) (part l n)

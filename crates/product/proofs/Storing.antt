@@ -1,7 +1,7 @@
 -- Literals, products and sums are read back from their numbers: a literal's number is below 524,288 and stands for it, so a row's numbers
 -- stand for the product's literals. Assumes nothing.
-use mathlib.Core.Path.{_≡_, refl, ap, _∙_}
-use mathlib.Core.List.{List, map}
+use mathlib.Core.Path.{_≡_, refl, ap, ap₂, _∙_}
+use mathlib.Core.List.{List, _∷_, map}
 use mathlib.Core.Option.{some}
 use Prim.Native.Nat.{ℕ, _+_, _*_, _-_, _%_, _<_}
 use native.Mathlib.Omega.{arith}
@@ -13,7 +13,7 @@ use Rattle.product.specs.declared.literal.Literal.the-variants.{Plain, B
 use Rattle.product.specs.Atom.{numberOf}
 use Rattle.product.specs.Product.{Product, All, no-more, and-more}
 use Rattle.product.specs.Sum.{Sum}
-use Rattle.product.specs.Code.{keyCode, codeOf, literalAt, Numbered}
+use Rattle.product.specs.Code.{keyCode, codeOf, literalAt, literalOf, Numbered}
 use Rattle.product.specs.Steps.{EncodedKey}
 use Rattle.product.specs.Cells.{productOf, rowOf, blankRow, rowsOf}
 use Rattle.product.specs.Storing.{SameReading, LiteralBack, Storable, ProductBack, SumBack}
@@ -41,14 +41,14 @@ same-reading x h = let e : x % 524288 ≡ x = omega arith in rw e
 pub literal-back : LiteralBack
 literal-back x h = same-reading (codeOf x) (code-small x h) ∙ literal-at x h
 
-literals-back : {p : Product} → All Numbered p → map literalAt (map codeOf p) ≡ p
+literals-back : {p : Product} → All Numbered p → map literalOf (map codeOf p) ≡ p
 literals-back no-more = refl
-literals-back (and-more {x} h r) = rw (literal-at x h, literals-back r)
+literals-back (and-more {x} h r) = ap₂ (λ (l : Literal) (q : Product). l ∷ q) (literal-back x h) (literals-back r)
 
 pub product-back : ProductBack
 product-back p s =
     let n : length (map codeOf p) ≡ length p = length-map p codeOf in
-    row-for (map codeOf p) (length p) n (s .short) .product ∙ literals-back (s .numbers)
+    row-for (map codeOf p) (length p) n (s .short) (ap (map codeOf) (literals-back (s .numbers))) .product ∙ literals-back (s .numbers)
 
 rows-back : {ps : Sum} → All Storable ps → map productOf (map rowOf ps) ≡ ps
 rows-back no-more = refl

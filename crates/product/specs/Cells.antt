@@ -9,14 +9,14 @@ use lib.Dec.{leb}
 use lib.ListN.{length, getD, take, replicate}
 use Rattle.product.specs.Product.{Product}
 use Rattle.product.specs.Sum.{Sum, Sum?, mostProducts, mostLiterals}
-use Rattle.product.specs.Code.{codeOf, literalAt}
+use Rattle.product.specs.Code.{codeOf, literalOf}
 
 -- the product that a row holds, whatever its numbers are
 abbrev pub sizeOf : List ℕ → ℕ
 sizeOf row = min (getD row 7 0) mostLiterals
 
 abbrev pub productOf : List ℕ → Product
-productOf row = map literalAt (take (sizeOf row) row)
+productOf row = map literalOf (take (sizeOf row) row)
 
 -- the sum that the first n rows hold
 abbrev pub productsOf : ℕ → List (List ℕ) → Sum

@@ -45,3 +45,4 @@ Numbered x = numberOf (atomOf x) < numberLimit
 pub record Encoded (l : Literal) (x : ℕ) : Type 0 where
   pub code : x ≡ codeOf l
   pub back : literalAt x ≡ l
+  pub low : x < codeLimit

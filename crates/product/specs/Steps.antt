@@ -1,15 +1,15 @@
 -- What the crate's private functions promise each other. Nothing here is part of what a reader must believe.
 use mathlib.Core.Path.{_≡_}
-use mathlib.Core.Bool.{Bool, true, not, cond, _&&_, _||_}
+use mathlib.Core.Bool.{cond, _||_}
 use mathlib.Core.List.{List, [], _∷_, _++_, map}
 use mathlib.Core.Option.{none, some}
-use Prim.Native.Nat.{ℕ, zero, suc, _+_, _-_, _/_, _≤_, _<_}
-use lib.Dec.{ltb, eqb}
+use Prim.Native.Nat.{ℕ, _+_, _-_, _≤_, _<_}
 use lib.ListN.{length, getD, take, drop, replicate}
 use Rattle.product.specs.declared.literal.Key.{Key}
+use Rattle.product.specs.declared.literal.Literal.{Literal}
 use Rattle.product.specs.Product.{Product, insert, contradictory}
 use Rattle.product.specs.Sum.{Sum, Sum?, cap, present}
-use Rattle.product.specs.Code.{keyCode, keyAt, literalAt}
+use Rattle.product.specs.Code.{keyCode, keyAt, literalOf, codeLimit}
 use Rattle.product.specs.Cells.{sizeOf, productOf, productsOf, sumOf, rowOf, rowsOf}
 
 -- a count that is clamped, of a row of 8 cells
@@ -26,7 +26,7 @@ pub record EncodedKey (k : Key) (c : ℕ) : Type 0 where
 
 -- the product that the first n of sixteen cells hold
 abbrev pub wideOf : ℕ → List ℕ → Product
-wideOf n cells = map literalAt (take n cells)
+wideOf n cells = map literalOf (take n cells)
 
 -- a sum with p at its end, unless p is contradictory or there already; with each of several
 unfoldable pub add : Sum → Product → Sum
@@ -50,33 +50,15 @@ pub record Filled (x : Sum?) (rows : List (List ℕ)) (n : ℕ) : Type 0 where
   pub clean : Clean rows n
   pub reads : sumOf n rows ≡ x
 
--- n cells from i on are the same; all eight are
-abbrev pub sameFrom : List ℕ → List ℕ → ℕ → ℕ → Bool
-sameFrom a b i zero = true
-sameFrom a b i (suc zero) = eqb (getD a i 0) (getD b i 0)
-sameFrom a b i (suc (suc n)) = eqb (getD a i 0) (getD b i 0) && sameFrom a b (suc i) (suc n)
-
-abbrev pub sameCells : List ℕ → List ℕ → Bool
-sameCells a b = sameFrom a b 0 8
-
--- the lesser and the greater of two numbers, and of two literals' numbers whether they are one key's
-abbrev pub lesserOf : ℕ → ℕ → ℕ
-lesserOf x y = cond (ltb x y) x y
-
-abbrev pub greaterOf : ℕ → ℕ → ℕ
-greaterOf x y = cond (ltb x y) y x
-
-abbrev pub opposedCodes : ℕ → ℕ → Bool
-opposedCodes x y = eqb (x / 2) (y / 2) && not (eqb x y)
-
--- sixteen cells that hold n literals, and 0 elsewhere
+-- sixteen cells that hold the numbers of n literals, and 0 elsewhere
 pub record Blank (cells : List ℕ) (n : ℕ) : Type 0 where
   pub most : n ≤ 12
   pub rest : drop n cells ≡ replicate (16 - n) 0
+  pub coded : (j : ℕ) → j < n → getD cells j 0 < codeLimit
 
 -- x put among n literals of sixteen cells
-pub record Inserted (x n : ℕ) (old cells : List ℕ) (r : ℕ) : Type 0 where
-  pub product : wideOf r cells ≡ insert (literalAt x) (wideOf n old)
+pub record Inserted (x : Literal) (n : ℕ) (old cells : List ℕ) (r : ℕ) : Type 0 where
+  pub product : wideOf r cells ≡ insert x (wideOf n old)
   pub blank : Blank cells r
   pub few : r ≤ n + 1
 

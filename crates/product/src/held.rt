@@ -5,9 +5,12 @@ ghost use lib.ListN.{length};
 ghost use Rattle.product.specs.Atom.{agrees};
 ghost use Rattle.product.specs.Product.{opens};
 ghost use Rattle.product.specs.Sum.{opensAny};
-ghost use Rattle.product.specs.Code.{literalAt};
 ghost use Rattle.product.specs.Cells.{productOf, productsOf, sumOf};
-ghost use Rattle.product.specs.Held.{member, heldBy, opensSum};
+ghost use Rattle.product.specs.Held.{heldBy, opensSum};
+use crate::literal::Key;
+use crate::literal::Literal;
+use crate::literal::decode;
+use crate::literal::encode_key;
 use crate::row::Cells;
 use crate::row::size;
 use crate::sum::MOST_PRODUCTS;
@@ -45,7 +48,7 @@ fn product_opens(row: &Cells, keys: &[u32]) -> bool
     let n = size(row);
     let mut i = 0;
     while i < n {
-        let x = row[i];
+        let x = decode(row[i]);
         if !agrees(x, keys) {
             return false;
         }
@@ -55,21 +58,25 @@ fn product_opens(row: &Cells, keys: &[u32]) -> bool
 }
 
 // A plain key agrees where it is held, a barred one where it is not.
-fn agrees(x: u32, keys: &[u32]) -> bool
-    ensures { λ r. ⌜ r ≡ agrees (heldBy (now (keys .entry))) (literalAt x) ⌝ }
+fn agrees(l: Literal, keys: &[u32]) -> bool
+    ensures { λ r. ⌜ r ≡ agrees (heldBy (now (keys .entry))) l ⌝ }
 {
-    let held = holds(keys, x / 2);
-    if x % 2 == 0 { held } else { !held }
+    match l {
+        Literal::Plain(key) => holds(keys, key),
+        Literal::Barred(key) => !holds(keys, key),
+    }
 }
 
-fn holds(keys: &[u32], key: u32) -> bool
-    ensures { λ r. ⌜ r ≡ member key (now (keys .entry)) ⌝ }
+// The key's number is among those of the key set.
+fn holds(keys: &[u32], key: Key) -> bool
+    ensures { λ r. ⌜ r ≡ heldBy (now (keys .entry)) key ⌝ }
 {
+    let code = encode_key(key);
     let n = keys.len();
     let mut i = 0;
     while i < n {
         let x = keys[i];
-        if key == x {
+        if code == x {
             return true;
         }
         i += 1;

@@ -1,6 +1,8 @@
 // Keys and literals, and a literal as one number.
 ghost use mathlib.Core.Path.{_≡_};
 ghost use Prim.Native.Nat.{_<_};
+ghost use Rattle.product.specs.Atom.{kindOf, numberOf, isLess, isEqual, compareAtoms};
+ghost use Rattle.product.specs.Product.{same, before, opposed};
 ghost use Rattle.product.specs.Code.{keyAt, literalOf, Encoded};
 ghost use Rattle.product.specs.Steps.{EncodedKey};
 
@@ -41,7 +43,7 @@ pub fn decode(x: u32) -> Literal
     }
 }
 
-fn encode_key(k: Key) -> u32
+pub(crate) fn encode_key(k: Key) -> u32
     ensures { λ r. ⌜ EncodedKey k r ⌝ }
 {
     match k {
@@ -56,13 +58,97 @@ fn decode_key(c: u32) -> Key
     requires { ⌜ c < 262144 ⌝ }
     ensures { λ r. ⌜ r ≡ keyAt c ⌝ }
 {
-    if c < 65536 {
-        Key::User(c as u16)
-    } else if c < 131072 {
-        Key::Thread((c - 65536) as u16)
-    } else if c < 196608 {
-        Key::Segment((c - 131072) as u16)
-    } else {
-        Key::Defined((c - 196608) as u16)
+    let number = (c % 65536) as u16;
+    match c / 65536 {
+        0 => Key::User(number),
+        1 => Key::Thread(number),
+        2 => Key::Segment(number),
+        _ => Key::Defined(number),
+    }
+}
+
+// The same key with the same sign.
+pub(crate) fn same(x: Literal, y: Literal) -> bool
+    ensures { λ r. ⌜ r ≡ same x y ⌝ }
+{
+    match x {
+        Literal::Plain(a) => match y {
+            Literal::Plain(b) => same_key(a, b),
+            Literal::Barred(_) => false,
+        },
+        Literal::Barred(a) => match y {
+            Literal::Plain(_) => false,
+            Literal::Barred(b) => same_key(a, b),
+        },
+    }
+}
+
+// The same key, once plain and once barred.
+pub(crate) fn opposed(x: Literal, y: Literal) -> bool
+    ensures { λ r. ⌜ r ≡ opposed x y ⌝ }
+{
+    match x {
+        Literal::Plain(a) => match y {
+            Literal::Plain(_) => false,
+            Literal::Barred(b) => same_key(a, b),
+        },
+        Literal::Barred(a) => match y {
+            Literal::Plain(b) => same_key(a, b),
+            Literal::Barred(_) => false,
+        },
+    }
+}
+
+// By the key; plain before barred.
+pub(crate) fn before(x: Literal, y: Literal) -> bool
+    ensures { λ r. ⌜ r ≡ before x y ⌝ }
+{
+    match x {
+        Literal::Plain(a) => match y {
+            Literal::Plain(b) => key_before(a, b),
+            Literal::Barred(b) => !key_before(b, a),
+        },
+        Literal::Barred(a) => match y {
+            Literal::Plain(b) => key_before(a, b),
+            Literal::Barred(b) => key_before(a, b),
+        },
+    }
+}
+
+fn same_key(a: Key, b: Key) -> bool
+    ensures { λ r. ⌜ r ≡ isEqual (compareAtoms a b) ⌝ }
+{
+    (kind(a) == kind(b)) & (number(a) == number(b))
+}
+
+// U, R, S, D, then by number.
+fn key_before(a: Key, b: Key) -> bool
+    ensures { λ r. ⌜ r ≡ isLess (compareAtoms a b) ⌝ }
+{
+    let k = kind(a);
+    let l = kind(b);
+    if k == l { number(a) < number(b) } else { k < l }
+}
+
+// The place of the key's kind in U, R, S, D.
+fn kind(k: Key) -> u16
+    ensures { λ r. ⌜ r ≡ kindOf k ⌝ }
+{
+    match k {
+        Key::User(_) => 0,
+        Key::Thread(_) => 1,
+        Key::Segment(_) => 2,
+        Key::Defined(_) => 3,
+    }
+}
+
+fn number(k: Key) -> u16
+    ensures { λ r. ⌜ r ≡ numberOf k ⌝ }
+{
+    match k {
+        Key::User(n) => n,
+        Key::Thread(n) => n,
+        Key::Segment(n) => n,
+        Key::Defined(n) => n,
     }
 }

@@ -3,10 +3,13 @@
 ghost use mathlib.Core.Path.{_≡_};
 ghost use Prim.Native.Nat.{_+_, _≤_, _<_};
 ghost use lib.ListN.{getD, drop};
-ghost use Rattle.product.specs.Product.{union, clashes, contradictory};
-ghost use Rattle.product.specs.Code.{literalAt};
+ghost use Rattle.product.specs.Product.{union, clashes, contradictory, sameProduct};
 ghost use Rattle.product.specs.Cells.{productOf};
-ghost use Rattle.product.specs.Steps.{Size, Blank, Row, Inserted, Joined, wideOf, sameCells, lesserOf, greaterOf, opposedCodes};
+ghost use Rattle.product.specs.Steps.{Size, Blank, Row, Inserted, Joined, wideOf};
+use crate::literal;
+use crate::literal::Literal;
+use crate::literal::decode;
+use crate::literal::encode;
 use crate::sum::COUNT_CELL;
 use crate::sum::MOST_LITERALS;
 
@@ -23,7 +26,8 @@ pub(crate) fn widen(row: &Cells, cells: &mut Wide) -> usize
     *cells = [0u32; 16];
     let mut i = 0;
     while i < n {
-        cells[i] = row[i];
+        let x = decode(row[i]);
+        cells[i] = encode(x);
         i += 1;
     }
     n
@@ -37,7 +41,7 @@ pub(crate) fn join(p: &Cells, q: &Cells, cells: &mut Wide) -> usize
     let mut n = widen(p, cells);
     let mut i = 0;
     while i < m {
-        let x = q[i];
+        let x = decode(q[i]);
         n = insert(cells, n, x);
         i += 1;
     }
@@ -51,7 +55,7 @@ pub(crate) fn contradictory(cells: &Wide, n: usize) -> bool
 {
     let mut i = 0;
     while i < n {
-        let x = cells[i];
+        let x = decode(cells[i]);
         if clashes(cells, n, i + 1, x) {
             return true;
         }
@@ -77,68 +81,63 @@ pub(crate) fn narrow(cells: &Wide, n: usize) -> Cells
     ]
 }
 
+// The same literals, in the same places.
 pub(crate) fn same(p: &Cells, q: &Cells) -> bool
-    ensures { λ r. ⌜ r ≡ sameCells (now (p .entry)) (now (q .entry)) ⌝ }
+    ensures { λ r. ⌜ r ≡ sameProduct (productOf (now (p .entry))) (productOf (now (q .entry))) ⌝ }
 {
-    (p[0] == q[0])
-        & ((p[1] == q[1])
-            & ((p[2] == q[2])
-                & ((p[3] == q[3])
-                    & ((p[4] == q[4]) & ((p[5] == q[5]) & ((p[6] == q[6]) & (p[7] == q[7])))))))
+    let n = size(p);
+    let m = size(q);
+    if n != m {
+        return false;
+    }
+    let mut i = 0;
+    while i < n {
+        let x = decode(p[i]);
+        let y = decode(q[i]);
+        if !literal::same(x, y) {
+            return false;
+        }
+        i += 1;
+    }
+    true
 }
 
 // Puts x in its place among the first n literals, unless it is there. Answers how many they are then.
-fn insert(cells: &mut Wide, n: usize, x: u32) -> usize
+fn insert(cells: &mut Wide, n: usize, x: Literal) -> usize
     requires { ⌜ (n < 12) × (Blank (now cells) n) ⌝ }
     ensures { λ r. ⌜ Inserted x n (now (cells .entry)) (now (cells .exit)) r ⌝ }
 {
     let mut carried = x;
     let mut i = 0;
     while i < n {
-        let y = cells[i];
-        if carried == y {
+        let y = decode(cells[i]);
+        if literal::same(carried, y) {
             return n;
         }
-        cells[i] = lesser(carried, y);
-        carried = greater(carried, y);
+        if literal::before(carried, y) {
+            cells[i] = encode(carried);
+            carried = y;
+        }
         i += 1;
     }
-    cells[n] = carried;
+    cells[n] = encode(carried);
     n + 1
 }
 
 // Some literal from place `from` on is opposed to x.
-fn clashes(cells: &Wide, n: usize, from: usize, x: u32) -> bool
+fn clashes(cells: &Wide, n: usize, from: usize, x: Literal) -> bool
     requires { ⌜ Blank (now cells) n ⌝ }
-    ensures { λ r. ⌜ r ≡ clashes (literalAt x) (drop from (wideOf n (now (cells .entry)))) ⌝ }
+    ensures { λ r. ⌜ r ≡ clashes x (drop from (wideOf n (now (cells .entry)))) ⌝ }
 {
     let mut i = from;
     while i < n {
-        let y = cells[i];
-        if opposed(x, y) {
+        let y = decode(cells[i]);
+        if literal::opposed(x, y) {
             return true;
         }
         i += 1;
     }
     false
-}
-
-fn opposed(x: u32, y: u32) -> bool
-    ensures { λ r. ⌜ r ≡ opposedCodes x y ⌝ }
-{
-    (x / 2 == y / 2) & (x != y)
-}
-
-fn lesser(x: u32, y: u32) -> u32
-    ensures { λ r. ⌜ r ≡ lesserOf x y ⌝ }
-{
-    if x < y { x } else { y }
-}
-
-fn greater(x: u32, y: u32) -> u32
-    ensures { λ r. ⌜ r ≡ greaterOf x y ⌝ }
-{
-    if x < y { y } else { x }
 }
 
 // How many literals a row holds.

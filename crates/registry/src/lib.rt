@@ -1,12 +1,10 @@
 // The registry: how many users, threads, segments, defined keys and locks were handed out. U is the one call that touches nothing else.
 ghost use mathlib.Core.Path.{_≡_};
-ghost use mathlib.Core.List.{List};
-ghost use Prim.Native.Nat.{ℕ};
 ghost use lib.Dec.{ltb};
 ghost use Rattle.call.specs.declared.request.Request.the-variants.{NewUser};
 ghost use Rattle.model.specs.Limits.{mostSegments};
-ghost use Rattle.model.specs.Cells.{Row, Table, cell, userCount, segmentCount, definedCount};
-ghost use Rattle.model.specs.Serving.{cellsWith, Serves};
+ghost use Rattle.model.specs.Cells.{registryIs, cell, userCount, segmentCount, definedCount};
+ghost use Rattle.model.specs.Serving.{ServesLent};
 ghost use Rattle.registry.specs.Counts.{Counted, Handed};
 use model::answer::Answer;
 use model::answer::Refusal;
@@ -53,7 +51,10 @@ fn clamp(x: u32, most: usize) -> usize
 
 // U, new user.
 pub fn new_user(registry: &mut Registry) -> Answer
-    ensures { λ r. ⌜ ((makers : Row) (segments locks threads : List Table) (text : List ℕ) → Serves (cellsWith (now (registry .entry)) makers segments locks threads) NewUser text r (cellsWith (now (registry .exit)) makers segments locks threads)) ⌝ }
+    ensures { λ r. ⌜ ServesLent
+        (registryIs (now (registry .entry)))
+        NewUser r
+        (registryIs (now (registry .exit))) ⌝ }
 {
     let users = registry[USERS];
     if MOST_USERS <= users {

@@ -1,10 +1,7 @@
 // Access route control: C and A, granted by the keys that the thread's open calls have handed over.
-ghost use mathlib.Core.Path.{_≡_};
-ghost use mathlib.Core.List.{List};
-ghost use Prim.Native.Nat.{ℕ};
 ghost use Rattle.call.specs.declared.request.Request.the-variants.{CallSegment, Access};
-ghost use Rattle.model.specs.Cells.{Row};
-ghost use Rattle.model.specs.Serving.{cellsWith, Serves};
+ghost use Rattle.model.specs.Cells.{registryIs, segmentsAre, locksAre, threadsAre, unchanged, _and_};
+ghost use Rattle.model.specs.Serving.{ServesLent};
 use checking::opening;
 use checking::verdict;
 use model::answer::Answer;
@@ -30,7 +27,11 @@ pub fn call_segment(
     number: u16,
     segment: u16,
 ) -> Answer
-    ensures { λ r. ⌜ ((makers : Row) (text : List ℕ) → Serves (cellsWith (now (registry .entry)) makers (now (segments .entry)) (now (locks .entry)) (now (threads .entry))) (CallSegment number segment) text r (cellsWith (now (registry .entry)) makers (now (segments .entry)) (now (locks .entry)) (now (threads .exit)))) ⌝ }
+    ensures { λ r. ⌜ ServesLent
+        (registryIs (now (registry .entry)) and segmentsAre (now (segments .entry))
+        and locksAre (now (locks .entry)) and threadsAre (now (threads .entry)))
+        (CallSegment number segment) r
+        (threadsAre (now (threads .exit))) ⌝ }
 {
     let place = find(threads, number);
     if PLACES <= place {
@@ -64,7 +65,11 @@ pub fn access(
     segment: u16,
     operation: u16,
 ) -> Answer
-    ensures { λ r. ⌜ ((makers : Row) (text : List ℕ) → Serves (cellsWith (now (registry .entry)) makers (now (segments .entry)) (now (locks .entry)) (now (threads .entry))) (Access number segment operation) text r (cellsWith (now (registry .entry)) makers (now (segments .entry)) (now (locks .entry)) (now (threads .entry)))) ⌝ }
+    ensures { λ r. ⌜ ServesLent
+        (registryIs (now (registry .entry)) and segmentsAre (now (segments .entry))
+        and locksAre (now (locks .entry)) and threadsAre (now (threads .entry)))
+        (Access number segment operation) r
+        unchanged ⌝ }
 {
     let place = find(threads, number);
     if PLACES <= place {

@@ -1,9 +1,7 @@
 // K, N, G and T.
-ghost use mathlib.Core.List.{List};
-ghost use Prim.Native.Nat.{ℕ};
 ghost use Rattle.call.specs.declared.request.Request.the-variants.{NewSegment, NewKey, GiveKey, TakeKey};
-ghost use Rattle.model.specs.Cells.{Row, Table, cell, definedCount};
-ghost use Rattle.model.specs.Serving.{cellsWith, Serves};
+ghost use Rattle.model.specs.Cells.{registryIs, makersAre, segmentsAre, locksAre, _and_};
+ghost use Rattle.model.specs.Serving.{ServesLent};
 use crate::list::strike;
 use model::answer::Answer;
 use model::answer::Refusal;
@@ -31,7 +29,10 @@ const SHEET: u16 = 1;
 
 // K, new key.
 pub fn new_key(registry: &mut Registry, makers: &mut Makers, user: u16) -> Answer
-    ensures { λ r. ⌜ ((segments locks threads : List Table) (text : List ℕ) → Serves (cellsWith (now (registry .entry)) (now (makers .entry)) segments locks threads) (NewKey user) text r (cellsWith (now (registry .exit)) (now (makers .exit)) segments locks threads)) ⌝ }
+    ensures { λ r. ⌜ ServesLent
+        (registryIs (now (registry .entry)) and makersAre (now (makers .entry)))
+        (NewKey user) r
+        (registryIs (now (registry .exit)) and makersAre (now (makers .exit))) ⌝ }
 {
     if !is_user(registry, user) {
         return Answer::Refused(Refusal::UnknownUser);
@@ -53,7 +54,10 @@ pub fn new_segment(
     user: u16,
     kind: u16,
 ) -> Answer
-    ensures { λ r. ⌜ ((makers : Row) (threads : List Table) (text : List ℕ) → Serves (cellsWith (now (registry .entry)) makers (now (segments .entry)) (now (locks .entry)) threads) (NewSegment user kind) text r (cellsWith (now (registry .exit)) makers (now (segments .exit)) (now (locks .exit)) threads)) ⌝ }
+    ensures { λ r. ⌜ ServesLent
+        (registryIs (now (registry .entry)) and segmentsAre (now (segments .entry)) and locksAre (now (locks .entry)))
+        (NewSegment user kind) r
+        (registryIs (now (registry .exit)) and segmentsAre (now (segments .exit)) and locksAre (now (locks .exit))) ⌝ }
 {
     if !is_user(registry, user) {
         return Answer::Refused(Refusal::UnknownUser);
@@ -85,7 +89,10 @@ pub fn give_key(
     segment: u16,
     key: u16,
 ) -> Answer
-    ensures { λ r. ⌜ ((locks threads : List Table) (text : List ℕ) → Serves (cellsWith (now (registry .entry)) (now (makers .entry)) (now (segments .entry)) locks threads) (GiveKey user segment key) text r (cellsWith (now (registry .entry)) (now (makers .entry)) (now (segments .exit)) locks threads)) ⌝ }
+    ensures { λ r. ⌜ ServesLent
+        (registryIs (now (registry .entry)) and makersAre (now (makers .entry)) and segmentsAre (now (segments .entry)))
+        (GiveKey user segment key) r
+        (segmentsAre (now (segments .exit))) ⌝ }
 {
     if !is_user(registry, user) {
         return Answer::Refused(Refusal::UnknownUser);
@@ -126,7 +133,10 @@ pub fn take_key(
     segment: u16,
     key: u16,
 ) -> Answer
-    ensures { λ r. ⌜ ((locks threads : List Table) (text : List ℕ) → Serves (cellsWith (now (registry .entry)) (now (makers .entry)) (now (segments .entry)) locks threads) (TakeKey user segment key) text r (cellsWith (now (registry .entry)) (now (makers .entry)) (now (segments .exit)) locks threads)) ⌝ }
+    ensures { λ r. ⌜ ServesLent
+        (registryIs (now (registry .entry)) and makersAre (now (makers .entry)) and segmentsAre (now (segments .entry)))
+        (TakeKey user segment key) r
+        (segmentsAre (now (segments .exit))) ⌝ }
 {
     if !is_user(registry, user) {
         return Answer::Refused(Refusal::UnknownUser);

@@ -1,9 +1,7 @@
 // S, E and R.
-ghost use mathlib.Core.List.{List};
-ghost use Prim.Native.Nat.{ℕ};
 ghost use Rattle.call.specs.declared.request.Request.the-variants.{StartThread, EndThread, ReturnCall};
-ghost use Rattle.model.specs.Cells.{Row, Table};
-ghost use Rattle.model.specs.Serving.{cellsWith, Serves};
+ghost use Rattle.model.specs.Cells.{registryIs, threadsAre, _and_};
+ghost use Rattle.model.specs.Serving.{ServesLent};
 use crate::frames::depth;
 use crate::place::PLACES;
 use crate::place::find;
@@ -21,7 +19,10 @@ const MOST_NUMBERS: u32 = 65536;
 
 // S, start thread.
 pub fn start_thread(registry: &mut Registry, threads: &mut Threads, user: u16) -> Answer
-    ensures { λ r. ⌜ ((makers : Row) (segments locks : List Table) (text : List ℕ) → Serves (cellsWith (now (registry .entry)) makers segments locks (now (threads .entry))) (StartThread user) text r (cellsWith (now (registry .exit)) makers segments locks (now (threads .exit)))) ⌝ }
+    ensures { λ r. ⌜ ServesLent
+        (registryIs (now (registry .entry)) and threadsAre (now (threads .entry)))
+        (StartThread user) r
+        (registryIs (now (registry .exit)) and threadsAre (now (threads .exit))) ⌝ }
 {
     if !is_user(registry, user) {
         return Answer::Refused(Refusal::UnknownUser);
@@ -42,7 +43,10 @@ pub fn start_thread(registry: &mut Registry, threads: &mut Threads, user: u16) -
 
 // E, end thread.
 pub fn end_thread(threads: &mut Threads, number: u16) -> Answer
-    ensures { λ r. ⌜ ((registry makers : Row) (segments locks : List Table) (text : List ℕ) → Serves (cellsWith registry makers segments locks (now (threads .entry))) (EndThread number) text r (cellsWith registry makers segments locks (now (threads .exit)))) ⌝ }
+    ensures { λ r. ⌜ ServesLent
+        (threadsAre (now (threads .entry)))
+        (EndThread number) r
+        (threadsAre (now (threads .exit))) ⌝ }
 {
     let place = find(threads, number);
     if PLACES <= place {
@@ -55,7 +59,10 @@ pub fn end_thread(threads: &mut Threads, number: u16) -> Answer
 
 // R, return.
 pub fn return_call(threads: &mut Threads, number: u16) -> Answer
-    ensures { λ r. ⌜ ((registry makers : Row) (segments locks : List Table) (text : List ℕ) → Serves (cellsWith registry makers segments locks (now (threads .entry))) (ReturnCall number) text r (cellsWith registry makers segments locks (now (threads .exit)))) ⌝ }
+    ensures { λ r. ⌜ ServesLent
+        (threadsAre (now (threads .entry)))
+        (ReturnCall number) r
+        (threadsAre (now (threads .exit))) ⌝ }
 {
     let place = find(threads, number);
     if PLACES <= place {

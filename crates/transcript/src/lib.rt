@@ -7,7 +7,7 @@ ghost use lib.ListN.{length};
 ghost use Rattle.journal.specs.declared.file.Verdict.the-variants.{Readable};
 ghost use Rattle.journal.specs.Reading.{verdictOf, wholeAt};
 ghost use Rattle.lines.specs.Lines.{mostLine};
-ghost use Rattle.model.specs.Serving.{cellsWith};
+ghost use Rattle.model.specs.Cells.{cellsWith};
 ghost use Rattle.transcript.specs.Printing.{mostPrinted, Prints};
 ghost use Rattle.transcript.specs.Steps.{Answered, Replayed};
 use guard::call;
@@ -65,7 +65,10 @@ fn replay(
     buffer: &mut [u8],
 ) -> usize
     requires { ⌜ (verdictOf (now file) ≡ Readable) × (mostPrinted ≤ length (now buffer)) ⌝ }
-    ensures { λ r. ⌜ Replayed (now (file .entry)) (cellsWith (now (registry .entry)) (now (makers .entry)) (now (segments .entry)) (now (locks .entry)) (now (threads .entry))) (now (buffer .entry)) (now (buffer .exit)) r ⌝ }
+    ensures { λ r. ⌜ Replayed (now (file .entry))
+        (cellsWith (now (registry .entry)) (now (makers .entry)) (now (segments .entry)) (now (locks .entry))
+        (now (threads .entry)))
+        (now (buffer .entry)) (now (buffer .exit)) r ⌝ }
 {
     let mut at = FIRST_RECORD;
     let mut place = 0u16;
@@ -110,7 +113,13 @@ fn answer(
     used: usize,
 ) -> After
     requires { ⌜ (wholeAt (now file) at ≡ true) × (used + mostLine ≤ length (now buffer)) ⌝ }
-    ensures { λ r. ⌜ Answered (now (file .entry)) at place (cellsWith (now (registry .entry)) (now (makers .entry)) (now (segments .entry)) (now (locks .entry)) (now (threads .entry))) (now (buffer .entry)) used (cellsWith (now (registry .exit)) (now (makers .exit)) (now (segments .exit)) (now (locks .exit)) (now (threads .exit))) (now (buffer .exit)) r ⌝ }
+    ensures { λ r. ⌜ Answered (now (file .entry)) at place
+        (cellsWith (now (registry .entry)) (now (makers .entry)) (now (segments .entry)) (now (locks .entry))
+        (now (threads .entry)))
+        (now (buffer .entry)) used
+        (cellsWith (now (registry .exit)) (now (makers .exit)) (now (segments .exit)) (now (locks .exit))
+        (now (threads .exit)))
+        (now (buffer .exit)) r ⌝ }
 {
     match read(file, at) {
         Found::Record(e) => {

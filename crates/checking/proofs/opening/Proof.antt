@@ -8,7 +8,7 @@ use borrow.Author.Tests.{not-true, not-false}
 use lib.ListN.{length}
 use Rattle.model.specs.Cells.{rowAt}
 use Rattle.checking.specs.Deciding.{keysAt, openingOf}
-use Rattle.checking.proofs.Turns.{Left, left-start, left-hit, left-miss, left-end, Rest, rest-start, rest-as, rest-end, rest-stop, rest-idle, rest-shut, rest-denied, rest-found, rest-before, rest-granted}
+use Rattle.checking.proofs.Turns.{Left, left-start, left-listable, left-hit, left-miss, left-end, Rest, rest-start, rest-as, rest-end, rest-stop, rest-idle, rest-shut, rest-denied, rest-found, rest-before, rest-granted}
 use Rattle.checking.proofs.opening.Statement.{statement}
 use Rattle.checking.proofs.opening.Tie as tie
 
@@ -32,12 +32,18 @@ products-holds c = (search needs, rest-start _ _ _ _ (c .before .before .clamp .
 loop-holds : tie.Need-loop-holds Inv-loop μ-loop Inv-products μ-products
 loop-holds c = (search needs, refl, left-start _ _)
 
+agrees-requires : tie.Need-agrees-requires Inv-loop μ-loop Inv-products μ-products
+agrees-requires c κs =
+    let low = left-listable (c .before .before .before .loop .inv .2) _ (c .literal-in .ensures) in
+    search (needs, low)
+
 loop-again : tie.Need-loop-again Inv-loop μ-loop Inv-products μ-products
 loop-again c =
     let asked = c .before in
-    let turn = asked .before .before in
+    let read = asked .before in
+    let turn = read .before .before in
     let inv = turn .before .loop .inv in
-    (search needs, inv .1, left-hit (inv .2) (turn .if3 .left) _ (asked .agrees .ensures) (not-false _ (c .if7 .left)))
+    (search needs, inv .1, left-hit (inv .2) (turn .if3 .left) _ (read .literal-in .ensures) _ (asked .agrees .ensures) (not-false _ (c .if7 .left)))
 
 products-again : tie.Need-products-again Inv-loop μ-loop Inv-products μ-products
 products-again c =
@@ -53,7 +59,7 @@ products-again c =
           (⊎-elim
           (λ w. rest-as (w .6) (rest-before size (rest-as (w .1 .inv .1) (inv .1)) low _ stands (w .0 .taken) (left-end (w .1 .inv .2) (w .2 .taken)) _ (w .3 .ensures) (w .4 .left) (w .5 .left)))
           (⊎-elim
-          (λ w. rest-as (w .6) (rest-shut size (rest-as (w .1 .inv .1) (inv .1)) low _ stands (w .0 .taken) (left-miss (w .1 .inv .2) (w .2 .left) _ (w .4 .ensures) (not-true _ (w .5 .taken)))))
+          (λ w. rest-as (w .7) (rest-shut size (rest-as (w .1 .inv .1) (inv .1)) low _ stands (w .0 .taken) (left-miss (w .1 .inv .2) (w .2 .left) _ (w .4 .ensures) _ (w .5 .ensures) (not-true _ (w .6 .taken)))))
           (λ w. rest-as (w .2) (rest-idle size (inv .1) low _ stands (w .0 .left) (w .1 .left)))))
           (c .if2 .came),
     )
@@ -115,11 +121,12 @@ opening-spec =
     loop-holds
     (λ c κs. search needs)  -- has-requires-2
     (λ c κs. search needs)  -- denies-after-requires
-    (λ c. search needs)  -- mul-agrees
-    (λ c. search needs)  -- mul-agrees-2
-    (λ c. search needs)  -- index-1-agrees
-    (λ c. search needs)  -- index-2-agrees
-    (λ c κs. search needs)  -- agrees-requires
+    (λ c. search needs)  -- mul-literal-in
+    (λ c. search needs)  -- mul-literal-in-2
+    (λ c. search needs)  -- index-1-literal-in
+    (λ c. search needs)  -- index-2-literal-in
+    (λ c κs. search needs)  -- literal-in-requires
+    agrees-requires
     (λ c. search needs)  -- sub-k
     (λ c. search needs)  -- loop-less
     loop-again

@@ -1,44 +1,45 @@
 -- Each request is served by its call's function. Assumes nothing.
+use mathlib.Core.Path.{refl}
 use borrow.Author.Needs.{needs}
-use Rattle.guard.proofs.Calls.{as-request}
+use Rattle.guard.proofs.Calls.{as-request, with-text}
 use Rattle.guard.proofs.serve.Statement.{statement}
 use Rattle.guard.proofs.serve.Tie as tie
 
 returns : tie.Need-returns
-returns c = as-request _ _ _ _ _ (c .before .before .enum-told .given .1) (c .new-user .ensures _ _ _ _ _)
+returns c = as-request _ _ _ _ _ (c .before .before .enum-told .given .1) _ _ (c .new-user .ensures) refl refl
 
 returns-2 : tie.Need-returns-2
-returns-2 c = as-request _ _ _ _ _ (c .before .before .before .before .request .given .1) (c .start-thread .ensures _ _ _ _)
+returns-2 c = as-request _ _ _ _ _ (c .before .before .before .before .request .given .1) _ _ (c .start-thread .ensures) refl refl
 
 returns-3 : tie.Need-returns-3
-returns-3 c = as-request _ _ _ _ _ (c .before .before .before .request2 .given .1) (c .end-thread .ensures _ _ _ _ _)
+returns-3 c = as-request _ _ _ _ _ (c .before .before .before .request2 .given .1) _ _ (c .end-thread .ensures) refl refl
 
 returns-4 : tie.Need-returns-4
-returns-4 c = as-request _ _ _ _ _ (c .before .before .before .before .before .request3 .given .1) (c .new-segment .ensures _ _ _)
+returns-4 c = as-request _ _ _ _ _ (c .before .before .before .before .before .request3 .given .1) _ _ (c .new-segment .ensures) refl refl
 
 returns-5 : tie.Need-returns-5
-returns-5 c = as-request _ _ _ _ _ (c .before .before .before .before .request4 .given .1) (c .new-key .ensures _ _ _ _)
+returns-5 c = as-request _ _ _ _ _ (c .before .before .before .before .request4 .given .1) _ _ (c .new-key .ensures) refl refl
 
 returns-6 : tie.Need-returns-6
-returns-6 c = as-request _ _ _ _ _ (c .before .before .before .before .before .request5 .given .1) (c .give-key .ensures _ _ _)
+returns-6 c = as-request _ _ _ _ _ (c .before .before .before .before .before .request5 .given .1) _ _ (c .give-key .ensures) refl refl
 
 returns-7 : tie.Need-returns-7
-returns-7 c = as-request _ _ _ _ _ (c .before .before .before .before .before .request6 .given .1) (c .take-key .ensures _ _ _)
+returns-7 c = as-request _ _ _ _ _ (c .before .before .before .before .before .request6 .given .1) _ _ (c .take-key .ensures) refl refl
 
 returns-8 : tie.Need-returns-8
-returns-8 c = as-request _ _ _ _ _ (c .before .before .before .before .before .before .request7 .given .1) (c .add-lock .ensures _)
+returns-8 c = with-text _ _ _ _ _ (c .before .before .before .before .before .before .request7 .given .1) _ _ (c .add-lock .ensures) refl refl
 
 returns-9 : tie.Need-returns-9
-returns-9 c = as-request _ _ _ _ _ (c .before .before .before .before .before .request8 .given .1) (c .drop-lock .ensures _ _ _)
+returns-9 c = as-request _ _ _ _ _ (c .before .before .before .before .before .request8 .given .1) _ _ (c .drop-lock .ensures) refl refl
 
 returns-10 : tie.Need-returns-10
-returns-10 c = as-request _ _ _ _ _ (c .before .before .before .before .before .before .request9 .given .1) (c .call-segment .ensures _ _)
+returns-10 c = as-request _ _ _ _ _ (c .before .before .before .before .before .before .request9 .given .1) _ _ (c .call-segment .ensures) refl refl
 
 returns-11 : tie.Need-returns-11
-returns-11 c = as-request _ _ _ _ _ (c .before .before .before .request10 .given .1) (c .return-call .ensures _ _ _ _ _)
+returns-11 c = as-request _ _ _ _ _ (c .before .before .before .request10 .given .1) _ _ (c .return-call .ensures) refl refl
 
 returns-12 : tie.Need-returns-12
-returns-12 c = as-request _ _ _ _ _ (c .before .before .before .before .before .before .request11 .given .1) (c .access .ensures _ _)
+returns-12 c = as-request _ _ _ _ _ (c .before .before .before .before .before .before .request11 .given .1) _ _ (c .access .ensures) refl refl
 
 pub serve-spec : {M : Type 1} → statement M
 serve-spec =

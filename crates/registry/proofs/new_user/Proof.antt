@@ -12,31 +12,31 @@ use Rattle.model.specs.declared.answer.Refusal.the-variants.{Full}
 use Rattle.model.specs.declared.answer.Answer.the-variants.{Accepted, Refused}
 use Rattle.model.specs.Limits.{mostUsers}
 use Rattle.model.specs.Model.{conditions, answer}
-use Rattle.model.specs.Cells.{Row, Table, cell, userCount, stateOf, store}
-use Rattle.model.specs.Serving.{cellsWith, Serves}
+use Rattle.model.specs.Cells.{Cells, registryIs, cell, userCount, stateOf, store}
+use Rattle.model.specs.Serving.{Serves}
 use Rattle.model.proofs.Serving.{serves-refused, serves-accepted}
 use Rattle.registry.proofs.new_user.Statement.{statement}
 use Rattle.registry.proofs.new_user.Tie as tie
 
-module _ (registry makers : Row) (segments locks threads : List Table) (text : List ℕ) where
-  full : mostUsers ≤ cell registry userCount → Serves (cellsWith registry makers segments locks threads) NewUser text (Refused Full) (cellsWith registry makers segments locks threads)
+module _ (d : Cells) (text : List ℕ) where
+  full : mostUsers ≤ cell (d .registry) userCount → Serves d NewUser text (Refused Full) d
   unfolding conditions stateOf
-  full h = serves-refused (cellsWith registry makers segments locks threads) NewUser text (rw (lt-ltb mostUsers (suc (cell registry userCount)) (omega arith)))
+  full h = serves-refused d NewUser text (rw (lt-ltb mostUsers (suc (cell (d .registry) userCount)) (omega arith)))
 
-  handed : cell registry userCount < mostUsers
-      → Serves (cellsWith registry makers segments locks threads) NewUser text (Accepted (cell registry userCount)) (cellsWith (set registry userCount (cell registry userCount + 1)) makers segments locks threads)
+  handed : cell (d .registry) userCount < mostUsers
+      → Serves d NewUser text (Accepted (cell (d .registry) userCount)) (registryIs (set (d .registry) userCount (cell (d .registry) userCount + 1)) d)
   unfolding conditions answer stateOf store
   handed h =
-      serves-accepted (cellsWith registry makers segments locks threads) NewUser text
-      (rw (le-ltb mostUsers (suc (cell registry userCount)) (omega arith)))
+      serves-accepted d NewUser text
+      (rw (le-ltb mostUsers (suc (cell (d .registry) userCount)) (omega arith)))
       refl
-      (ap (λ (n : ℕ). cellsWith (set registry userCount n) makers segments locks threads) (add-one (cell registry userCount)))
+      (ap (λ (n : ℕ). registryIs (set (d .registry) userCount n) d) (add-one (cell (d .registry) userCount)))
 
 returns : tie.Need-returns
-returns c = λ makers segments locks threads text. full _ makers segments locks threads text (c .if1 .taken)
+returns c = λ text d. full _ text (c .if1 .taken)
 
 returns-2 : tie.Need-returns-2
-returns-2 c = λ makers segments locks threads text. handed _ makers segments locks threads text (c .if1 .left)
+returns-2 c = λ text d. handed _ text (c .if1 .left)
 
 pub new-user-spec : {M : Type 1} → statement M
 new-user-spec =

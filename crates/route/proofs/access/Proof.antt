@@ -16,7 +16,7 @@ use Rattle.model.specs.Limits.{mostThreads, mostSegments}
 use Rattle.model.specs.Operations.{execute, isAccess, takes}
 use Rattle.model.specs.Model.{isThread, segmentAt, conditions, answer}
 use Rattle.model.specs.Cells.{Cells, cell, rowAt, tableAt, segmentCount, kindCell, stateOf, store}
-use Rattle.model.specs.Serving.{cellsWith, Serves}
+use Rattle.model.specs.Serving.{Serves}
 use Rattle.model.proofs.Serving.{segmentsIn, segment-at, serves-accepted}
 use Rattle.registry.specs.Counts.{Counted}
 use Rattle.threads.specs.Steps.{Placed}
@@ -70,33 +70,33 @@ module _ (d : Cells) (text : List ℕ) (a b n i : ℕ) (placed : Placed (d .thre
         checked head r h v = granted r (decided (tableAt (d .threads) i) (tableAt (d .locks) b) n head r known-operation h v)
 
 returns : tie.Need-returns
-returns c = λ makers text. no-thread (cellsWith _ makers _ _ _) text _ _ _ _ (c .before .find .ensures) (c .if1 .taken)
+returns c = λ text d. no-thread _ text _ _ _ _ (c .before .find .ensures) (c .if1 .taken)
 
 returns-2 : tie.Need-returns-2
-returns-2 c = λ makers text.
+returns-2 c = λ text d.
     let counted = c .before in
     let found = counted .before in
-    no-segment (cellsWith _ makers _ _ _) text _ _ _ _ (found .before .find .ensures) (found .if1 .left) _ (counted .segments .ensures) (c .if2 .taken)
+    no-segment _ text _ _ _ _ (found .before .find .ensures) (found .if1 .left) _ (counted .segments .ensures) (c .if2 .taken)
 
 returns-3 : tie.Need-returns-3
-returns-3 c = λ makers text.
+returns-3 c = λ text d.
     let asked = c .before in
     let known = asked .before .before in
     let low = known .before in
     let counted = low .before in
     let found = counted .before in
-    unfit (cellsWith _ makers _ _ _) text _ _ _ _ (found .before .find .ensures) (found .if1 .left) _ (counted .segments .ensures) (low .if2 .left)
+    unfit _ text _ _ _ _ (found .before .find .ensures) (found .if1 .left) _ (counted .segments .ensures) (low .if2 .left)
     _ _ (known .is-access .ensures) (asked .is-taken .ensures) (not-true _ (c .if3 .taken))
 
 returns-4 : tie.Need-returns-4
-returns-4 c = λ makers text.
+returns-4 c = λ text d.
     let fit = c .before .before .before .before in
     let asked = fit .before in
     let known = asked .before .before in
     let low = known .before in
     let counted = low .before in
     let found = counted .before in
-    checked (cellsWith _ makers _ _ _) text _ _ _ _ (found .before .find .ensures) (found .if1 .left) _ (counted .segments .ensures) (low .if2 .left)
+    checked _ text _ _ _ _ (found .before .find .ensures) (found .if1 .left) _ (counted .segments .ensures) (low .if2 .left)
     _ _ (known .is-access .ensures) (asked .is-taken .ensures) (not-false _ (fit .if3 .left)) _ _ (c .before .opening .ensures) (c .verdict .ensures)
 
 pub access-spec : {M : Type 1} → statement M

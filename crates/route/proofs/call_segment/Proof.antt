@@ -18,8 +18,8 @@ use Rattle.model.specs.declared.answer.Answer.the-variants.{Accepted, Refused}
 use Rattle.model.specs.Limits.{mostThreads, mostSegments, mostFrames, passes}
 use Rattle.model.specs.Operations.{execute, grants, takes}
 use Rattle.model.specs.Model.{isThread, segmentAt, threadAt, lockOf, opening, conditions, answer}
-use Rattle.model.specs.Cells.{Row, Table, Cells, cell, rowAt, tableAt, segmentCount, kindCell, listRow, depthOf, pushRow, onTable, stateOf, store}
-use Rattle.model.specs.Serving.{cellsWith, Serves}
+use Rattle.model.specs.Cells.{Row, Table, Cells, threadsAre, cell, rowAt, tableAt, segmentCount, kindCell, listRow, depthOf, pushRow, onTable, stateOf, store}
+use Rattle.model.specs.Serving.{Serves}
 use Rattle.model.proofs.Checking.{under-limit}
 use Rattle.model.proofs.ThreadTables.{length-frames}
 use Rattle.model.proofs.Serving.{segmentsIn, segment-at, serves-refused, serves-accepted}
@@ -76,7 +76,7 @@ module _ (d : Cells) (text : List ℕ) (a b i : ℕ) (placed : Placed (d .thread
               (rows : t ≡ cond (ltb (depthOf (tableAt (d .threads) i)) mostFrames) (pushRow list (tableAt (d .threads) i)) (tableAt (d .threads) i))
               (room : Bool) (is-room : room ≡ ltb (depthOf (tableAt (d .threads) i)) mostFrames) where
             abbrev after : Cells
-            after = cellsWith (d .registry) (d .makers) (d .segments) (d .locks) (set (d .threads) i t)
+            after = threadsAre (set (d .threads) i t) d
 
             full : room ≡ false → Serves d (CallSegment a b) text (Refused Full) after
             full e =
@@ -93,40 +93,40 @@ module _ (d : Cells) (text : List ℕ) (a b i : ℕ) (placed : Placed (d .thread
                 serves-accepted d (CallSegment a b) text
                 (through .0 ∙ rw (frames, under-limit mostFrames (depthOf (tableAt (d .threads) i)), yes))
                 (through .1)
-                (ap (λ (u : Table). cellsWith (d .registry) (d .makers) (d .segments) (d .locks) (set (d .threads) i u)) now
-                ∙ ap (λ (k : ℕ). cellsWith (d .registry) (d .makers) (d .segments) (d .locks) (onTable (d .threads) k (pushRow (listRow b (tableAt (d .segments) b))))) (placed .place))
+                (ap (λ (u : Table). threadsAre (set (d .threads) i u) d) now
+                ∙ ap (λ (k : ℕ). threadsAre (onTable (d .threads) k (pushRow (listRow b (tableAt (d .segments) b)))) d) (placed .place))
 
 returns : tie.Need-returns
-returns c = λ makers text. no-thread (cellsWith _ makers _ _ _) text _ _ _ (c .before .find .ensures) (c .if1 .taken)
+returns c = λ text d. no-thread _ text _ _ _ (c .before .find .ensures) (c .if1 .taken)
 
 returns-2 : tie.Need-returns-2
-returns-2 c = λ makers text.
+returns-2 c = λ text d.
     let counted = c .before in
     let found = counted .before in
-    no-segment (cellsWith _ makers _ _ _) text _ _ _ (found .before .find .ensures) (found .if1 .left) _ (counted .segments .ensures) (c .if2 .taken)
+    no-segment _ text _ _ _ (found .before .find .ensures) (found .if1 .left) _ (counted .segments .ensures) (c .if2 .taken)
 
 returns-3 : tie.Need-returns-3
-returns-3 c = λ makers text.
+returns-3 c = λ text d.
     let asked = c .before in
     let low = asked .before .before in
     let counted = low .before in
     let found = counted .before in
-    unfit (cellsWith _ makers _ _ _) text _ _ _ (found .before .find .ensures) (found .if1 .left) _ (counted .segments .ensures) (low .if2 .left)
+    unfit _ text _ _ _ (found .before .find .ensures) (found .if1 .left) _ (counted .segments .ensures) (low .if2 .left)
     (sym (asked .is-taken .ensures) ∙ not-true _ (c .if3 .taken))
 
 returns-4 : tie.Need-returns-4
-returns-4 c = λ makers text.
+returns-4 c = λ text d.
     let checked = c .before .before in
     let fit = checked .before .before .before .before in
     let asked = fit .before in
     let low = asked .before .before in
     let counted = low .before in
     let found = counted .before in
-    refused (cellsWith _ makers _ _ _) text _ _ _ (found .before .find .ensures) (found .if1 .left) _ (counted .segments .ensures) (low .if2 .left)
+    refused _ text _ _ _ (found .before .find .ensures) (found .if1 .left) _ (counted .segments .ensures) (low .if2 .left)
     (sym (asked .is-taken .ensures) ∙ not-false _ (fit .if3 .left)) _ (c .enum-told .given .1) (decided _ _ _ _ _ refl (checked .before .opening .ensures) (checked .verdict .ensures))
 
 returns-5 : tie.Need-returns-5
-returns-5 c = λ makers text.
+returns-5 c = λ text d.
     let stored = c .before in
     let told = stored .before .before .before .before in
     let checked = told .before .before in
@@ -135,12 +135,12 @@ returns-5 c = λ makers text.
     let low = asked .before .before in
     let counted = low .before in
     let found = counted .before in
-    pushed (cellsWith _ makers _ _ _) text _ _ _ (found .before .find .ensures) (found .if1 .left) _ (counted .segments .ensures) (low .if2 .left)
+    pushed _ text _ _ _ (found .before .find .ensures) (found .if1 .left) _ (counted .segments .ensures) (low .if2 .left)
     (sym (asked .is-taken .ensures) ∙ not-false _ (fit .if3 .left)) _ (told .answer .given .1) (decided _ _ _ _ _ refl (checked .before .opening .ensures) (checked .verdict .ensures))
     _ refl _ (stored .push .ensures .1) _ (stored .push .ensures .0) (c .if4 .taken)
 
 returns-6 : tie.Need-returns-6
-returns-6 c = λ makers text.
+returns-6 c = λ text d.
     let stored = c .before in
     let told = stored .before .before .before .before in
     let checked = told .before .before in
@@ -149,7 +149,7 @@ returns-6 c = λ makers text.
     let low = asked .before .before in
     let counted = low .before in
     let found = counted .before in
-    full (cellsWith _ makers _ _ _) text _ _ _ (found .before .find .ensures) (found .if1 .left) _ (counted .segments .ensures) (low .if2 .left)
+    full _ text _ _ _ (found .before .find .ensures) (found .if1 .left) _ (counted .segments .ensures) (low .if2 .left)
     (sym (asked .is-taken .ensures) ∙ not-false _ (fit .if3 .left)) _ (told .answer .given .1) (decided _ _ _ _ _ refl (checked .before .opening .ensures) (checked .verdict .ensures))
     _ refl _ (stored .push .ensures .1) _ (stored .push .ensures .0) (c .if4 .left)
 

@@ -2,7 +2,7 @@
 use Prim.Native.Nat.{_-_}
 use native.Mathlib.Omega.{arith}
 use lib.ListN.{length}
-use Rattle.model.specs.Serving.{cellsWith}
+use Rattle.model.specs.Cells.{cellsWith}
 use Rattle.transcript.proofs.Going.{Going, going-start, going-length, going-whole, going-room, going-end, going-step}
 use Rattle.transcript.proofs.replay.Statement.{statement}
 use Rattle.transcript.proofs.replay.Tie as tie

@@ -5,7 +5,7 @@ use Rattle.abi.proofs.calls.rotundaaloe_access.Statement.{statement}
 use Rattle.abi.proofs.calls.rotundaaloe_access.Tie as tie
 
 returns : tie.Need-returns
-returns c = λ makers text. tells _ _ _ _ (c .before .access .ensures makers text) (c .answer-number .ensures)
+returns c = λ text d. tells _ _ _ _ (c .before .access .ensures text d) (c .answer-number .ensures)
 
 pub rotundaaloe-access-spec : {M : Type 1} → statement M
 rotundaaloe-access-spec =

@@ -5,7 +5,7 @@ use Rattle.abi.proofs.calls.rotundaaloe_call_segment.Statement.{stateme
 use Rattle.abi.proofs.calls.rotundaaloe_call_segment.Tie as tie
 
 returns : tie.Need-returns
-returns c = λ makers text. tells _ _ _ _ (c .before .call-segment .ensures makers text) (c .answer-number .ensures)
+returns c = λ text d. tells _ _ _ _ (c .before .call-segment .ensures text d) (c .answer-number .ensures)
 
 pub rotundaaloe-call-segment-spec : {M : Type 1} → statement M
 rotundaaloe-call-segment-spec =

@@ -5,7 +5,7 @@ use Rattle.abi.proofs.calls.rotundaaloe_return_call.Statement.{statemen
 use Rattle.abi.proofs.calls.rotundaaloe_return_call.Tie as tie
 
 returns : tie.Need-returns
-returns c = λ registry makers segments locks text. tells _ _ _ _ (c .before .return-call .ensures registry makers segments locks text) (c .answer-number .ensures)
+returns c = λ text d. tells _ _ _ _ (c .before .return-call .ensures text d) (c .answer-number .ensures)
 
 pub rotundaaloe-return-call-spec : {M : Type 1} → statement M
 rotundaaloe-return-call-spec =

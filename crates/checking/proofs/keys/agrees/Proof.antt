@@ -1,32 +1,110 @@
--- The range of the code says which literal it is. Assumes nothing.
+-- The literal says its sign and the key its kind. Assumes nothing.
+use mathlib.Core.Path.{refl}
+use mathlib.Core.Logic.{⊎-elim}
 use borrow.Author.Needs.{needs}
-use Rattle.checking.proofs.Codes.{plain-listed, barred-listed, plain-own, barred-own}
+use Rattle.checking.proofs.Codes.{user-key, thread-key, segment-key, defined-key, plain-agrees, barred-agrees, plain-listable, barred-listable, defined-low}
 use Rattle.checking.proofs.keys.agrees.Statement.{statement}
 use Rattle.checking.proofs.keys.agrees.Tie as tie
 
 returns : tie.Need-returns
-returns c = plain-listed _ _ _ (c .before .if1 .taken) _ (c .inherits .ensures)
+returns c =
+    let key = c .before .before in
+    let literal = key .before .before .before in
+    let args = literal .before .before .args in
+    plain-agrees (args .thread .now) (args .depth) (user-key (args .thread .now) (args .depth) (key .key .given .1)) (literal .literal .given .1)
 
 returns-2 : tie.Need-returns-2
-returns-2 c = let taken = c .before in barred-listed _ _ _ (taken .before .if1 .left) (taken .if2 .taken) _ (c .inherits2 .ensures)
+returns-2 c =
+    let key = c .before .before in
+    let literal = key .before .before .before in
+    let args = literal .before .before .args in
+    plain-agrees (args .thread .now) (args .depth) (thread-key (args .thread .now) (args .depth) (key .key2 .given .1)) (literal .literal .given .1)
+
+add-code : tie.Need-add-code
+add-code c =
+    let key = c .before in
+    let literal = key .before .before .before in
+    let low = defined-low (key .key4 .given .1) (plain-listable (literal .before .before .pre .1) (literal .literal .given .1)) in
+    search (needs, low)
 
 returns-3 : tie.Need-returns-3
-returns-3 c = let asked = c .before in plain-own _ (asked .before .before .before .args .depth) _ (asked .before .if2 .left) _ (asked .own-number .ensures) (c .if3 .taken)
+returns-3 c =
+    let key = c .before .before in
+    let literal = key .before .before .before in
+    let args = literal .before .before .args in
+    barred-agrees (args .thread .now) (args .depth) (user-key (args .thread .now) (args .depth) (key .key5 .given .1)) (literal .literal2 .given .1)
 
 returns-4 : tie.Need-returns-4
-returns-4 c = let asked = c .before in barred-own _ (asked .before .before .before .args .depth) _ (asked .before .if2 .left) _ (asked .own-number .ensures) (c .if3 .left)
+returns-4 c =
+    let key = c .before .before in
+    let literal = key .before .before .before in
+    let args = literal .before .before .args in
+    barred-agrees (args .thread .now) (args .depth) (thread-key (args .thread .now) (args .depth) (key .key6 .given .1)) (literal .literal2 .given .1)
+
+add-code-2 : tie.Need-add-code-2
+add-code-2 c =
+    let key = c .before in
+    let literal = key .before .before .before in
+    let low = defined-low (key .key8 .given .1) (barred-listable (literal .before .before .pre .1) (literal .literal2 .given .1)) in
+    search (needs, low)
+
+returns-5 : tie.Need-returns-5
+returns-5 c =
+    let found = c .before .match2 in
+    let literal = c .before .before .before in
+    let sign = literal .literal .given .1 in
+    let low = plain-listable (literal .before .before .pre .1) sign in
+    let args = literal .before .before .args in
+    plain-agrees (args .thread .now) (args .depth)
+    (⊎-elim
+    (λ w. segment-key (args .thread .now) (args .depth) low (c .inherits .ensures) (w .1 .given .1) (w .3))
+    (λ w. defined-key (args .thread .now) (args .depth) low (c .inherits .ensures) (w .1 .given .1) (w .3))
+    (found .came))
+    sign
+
+returns-6 : tie.Need-returns-6
+returns-6 c =
+    let found = c .before .match3 in
+    let literal = c .before .before .before in
+    let sign = literal .literal2 .given .1 in
+    let low = barred-listable (literal .before .before .pre .1) sign in
+    let args = literal .before .before .args in
+    barred-agrees (args .thread .now) (args .depth)
+    (⊎-elim
+    (λ w. segment-key (args .thread .now) (args .depth) low (c .inherits2 .ensures) (w .1 .given .1) (w .3))
+    (λ w. defined-key (args .thread .now) (args .depth) low (c .inherits2 .ensures) (w .1 .given .1) (w .3))
+    (found .came))
+    sign
 
 pub agrees-spec : {M : Type 1} → statement M
 agrees-spec =
     tie.close
     (tie.spec
-    (λ c. search needs)  -- cast-handed
-    (λ c κs. search needs)  -- inherits-requires
+    (λ c. search needs)  -- enum-known-literal
+    (λ c. search needs)  -- enum-known-key
+    (λ c. search needs)  -- index-1-result
+    (λ c. search needs)  -- index-2-result
     returns
-    (λ c. search needs)  -- cast-handed-2
-    (λ c κs. search needs)  -- inherits-requires-2
+    (λ c. search needs)  -- enum-known-key-2
+    (λ c. search needs)  -- index-1-result-2
+    (λ c. search needs)  -- index-2-result-2
     returns-2
-    (λ c κs. search needs)  -- own-number-requires
-    (λ c. search needs)  -- cast-number
+    (λ c. search needs)  -- enum-known-key-3
+    (λ c. search needs)  -- enum-known-key-4
+    add-code
+    (λ c κs. search needs)  -- inherits-requires
+    (λ c. search needs)  -- enum-known-literal-2
+    (λ c. search needs)  -- enum-known-key-5
+    (λ c. search needs)  -- index-1-result-3
+    (λ c. search needs)  -- index-2-result-3
     returns-3
-    returns-4)
+    (λ c. search needs)  -- enum-known-key-6
+    (λ c. search needs)  -- index-1-result-4
+    (λ c. search needs)  -- index-2-result-4
+    returns-4
+    (λ c. search needs)  -- enum-known-key-7
+    (λ c. search needs)  -- enum-known-key-8
+    add-code-2
+    (λ c κs. search needs)  -- inherits-requires-2
+    returns-5
+    returns-6)

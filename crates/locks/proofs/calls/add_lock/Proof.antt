@@ -20,8 +20,8 @@ use Rattle.model.specs.declared.answer.Answer.the-variants.{Refused}
 use Rattle.model.specs.Limits.{mostStanding, mostNumbers, passes}
 use Rattle.model.specs.Operations.{takesSet}
 use Rattle.model.specs.Model.{conditions, answer, isSegment, owns, segmentAt, issued}
-use Rattle.model.specs.Cells.{Row, Table, Cells, cell, rowAt, tableAt, userCount, lockCount, ownerCell, kindCell, usedRows, productIn, countUp, storeRows, productRow, stateOf, store}
-use Rattle.model.specs.Serving.{cellsWith, Serves}
+use Rattle.model.specs.Cells.{Row, Table, Cells, registryIs, locksAre, cell, rowAt, tableAt, userCount, lockCount, ownerCell, kindCell, usedRows, productIn, countUp, storeRows, productRow, stateOf, store}
+use Rattle.model.specs.Serving.{Serves}
 use Rattle.model.proofs.Serving.{serves-refused, serves-accepted, segmentsIn, is-segment, segment-at}
 use Rattle.locks.specs.Steps.{rowsFrom, issuedIn, isFull, LockJudged, full, stored, misspelt, wide, void, fine}
 use Rattle.locks.proofs.Tests.{test-fails, test-holds}
@@ -31,24 +31,21 @@ use borrow.Author.Needs.{needs}
 use Rattle.locks.proofs.calls.add_lock.Statement.{statement}
 use Rattle.locks.proofs.calls.add_lock.Tie as tie
 
-module _ (registry makers : Row) (segments locks threads : List Table) (user s operations : ℕ) (text : List ℕ) where
-  abbrev d : Cells
-  d = cellsWith registry makers segments locks threads
-
+module _ (d : Cells) (user s operations : ℕ) (text : List ℕ) where
   abbrev q : Request
   q = AddLock user s operations
 
   abbrev g : Row
-  g = rowAt (tableAt segments s) 0
+  g = rowAt (tableAt (d .segments) s) 0
 
   abbrev o : Outcome
   o = outcomeOf (issued (stateOf d)) text
 
-  stranger : ltb user (cell registry userCount) ≡ false → Serves d q text (Refused UnknownUser) d
+  stranger : ltb user (cell (d .registry) userCount) ≡ false → Serves d q text (Refused UnknownUser) d
   unfolding conditions stateOf
   stranger u = serves-refused d q text (rw u)
 
-  module _ {n : ℕ} (u : ltb user (cell registry userCount) ≡ true) (count : n ≡ segmentsIn d) where
+  module _ {n : ℕ} (u : ltb user (cell (d .registry) userCount) ≡ true) (count : n ≡ segmentsIn d) where
     nowhere : n ≤ s → Serves d q text (Refused NoSegment) d
     unfolding conditions stateOf
     nowhere h = let none = is-segment d s ∙ le-ltb s (segmentsIn d) (omega arith) in serves-refused d q text (rw (u, none))
@@ -78,7 +75,7 @@ module _ (registry makers : Row) (segments locks threads : List Table) (user s o
         unfolding conditions stateOf
         unfit f = let none = kind-is ∙ f in serves-refused d q text (rw (u, there, own, none))
 
-        module _ (f : takesSet (cell g kindCell) operations ≡ true) {i : Issued} {x : Compiled} (handed : i ≡ issuedIn registry makers) (compiled : x ≡ compiledOf i text) where
+        module _ (f : takesSet (cell g kindCell) operations ≡ true) {i : Issued} {x : Compiled} (handed : i ≡ issuedIn (d .registry) (d .makers)) (compiled : x ≡ compiledOf i text) where
           fit : takesSet (segmentAt (stateOf d) s .kind) operations ≡ true
           fit = kind-is ∙ f
 
@@ -86,15 +83,15 @@ module _ (registry makers : Row) (segments locks threads : List Table) (user s o
           outcome = compiled ∙ ap (λ (j : Issued). compiledOf j text) (handed ∙ sym (issued-is d))
 
           abbrev t : Table
-          t = tableAt locks s
+          t = tableAt (d .locks) s
 
           abbrev lock : ℕ
-          lock = cell registry lockCount
+          lock = cell (d .registry) lockCount
 
           verdict : {v : Verdict} → x .verdict ≡ v → Judged o (refusalNumber v)
           verdict v = judged o (sym (ap (λ (y : Compiled). y .verdict) outcome) ∙ v)
 
-          full-is : (passes mostStanding (length (segmentAt (stateOf d) s .products) + length (sumIn o)) || passes mostNumbers (suc lock)) ≡ isFull registry t (x .count)
+          full-is : (passes mostStanding (length (segmentAt (stateOf d) s .products) + length (sumIn o)) || passes mostNumbers (suc lock)) ≡ isFull (d .registry) t (x .count)
           unfolding isFull
           full-is =
               ap₂ (λ (k m : ℕ). passes mostStanding (k + m) || passes mostNumbers (suc lock))
@@ -104,11 +101,11 @@ module _ (registry makers : Row) (segments locks threads : List Table) (user s o
           rows-are : rowsFrom lock operations x ≡ map (productRow lock operations) (sumIn o)
           rows-are = ap (rowsFrom lock operations) outcome ∙ rows-stored lock operations (verdictOf o) (sumIn o) (sum-kept (issued (stateOf d)) text)
 
-          same-locks : set locks s t ≡ locks
-          same-locks = set-getD locks s []
+          same-locks : set (d .locks) s t ≡ d .locks
+          same-locks = set-getD (d .locks) s []
 
-          served : {r : Answer} {registry′ : Row} {t′ : Table} → LockJudged registry t operations x r registry′ t′
-              → Serves d q text r (cellsWith registry′ makers segments (set locks s t′) threads)
+          served : {r : Answer} {registry′ : Row} {t′ : Table} → LockJudged (d .registry) t operations x r registry′ t′
+              → Serves d q text r (registryIs registry′ (locksAre (set (d .locks) s t′) d))
           unfolding conditions answer store stateOf
           served (misspelt v) = let j = verdict v in rw same-locks (serves-refused d q text (rw (u, there, own, fit, j .malformed)))
           served (wide v) = let j = verdict v in rw same-locks (serves-refused d q text (rw (u, there, own, fit, j .malformed, j .wide)))
@@ -121,28 +118,28 @@ module _ (registry makers : Row) (segments locks threads : List Table) (user s o
               let j = verdict v in
               let room = full-is ∙ h in
               serves-accepted d q text (rw (u, there, own, fit, j .malformed, j .wide, j .void, room)) refl
-              (ap (λ (ws : Table). cellsWith (countUp registry lockCount) makers segments (set locks s (storeRows (length (usedRows t)) ws t)) threads) rows-are)
+              (ap (λ (ws : Table). registryIs (countUp (d .registry) lockCount) (locksAre (set (d .locks) s (storeRows (length (usedRows t)) ws t)) d)) rows-are)
 
 returns : tie.Need-returns
-returns c = λ threads. stranger _ _ _ _ threads _ _ _ _ (test-fails (c .before .is-user .ensures) (c .if1 .taken))
+returns c = λ d. stranger _ _ _ _ _ (test-fails (c .before .is-user .ensures) (c .if1 .taken))
 
 returns-2 : tie.Need-returns-2
 returns-2 c =
     let b = c .before .before .before in
-    λ threads. nowhere _ _ _ _ threads _ _ _ _ (test-holds (b .before .is-user .ensures) (b .if1 .left)) (c .before .segments .ensures .count) (c .if2 .taken)
+    λ d. nowhere _ _ _ _ _ (test-holds (b .before .is-user .ensures) (b .if1 .left)) (c .before .segments .ensures .count) (c .if2 .taken)
 
 returns-3 : tie.Need-returns-3
 returns-3 c =
     let e = c .before .before in
     let b = e .before .before .before in
-    λ threads. other _ _ _ _ threads _ _ _ _ (test-holds (b .before .is-user .ensures) (b .if1 .left)) (e .before .segments .ensures .count) (e .if2 .left) (c .if3 .taken)
+    λ d. other _ _ _ _ _ (test-holds (b .before .is-user .ensures) (b .if1 .left)) (e .before .segments .ensures .count) (e .if2 .left) (c .if3 .taken)
 
 returns-4 : tie.Need-returns-4
 returns-4 c =
     let f = c .before .before .before in
     let e = f .before .before in
     let b = e .before .before .before in
-    λ threads. unfit _ _ _ _ threads _ _ _ _ (test-holds (b .before .is-user .ensures) (b .if1 .left)) (e .before .segments .ensures .count) (e .if2 .left) (f .if3 .left) (test-fails (c .before .fits2 .ensures) (c .if4 .taken))
+    λ d. unfit _ _ _ _ _ (test-holds (b .before .is-user .ensures) (b .if1 .left)) (e .before .segments .ensures .count) (e .if2 .left) (f .if3 .left) (test-fails (c .before .fits2 .ensures) (c .if4 .taken))
 
 judge-lock-requires : tie.Need-judge-lock-requires
 judge-lock-requires c κs =
@@ -157,8 +154,8 @@ returns-5 c =
     let f = k .before .before .before in
     let e = f .before .before in
     let b = e .before .before .before in
-    λ threads.
-    served _ _ _ _ threads _ _ _ _ (test-holds (b .before .is-user .ensures) (b .if1 .left)) (e .before .segments .ensures .count) (e .if2 .left) (f .if3 .left) (test-holds (k .before .fits2 .ensures) (k .if4 .left))
+    λ d.
+    served _ _ _ _ _ (test-holds (b .before .is-user .ensures) (b .if1 .left)) (e .before .segments .ensures .count) (e .if2 .left) (f .if3 .left) (test-holds (k .before .fits2 .ensures) (k .if4 .left))
     (h .before .issued .ensures) (h .compile .ensures) (c .judge-lock .ensures)
 
 pub add-lock-spec : {M : Type 1} → statement M

@@ -13,8 +13,8 @@ use Rattle.model.specs.declared.answer.Refusal.the-variants.{UnknownUser, NoLoc
 use Rattle.model.specs.declared.answer.Answer.the-variants.{Accepted, Refused}
 use Rattle.model.specs.Model.{conditions, answer, owns, homeOf, segmentAt, isOfLock}
 use Rattle.model.specs.Lists.{keep}
-use Rattle.model.specs.Cells.{Row, Table, Cells, cell, rowAt, tableAt, userCount, ownerCell, onTable, dropRows, stateOf, store}
-use Rattle.model.specs.Serving.{cellsWith, Serves}
+use Rattle.model.specs.Cells.{Table, Cells, locksAre, cell, rowAt, tableAt, userCount, ownerCell, onTable, dropRows, stateOf, store}
+use Rattle.model.specs.Serving.{Serves}
 use Rattle.model.proofs.Serving.{serves-refused, serves-accepted, segmentsIn, segment-at}
 use Rattle.locks.specs.Steps.{homeIn, HomeFound, Dropped}
 use Rattle.locks.proofs.Tests.{test-fails, test-holds}
@@ -23,35 +23,32 @@ use borrow.Author.Needs.{needs}
 use Rattle.locks.proofs.calls.drop_lock.Statement.{statement}
 use Rattle.locks.proofs.calls.drop_lock.Tie as tie
 
-module _ (registry makers : Row) (segments locks threads : List Table) (user lock : ℕ) (text : List ℕ) where
-  abbrev d : Cells
-  d = cellsWith registry makers segments locks threads
-
+module _ (d : Cells) (user lock : ℕ) (text : List ℕ) where
   abbrev q : Request
   q = DropLock user lock
 
-  stranger : ltb user (cell registry userCount) ≡ false → Serves d q text (Refused UnknownUser) d
+  stranger : ltb user (cell (d .registry) userCount) ≡ false → Serves d q text (Refused UnknownUser) d
   unfolding conditions stateOf
   stranger u = serves-refused d q text (rw u)
 
-  module _ (n s : ℕ) (u : ltb user (cell registry userCount) ≡ true) (count : n ≡ segmentsIn d) (found : HomeFound lock n locks s) where
+  module _ (n s : ℕ) (u : ltb user (cell (d .registry) userCount) ≡ true) (count : n ≡ segmentsIn d) (found : HomeFound lock n (d .locks) s) where
     place : homeOf (stateOf d) lock ≡ s
-    place = home-is d lock ∙ sym (found .place ∙ ap (λ (k : ℕ). homeIn lock k locks) count)
+    place = home-is d lock ∙ sym (found .place ∙ ap (λ (k : ℕ). homeIn lock k (d .locks)) count)
 
     nowhere : n ≤ s → Serves d q text (Refused NoLock) d
     unfolding conditions stateOf
     nowhere h = let none = no-home d lock (omega (arith, place)) in serves-refused d q text (rw (u, none))
 
     module _ (here : s < n) where
-      owner-is : owns (stateOf d) user (homeOf (stateOf d) lock) ≡ eqb (cell (rowAt (tableAt segments s) 0) ownerCell) user
+      owner-is : owns (stateOf d) user (homeOf (stateOf d) lock) ≡ eqb (cell (rowAt (tableAt (d .segments) s) 0) ownerCell) user
       owner-is = ap (owns (stateOf d) user) place ∙ ap (λ g. eqb (g .owner) user) (segment-at d s (omega arith))
 
-      other : (cell (rowAt (tableAt segments s) 0) ownerCell ≡ user → ⊥) → Serves d q text (Refused NotOwner) d
+      other : (cell (rowAt (tableAt (d .segments) s) 0) ownerCell ≡ user → ⊥) → Serves d q text (Refused NotOwner) d
       unfolding conditions stateOf
       other o = let none = owner-is ∙ ne-eqb _ _ o in let stands = has-home d lock (omega (arith, place)) in serves-refused d q text (rw (u, stands, none))
 
-      gone : {t : Table} {r : ℕ} → cell (rowAt (tableAt segments s) 0) ownerCell ≡ user → Dropped lock (tableAt locks s) t r
-          → Serves d q text (Accepted r) (cellsWith registry makers segments (set locks s t) threads)
+      gone : {t : Table} {r : ℕ} → cell (rowAt (tableAt (d .segments) s) 0) ownerCell ≡ user → Dropped lock (tableAt (d .locks) s) t r
+          → Serves d q text (Accepted r) (locksAre (set (d .locks) s t) d)
       unfolding conditions answer store stateOf
       gone {t} {r} o drop =
           let own = owner-is ∙ eq-eqb _ _ o in
@@ -59,23 +56,23 @@ module _ (registry makers : Row) (segments locks threads : List Table) (user loc
           serves-accepted d q text
           (rw (u, stands, own))
           (drop .count ∙ sym (ap (λ (k : ℕ). length (keep (isOfLock lock) (segmentAt (stateOf d) k .products))) place ∙ count-at d lock s (omega arith)))
-          (ap (λ (w : Table). cellsWith registry makers segments (set locks s w) threads) (drop .rows)
-          ∙ sym (ap (λ (k : ℕ). cellsWith registry makers segments (onTable locks k (dropRows lock)) threads) place))
+          (ap (λ (w : Table). locksAre (set (d .locks) s w) d) (drop .rows)
+          ∙ sym (ap (λ (k : ℕ). locksAre (onTable (d .locks) k (dropRows lock)) d) place))
 
 returns : tie.Need-returns
-returns c = λ makers threads text. stranger _ makers _ _ threads _ _ text (test-fails (c .before .is-user .ensures) (c .if1 .taken))
+returns c = λ text d. stranger _ _ _ text (test-fails (c .before .is-user .ensures) (c .if1 .taken))
 
 returns-2 : tie.Need-returns-2
 returns-2 c =
     let b = c .before .before .before .before in
-    λ makers threads text. nowhere _ makers _ _ threads _ _ text _ _ (test-holds (b .before .is-user .ensures) (b .if1 .left)) (c .before .before .before .segments .ensures .count) (c .before .home .ensures) (c .if2 .taken)
+    λ text d. nowhere _ _ _ text _ _ (test-holds (b .before .is-user .ensures) (b .if1 .left)) (c .before .before .before .segments .ensures .count) (c .before .home .ensures) (c .if2 .taken)
 
 returns-3 : tie.Need-returns-3
 returns-3 c =
     let b = c .before .before in
     let e = b .before .before .before .before in
-    λ makers threads text.
-    other _ makers _ _ threads _ _ text _ _ (test-holds (e .before .is-user .ensures) (e .if1 .left)) (b .before .before .before .segments .ensures .count) (b .before .home .ensures) (b .if2 .left)
+    λ text d.
+    other _ _ _ text _ _ (test-holds (e .before .is-user .ensures) (e .if1 .left)) (b .before .before .before .segments .ensures .count) (b .before .home .ensures) (b .if2 .left)
     (c .if3 .taken)
 
 returns-4 : tie.Need-returns-4
@@ -83,8 +80,8 @@ returns-4 c =
     let f = c .before .before in
     let b = f .before .before in
     let e = b .before .before .before .before in
-    λ makers threads text.
-    gone _ makers _ _ threads _ _ text _ _ (test-holds (e .before .is-user .ensures) (e .if1 .left)) (b .before .before .before .segments .ensures .count) (b .before .home .ensures) (b .if2 .left)
+    λ text d.
+    gone _ _ _ text _ _ (test-holds (e .before .is-user .ensures) (e .if1 .left)) (b .before .before .before .segments .ensures .count) (b .before .home .ensures) (b .if2 .left)
     (f .if3 .left) (c .drop-rows .ensures)
 
 pub drop-lock-spec : {M : Type 1} → statement M

@@ -22,31 +22,31 @@ abbrev μ-loop : tie.MeasureT-loop
 loop-holds : tie.Need-loop-holds Inv-loop μ-loop
 loop-holds c = refl
 
-mul-x : tie.Need-mul-x Inv-loop μ-loop
-mul-x c = omega (arith, c .before .before .size .ensures .small)
+mul-decode : tie.Need-mul-decode Inv-loop μ-loop
+mul-decode c = omega (arith, c .before .before .size .ensures .small)
 
-element-copy-out-x : tie.Need-element-copy-out-x Inv-loop μ-loop
-element-copy-out-x c = omega (arith, c .before .before .size .ensures .small)
+element-copy-out-decode : tie.Need-element-copy-out-decode Inv-loop μ-loop
+element-copy-out-decode c = omega (arith, c .before .before .size .ensures .small)
 
 returns : tie.Need-returns Inv-loop μ-loop
 returns c =
-    let a = c .before .before .before .before .before .before .before .args in
-    let z = c .before .before .before .before .before .size .ensures in
-    let v = c .before .before .before .before .loop in
-    sym (v .inv ∙ rw (opens-next z (heldBy (now (a .keys))) (v .i) (search needs), ← c .before .agrees .ensures, not-true (c .before .agrees .result) (c .if1 .taken)))
+    let read = c .before .before in
+    let turn = read .before .before .before in
+    let keys = now (turn .before .before .before .args .keys) in
+    sym (turn .loop .inv ∙ rw (opens-next (turn .before .size .ensures) (heldBy keys) (turn .loop .i) (search needs), ← read .decode .ensures, ← c .before .agrees .ensures, not-true (c .before .agrees .result) (c .if1 .taken)))
 
 loop-again : tie.Need-loop-again Inv-loop μ-loop
 loop-again c =
-    let a = c .before .before .before .before .before .before .before .args in
-    let z = c .before .before .before .before .before .size .ensures in
-    let v = c .before .before .before .before .loop in
-    v .inv ∙ rw (opens-next z (heldBy (now (a .keys))) (v .i) (search needs), ← c .before .agrees .ensures, not-false (c .before .agrees .result) (c .if1 .left))
+    let read = c .before .before in
+    let turn = read .before .before .before in
+    let keys = now (turn .before .before .before .args .keys) in
+    turn .loop .inv ∙ rw (opens-next (turn .before .size .ensures) (heldBy keys) (turn .loop .i) (search needs), ← read .decode .ensures, ← c .before .agrees .ensures, not-false (c .before .agrees .result) (c .if1 .left))
 
 returns-2 : tie.Need-returns-2 Inv-loop μ-loop
 returns-2 c =
-    let a = c .before .before .before .before .args in
-    let v = c .before .loop in
-    sym (v .inv ∙ opens-past (c .before .before .size .ensures) (heldBy (now (a .keys))) (v .i) (search needs))
+    let turn = c .before in
+    let keys = now (turn .before .before .before .args .keys) in
+    sym (turn .loop .inv ∙ opens-past (turn .before .size .ensures) (heldBy keys) (turn .loop .i) (search needs))
 
 pub product-opens-spec : {M : Type 1} → statement M
 product-opens-spec =
@@ -56,8 +56,9 @@ product-opens-spec =
     μ-loop
     (λ c κs. search needs)  -- size-requires
     loop-holds
-    mul-x
-    element-copy-out-x
+    mul-decode
+    element-copy-out-decode
+    (λ c κs. search needs)  -- decode-requires
     (λ c κs. search needs)  -- agrees-requires
     returns
     (λ c. search needs)  -- add-i

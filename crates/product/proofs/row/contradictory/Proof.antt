@@ -19,25 +19,27 @@ abbrev μ-loop : tie.MeasureT-loop
 loop-holds : tie.Need-loop-holds Inv-loop μ-loop
 loop-holds c = refl
 
-mul-x : tie.Need-mul-x Inv-loop μ-loop
-mul-x c = omega (arith, c .before .before .pre .most)
+mul-decode : tie.Need-mul-decode Inv-loop μ-loop
+mul-decode c = omega (arith, c .before .before .pre .most)
 
-element-copy-out-x : tie.Need-element-copy-out-x Inv-loop μ-loop
-element-copy-out-x c = omega (arith, c .before .before .pre .most)
+element-copy-out-decode : tie.Need-element-copy-out-decode Inv-loop μ-loop
+element-copy-out-decode c = omega (arith, c .before .before .pre .most)
 
 returns : tie.Need-returns Inv-loop μ-loop
 unfolding contradictory
 returns c =
-    let b = c .before .before .before .before .before in
-    let v = c .before .before .before .before .loop in
-    sym (v .inv ∙ rw (wide-cons (b .pre) (v .i) (search needs), ← c .before .clashes .ensures, c .if1 .taken))
+    let read = c .before .before in
+    let turn = read .before .before .before in
+    let v = turn .loop in
+    sym (v .inv ∙ rw (wide-cons (turn .before .pre) (v .i) (search needs), ← read .decode .ensures, ← c .before .clashes .ensures, c .if1 .taken))
 
 loop-again : tie.Need-loop-again Inv-loop μ-loop
 unfolding contradictory
 loop-again c =
-    let b = c .before .before .before .before .before in
-    let v = c .before .before .before .before .loop in
-    v .inv ∙ rw (wide-cons (b .pre) (v .i) (search needs), ← c .before .clashes .ensures, c .if1 .left)
+    let read = c .before .before in
+    let turn = read .before .before .before in
+    let v = turn .loop in
+    v .inv ∙ rw (wide-cons (turn .before .pre) (v .i) (search needs), ← read .decode .ensures, ← c .before .clashes .ensures, c .if1 .left)
 
 returns-2 : tie.Need-returns-2 Inv-loop μ-loop
 unfolding contradictory
@@ -50,8 +52,9 @@ contradictory-spec =
     Inv-loop
     μ-loop
     loop-holds
-    mul-x
-    element-copy-out-x
+    mul-decode
+    element-copy-out-decode
+    (λ c κs. search needs)  -- decode-requires
     (λ c. search needs)  -- add-clashes
     (λ c κs. search needs)  -- clashes-requires
     returns

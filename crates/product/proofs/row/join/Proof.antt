@@ -16,20 +16,24 @@ abbrev μ-loop : tie.MeasureT-loop
 loop-holds : tie.Need-loop-holds Inv-loop μ-loop
 loop-holds c = uniting-start _ (c .widen .ensures)
 
-mul-x : tie.Need-mul-x Inv-loop μ-loop
-mul-x c = let z = c .before .before .before .before .size .ensures in omega (arith, z .small)
+mul-decode : tie.Need-mul-decode Inv-loop μ-loop
+mul-decode c = let z = c .before .before .before .before .size .ensures in omega (arith, z .small)
 
-element-copy-out-x : tie.Need-element-copy-out-x Inv-loop μ-loop
-element-copy-out-x c = let z = c .before .before .before .before .size .ensures in omega (arith, z .small)
+element-copy-out-decode : tie.Need-element-copy-out-decode Inv-loop μ-loop
+element-copy-out-decode c = let z = c .before .before .before .before .size .ensures in omega (arith, z .small)
 
 insert-requires : tie.Need-insert-requires Inv-loop μ-loop
 insert-requires c κs =
-    let z = c .before .before .before .before .before .before .size .ensures in
-    let u = c .before .before .before .loop .inv in
+    let turn = c .before .before .before .before in
+    let z = turn .before .before .before .size .ensures in
+    let u = turn .loop .inv in
     (omega (arith, z .small, u .few), u .blank)
 
 loop-again : tie.Need-loop-again Inv-loop μ-loop
-loop-again c = uniting-next (c .before .before .before .before .before .before .before .size .ensures) (c .before .before .before .before .loop .inv) (search needs) (c .insert .ensures)
+loop-again c =
+    let read = c .before .before in
+    let turn = read .before .before .before in
+    uniting-next (turn .before .before .before .size .ensures) (turn .loop .inv) (search needs) (read .decode .ensures) (c .insert .ensures)
 
 returns : tie.Need-returns Inv-loop μ-loop
 returns c = uniting-end (c .before .before .before .before .size .ensures) (c .before .loop .inv) (search needs)
@@ -43,8 +47,9 @@ join-spec =
     (λ c κs. search needs)  -- size-requires
     (λ c κs. search needs)  -- widen-requires
     loop-holds
-    mul-x
-    element-copy-out-x
+    mul-decode
+    element-copy-out-decode
+    (λ c κs. search needs)  -- decode-requires
     insert-requires
     (λ c. search needs)  -- add-i
     (λ c. search needs)  -- loop-less

@@ -1,10 +1,10 @@
--- Rows being filled are the same exactly where their products are; what is left from row i on has the answer of the whole. Assumes nothing.
+-- What is left from row i on has the answer of the whole. Assumes nothing.
 use borrow.Author.Needs.{needs}
 use mathlib.Core.Path.{_≡_, refl, sym, _∙_}
 use Prim.Native.Nat.{_-_}
 use native.Mathlib.Omega.{arith}
 use lib.ListN.{drop}
-use Rattle.product.proofs.Filling.{present-same, present-past}
+use Rattle.product.proofs.Filling.{present-next, present-past}
 use Rattle.product.specs.Cells.{productOf, productsOf}
 use Rattle.product.specs.Sum.{present}
 use Rattle.product.proofs.sum.present.Statement.{statement}
@@ -30,16 +30,14 @@ unfolding present
 returns c =
     let b = c .before .before .before .before .before in
     let v = c .before .before .before .before .loop in
-    let t = present-same (b .pre) (v .i) (search needs) in
-    sym (v .inv ∙ rw (t .0, ← t .1, ← c .before .same .ensures, c .if1 .taken))
+    sym (v .inv ∙ rw (present-next (b .pre) (v .i) (search needs), ← c .before .same .ensures, c .if1 .taken))
 
 loop-again : tie.Need-loop-again Inv-loop μ-loop
 unfolding present
 loop-again c =
     let b = c .before .before .before .before .before in
     let v = c .before .before .before .before .loop in
-    let t = present-same (b .pre) (v .i) (search needs) in
-    v .inv ∙ rw (t .0, ← t .1, ← c .before .same .ensures, c .if1 .left)
+    v .inv ∙ rw (present-next (b .pre) (v .i) (search needs), ← c .before .same .ensures, c .if1 .left)
 
 returns-2 : tie.Need-returns-2 Inv-loop μ-loop
 unfolding present

@@ -18,8 +18,8 @@ use Rattle.model.specs.Limits.{mostListed}
 use Rattle.model.specs.Lists.{keep}
 use Rattle.model.specs.Threads.{isIn}
 use Rattle.model.specs.Model.{conditions, answer, owns, made, segmentAt}
-use Rattle.model.specs.Cells.{Row, Table, Cells, cell, rowAt, tableAt, ownerCell, definedCell, hasKey, keyRow, listRow, withSegmentTables, stateOf, store}
-use Rattle.model.specs.Serving.{cellsWith, Serves}
+use Rattle.model.specs.Cells.{Row, Table, Cells, registryIs, makersAre, segmentsAre, _and_, cell, rowAt, tableAt, ownerCell, definedCell, hasKey, keyRow, listRow, stateOf, store}
+use Rattle.model.specs.Serving.{Serves}
 use Rattle.model.proofs.Lists.{length-append-one}
 use Rattle.model.proofs.Serving.{serves-refused, serves-accepted}
 use Rattle.segments.specs.Steps.{Struck}
@@ -79,7 +79,7 @@ module _ (d : Cells) (text : List ℕ) (u s k : ℕ) where
             (rw (z .user, z .segment, z .key, rights, may, told, absent, counted, lt-ltb mostListed (suc count) (omega arith)))
 
         given : count < mostListed
-            → Serves d call text (Accepted (count + 1)) (withSegmentTables d (set (d .segments) s (set table 1 (set cells count (definedCell k)))))
+            → Serves d call text (Accepted (count + 1)) (segmentsAre (set (d .segments) s (set table 1 (set cells count (definedCell k)))) d)
         unfolding conditions answer store
         given h =
             let e = many in
@@ -88,59 +88,59 @@ module _ (d : Cells) (text : List ℕ) (u s k : ℕ) where
             serves-accepted d call text
             (rw (z .user, z .segment, z .key, rights, may, told, absent, counted, le-ltb mostListed (suc count) (omega arith)))
             (omega arith)
-            (ap (λ (w : Row). withSegmentTables d (set (d .segments) s (set table 1 w)))
+            (ap (λ (w : Row). segmentsAre (set (d .segments) s (set table 1 w)) d)
             (ap₂ (λ (w : Row) (i : ℕ). set w i (definedCell k)) (v .closed ∙ ap keyRow all) e ∙ keyRow-snoc codes (definedCell k) (omega arith)))
 
-named-at : (b : tie.Else3) (locks threads : List Table)
+named-at : (b : tie.Else3) (d : Cells)
     → let a = b .before .before .before .before .before .before .before .args in
-    Named (cellsWith (now (a .registry)) (now (a .makers)) (now (a .segments)) locks threads) (a .user) (a .segment) (a .key)
-named-at b locks threads =
+    Named ((registryIs (now (a .registry)) and makersAre (now (a .makers)) and segmentsAre (now (a .segments))) d) (a .user) (a .segment) (a .key)
+named-at b d =
     let e = b .before .before .before .before .before in
-    named (cellsWith _ _ _ locks threads) _ _ _
+    named _ _ _ _
     (e .before .is-user .ensures) (e .if1 .left) (b .before .before .before .before .segments .ensures) (b .before .before .before .if2 .left)
     (b .before .defined .ensures) (b .if3 .left)
 
 returns : tie.Need-returns
 returns c =
-    λ locks threads text.
-    stranger (cellsWith _ _ _ locks threads) (GiveKey _ _ _) text _ _ _ (names (cellsWith _ _ _ locks threads) text _ _ _)
+    λ text d.
+    stranger _ (GiveKey _ _ _) text _ _ _ (names _ text _ _ _)
     (c .before .is-user .ensures) (c .if1 .taken)
 
 returns-2 : tie.Need-returns-2
 returns-2 c =
-    λ locks threads text.
-    nowhere (cellsWith _ _ _ locks threads) (GiveKey _ _ _) text _ _ _ (names (cellsWith _ _ _ locks threads) text _ _ _)
+    λ text d.
+    nowhere _ (GiveKey _ _ _) text _ _ _ (names _ text _ _ _)
     (c .before .before .before .is-user .ensures) (c .before .before .if1 .left) (c .before .segments .ensures) (c .if2 .taken)
 
 returns-3 : tie.Need-returns-3
 returns-3 c =
     let b = c .before .before .before .before .before in
-    λ locks threads text.
-    unmade (cellsWith _ _ _ locks threads) (GiveKey _ _ _) text _ _ _ (names (cellsWith _ _ _ locks threads) text _ _ _)
+    λ text d.
+    unmade _ (GiveKey _ _ _) text _ _ _ (names _ text _ _ _)
     (b .before .is-user .ensures) (b .if1 .left) (c .before .before .before .before .segments .ensures) (c .before .before .before .if2 .left)
     (c .before .defined .ensures) (c .if3 .taken)
 
 returns-4 : tie.Need-returns-4
 returns-4 c =
-    λ locks threads text. not-owner _ text _ _ _ (named-at (c .before .before .before) locks threads) (c .if4 .taken)
+    λ text d. not-owner _ text _ _ _ (named-at (c .before .before .before) d) (c .if4 .taken)
 
 returns-5 : tie.Need-returns-5
 returns-5 c =
     let e = c .before .before .before in
-    λ locks threads text. present _ text _ _ _ (named-at (e .before .before .before) locks threads) (e .if4 .left) (c .before .strike .ensures) (c .if5 .taken)
+    λ text d. present _ text _ _ _ (named-at (e .before .before .before) d) (e .if4 .left) (c .before .strike .ensures) (c .if5 .taken)
 
 returns-6 : tie.Need-returns-6
 returns-6 c =
     let e = c .before .before .before .before in
-    λ locks threads text.
-    full _ text _ _ _ (named-at (e .before .before .before) locks threads) (e .if4 .left) (c .before .before .strike .ensures)
+    λ text d.
+    full _ text _ _ _ (named-at (e .before .before .before) d) (e .if4 .left) (c .before .before .strike .ensures)
     (c .before .if5 .left) (c .if6 .taken)
 
 returns-7 : tie.Need-returns-7
 returns-7 c =
     let e = c .before .before .before .before .before in
-    λ locks threads text.
-    given _ text _ _ _ (named-at (e .before .before .before) locks threads) (e .if4 .left) (c .before .before .before .strike .ensures)
+    λ text d.
+    given _ text _ _ _ (named-at (e .before .before .before) d) (e .if4 .left) (c .before .before .before .strike .ensures)
     (c .before .before .if5 .left) (c .before .if6 .left)
 
 pub give-key-spec : {M : Type 1} → statement M

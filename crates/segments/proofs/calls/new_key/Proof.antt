@@ -14,53 +14,50 @@ use Rattle.model.specs.declared.answer.Refusal.the-variants.{UnknownUser, Full}
 use Rattle.model.specs.declared.answer.Answer.the-variants.{Accepted, Refused}
 use Rattle.model.specs.Limits.{mostDefined}
 use Rattle.model.specs.Model.{conditions, answer}
-use Rattle.model.specs.Cells.{Row, Table, Cells, cell, userCount, definedCount, stateOf, store}
-use Rattle.model.specs.Serving.{cellsWith, Serves}
+use Rattle.model.specs.Cells.{Cells, registryIs, makersAre, cell, userCount, definedCount, stateOf, store}
+use Rattle.model.specs.Serving.{Serves}
 use Rattle.model.proofs.Serving.{serves-refused, serves-accepted}
 use Rattle.registry.specs.Counts.{Handed}
 use Rattle.segments.proofs.Judging.{user-test}
 use Rattle.segments.proofs.calls.new_key.Statement.{statement}
 use Rattle.segments.proofs.calls.new_key.Tie as tie
 
-module _ (registry makers : Row) (segments locks threads : List Table) (text : List ℕ) (u : ℕ) where
-  abbrev here : Cells
-  here = cellsWith registry makers segments locks threads
-
-  stranger : {r : Bool} → r ≡ ltb u (cell registry userCount) → not r ≡ true → Serves here (NewKey u) text (Refused UnknownUser) here
+module _ (d : Cells) (text : List ℕ) (u : ℕ) where
+  stranger : {r : Bool} → r ≡ ltb u (cell (d .registry) userCount) → not r ≡ true → Serves d (NewKey u) text (Refused UnknownUser) d
   unfolding conditions
-  stranger known t = serves-refused here (NewKey u) text (rw (user-test here u known t))
+  stranger known t = serves-refused d (NewKey u) text (rw (user-test d u known t))
 
-  module _ {r : Bool} (known : r ≡ ltb u (cell registry userCount)) (f : not r ≡ false) {n : ℕ} (c : Handed (cell registry definedCount) makers n) where
-    full : mostDefined ≤ n → Serves here (NewKey u) text (Refused Full) here
+  module _ {r : Bool} (known : r ≡ ltb u (cell (d .registry) userCount)) (f : not r ≡ false) {n : ℕ} (c : Handed (cell (d .registry) definedCount) (d .makers) n) where
+    full : mostDefined ≤ n → Serves d (NewKey u) text (Refused Full) d
     unfolding conditions stateOf
-    full h = serves-refused here (NewKey u) text (rw (user-test here u known f, ← c .keys, lt-ltb mostDefined (suc n) (omega arith)))
+    full h = serves-refused d (NewKey u) text (rw (user-test d u known f, ← c .keys, lt-ltb mostDefined (suc n) (omega arith)))
 
-    handed : n < mostDefined → length makers ≡ mostDefined
-        → Serves here (NewKey u) text (Accepted n) (cellsWith (set registry definedCount (n + 1)) (set makers n u) segments locks threads)
+    handed : n < mostDefined → length (d .makers) ≡ mostDefined
+        → Serves d (NewKey u) text (Accepted n) (registryIs (set (d .registry) definedCount (n + 1)) (makersAre (set (d .makers) n u) d))
     unfolding conditions answer stateOf store
     handed h long =
         let e = c .keys in
-        let l = length-take (min (cell registry definedCount) mostDefined) makers in
-        let same : n ≡ cell registry definedCount = omega arith in
-        serves-accepted here (NewKey u) text
-        (rw (user-test here u known f, ← c .keys, le-ltb mostDefined (suc n) (omega arith)))
+        let l = length-take (min (cell (d .registry) definedCount) mostDefined) (d .makers) in
+        let same : n ≡ cell (d .registry) definedCount = omega arith in
+        serves-accepted d (NewKey u) text
+        (rw (user-test d u known f, ← c .keys, le-ltb mostDefined (suc n) (omega arith)))
         (c .keys)
-        (ap₂ (λ (k m : ℕ). cellsWith (set registry definedCount k) (set makers m u) segments locks threads) (add-one n ∙ ap suc same) same)
+        (ap₂ (λ (k m : ℕ). registryIs (set (d .registry) definedCount k) (makersAre (set (d .makers) m u) d)) (add-one n ∙ ap suc same) same)
 
 returns : tie.Need-returns
-returns c = λ segments locks threads text. stranger _ _ segments locks threads text _ (c .before .is-user .ensures) (c .if1 .taken)
+returns c = λ text d. stranger _ text _ (c .before .is-user .ensures) (c .if1 .taken)
 
 returns-2 : tie.Need-returns-2
 returns-2 c =
     let b = c .before .before .before .before .before in
-    λ segments locks threads text.
-    full _ _ segments locks threads text _ (b .before .is-user .ensures) (b .if1 .left) (c .before .defined .ensures) (c .if2 .taken)
+    λ text d.
+    full _ text _ (b .before .is-user .ensures) (b .if1 .left) (c .before .defined .ensures) (c .if2 .taken)
 
 returns-3 : tie.Need-returns-3
 returns-3 c =
     let b = c .before .before .before .before .before in
-    λ segments locks threads text.
-    handed _ _ segments locks threads text _ (b .before .is-user .ensures) (b .if1 .left) (c .before .defined .ensures) (c .if2 .left) (search needs)
+    λ text d.
+    handed _ text _ (b .before .is-user .ensures) (b .if1 .left) (c .before .defined .ensures) (c .if2 .left) (search needs)
 
 pub new-key-spec : {M : Type 1} → statement M
 new-key-spec =

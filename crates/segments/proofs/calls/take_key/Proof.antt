@@ -12,8 +12,8 @@ use Rattle.call.specs.declared.request.Request.the-variants.{TakeKey}
 use Rattle.model.specs.declared.answer.Refusal.the-variants.{NotOwner, NotPresent}
 use Rattle.model.specs.declared.answer.Answer.the-variants.{Accepted, Refused}
 use Rattle.model.specs.Model.{conditions, answer, owns}
-use Rattle.model.specs.Cells.{Row, Table, Cells, cell, rowAt, tableAt, ownerCell, definedCell, listRow, withSegmentTables, stateOf, store}
-use Rattle.model.specs.Serving.{cellsWith, Serves}
+use Rattle.model.specs.Cells.{Row, Table, Cells, registryIs, makersAre, segmentsAre, _and_, cell, rowAt, tableAt, ownerCell, definedCell, listRow, stateOf, store}
+use Rattle.model.specs.Serving.{Serves}
 use Rattle.model.proofs.Serving.{serves-refused, serves-accepted}
 use Rattle.segments.specs.Steps.{Struck}
 use Rattle.segments.proofs.Judging.{owned-by, in-list, left-length}
@@ -45,56 +45,56 @@ module _ (d : Cells) (text : List ℕ) (u s k : ℕ) where
       unfolding conditions
       absent e = serves-refused d call text (rw (z .user, z .segment, z .key, owner, in-list d s (z .there) k, ← v .told, e))
 
-      taken : not found ≡ false → Serves d call text (Accepted count) (withSegmentTables d (set (d .segments) s (set table 1 cells)))
+      taken : not found ≡ false → Serves d call text (Accepted count) (segmentsAre (set (d .segments) s (set table 1 cells)) d)
       unfolding conditions answer store
       taken e =
           serves-accepted d call text
           (rw (z .user, z .segment, z .key, owner, in-list d s (z .there) k, ← v .told, e))
           (v .counted ∙ sym (left-length d s (z .there) k))
-          (ap (λ (w : Row). withSegmentTables d (set (d .segments) s (set table 1 w))) (v .closed))
+          (ap (λ (w : Row). segmentsAre (set (d .segments) s (set table 1 w)) d) (v .closed))
 
-named-at : (b : tie.Else3) (locks threads : List Table)
+named-at : (b : tie.Else3) (d : Cells)
     → let a = b .before .before .before .before .before .before .before .args in
-    Named (cellsWith (now (a .registry)) (now (a .makers)) (now (a .segments)) locks threads) (a .user) (a .segment) (a .key)
-named-at b locks threads =
+    Named ((registryIs (now (a .registry)) and makersAre (now (a .makers)) and segmentsAre (now (a .segments))) d) (a .user) (a .segment) (a .key)
+named-at b d =
     let e = b .before .before .before .before .before in
-    named (cellsWith _ _ _ locks threads) _ _ _
+    named _ _ _ _
     (e .before .is-user .ensures) (e .if1 .left) (b .before .before .before .before .segments .ensures) (b .before .before .before .if2 .left)
     (b .before .defined .ensures) (b .if3 .left)
 
 returns : tie.Need-returns
 returns c =
-    λ locks threads text.
-    stranger (cellsWith _ _ _ locks threads) (TakeKey _ _ _) text _ _ _ (names (cellsWith _ _ _ locks threads) text _ _ _)
+    λ text d.
+    stranger _ (TakeKey _ _ _) text _ _ _ (names _ text _ _ _)
     (c .before .is-user .ensures) (c .if1 .taken)
 
 returns-2 : tie.Need-returns-2
 returns-2 c =
-    λ locks threads text.
-    nowhere (cellsWith _ _ _ locks threads) (TakeKey _ _ _) text _ _ _ (names (cellsWith _ _ _ locks threads) text _ _ _)
+    λ text d.
+    nowhere _ (TakeKey _ _ _) text _ _ _ (names _ text _ _ _)
     (c .before .before .before .is-user .ensures) (c .before .before .if1 .left) (c .before .segments .ensures) (c .if2 .taken)
 
 returns-3 : tie.Need-returns-3
 returns-3 c =
     let b = c .before .before .before .before .before in
-    λ locks threads text.
-    unmade (cellsWith _ _ _ locks threads) (TakeKey _ _ _) text _ _ _ (names (cellsWith _ _ _ locks threads) text _ _ _)
+    λ text d.
+    unmade _ (TakeKey _ _ _) text _ _ _ (names _ text _ _ _)
     (b .before .is-user .ensures) (b .if1 .left) (c .before .before .before .before .segments .ensures) (c .before .before .before .if2 .left)
     (c .before .defined .ensures) (c .if3 .taken)
 
 returns-4 : tie.Need-returns-4
-returns-4 c = λ locks threads text. not-owner _ text _ _ _ (named-at (c .before .before) locks threads) (c .if4 .taken)
+returns-4 c = λ text d. not-owner _ text _ _ _ (named-at (c .before .before) d) (c .if4 .taken)
 
 returns-5 : tie.Need-returns-5
 returns-5 c =
     let e = c .before .before .before .before in
-    λ locks threads text. absent _ text _ _ _ (named-at (e .before .before) locks threads) (e .if4 .left) (c .before .before .strike .ensures) (c .if5 .taken)
+    λ text d. absent _ text _ _ _ (named-at (e .before .before) d) (e .if4 .left) (c .before .before .strike .ensures) (c .if5 .taken)
 
 returns-6 : tie.Need-returns-6
 returns-6 c =
     let e = c .before .before .before .before .before in
-    λ locks threads text.
-    taken _ text _ _ _ (named-at (e .before .before) locks threads) (e .if4 .left) (c .before .before .before .strike .ensures) (c .before .if5 .left)
+    λ text d.
+    taken _ text _ _ _ (named-at (e .before .before) d) (e .if4 .left) (c .before .before .before .strike .ensures) (c .before .if5 .left)
 
 pub take-key-spec : {M : Type 1} → statement M
 take-key-spec =

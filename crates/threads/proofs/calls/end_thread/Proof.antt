@@ -8,39 +8,36 @@ use Rattle.model.specs.declared.answer.Refusal.the-variants.{NoThread}
 use Rattle.model.specs.declared.answer.Answer.the-variants.{Accepted, Refused}
 use Rattle.model.specs.Limits.{mostThreads}
 use Rattle.model.specs.Model.{isThread, conditions, answer}
-use Rattle.model.specs.Cells.{Row, Table, Cells, tableAt, depthOf, stateOf, onTable, endThread, store}
-use Rattle.model.specs.Serving.{cellsWith, Serves}
+use Rattle.model.specs.Cells.{Cells, threadsAre, tableAt, depthOf, stateOf, onTable, endThread, store}
+use Rattle.model.specs.Serving.{Serves}
 use Rattle.model.proofs.Serving.{serves-refused, serves-accepted}
 use Rattle.threads.specs.Steps.{Placed}
 use Rattle.threads.proofs.Finding.{stands, stands-nowhere}
 use Rattle.threads.proofs.calls.end_thread.Statement.{statement}
 use Rattle.threads.proofs.calls.end_thread.Tie as tie
 
-module _ (registry makers : Row) (segments locks threads : List Table) (text : List ℕ) (n i : ℕ) (found : Placed threads n (isThread n) i) where
-  abbrev d : Cells
-  d = cellsWith registry makers segments locks threads
-
+module _ (d : Cells) (text : List ℕ) (n i : ℕ) (found : Placed (d .threads) n (isThread n) i) where
   no-thread : mostThreads ≤ i → Serves d (EndThread n) text (Refused NoThread) d
   unfolding conditions
   no-thread high = let dead = stands-nowhere d n i (found .count) (found .place) high in serves-refused d (EndThread n) text (rw dead)
 
-  ended : (k : ℕ) → i < mostThreads → k ≡ depthOf (tableAt threads i)
-      → Serves d (EndThread n) text (Accepted k) (cellsWith registry makers segments locks (onTable threads i endThread))
+  ended : (k : ℕ) → i < mostThreads → k ≡ depthOf (tableAt (d .threads) i)
+      → Serves d (EndThread n) text (Accepted k) (threadsAre (onTable (d .threads) i endThread) d)
   unfolding conditions answer stateOf store
   ended k low depth =
       let s = stands d n i (found .count) (found .place) low in
       serves-accepted d (EndThread n) text
       (rw (s .live))
       (depth ∙ sym (s .depth))
-      (ap (λ (j : ℕ). cellsWith registry makers segments locks (onTable threads j endThread)) (found .place))
+      (ap (λ (j : ℕ). threadsAre (onTable (d .threads) j endThread) d) (found .place))
 
 returns : tie.Need-returns
-returns c = λ registry makers segments locks text. no-thread registry makers segments locks _ text _ _ (c .before .find .ensures) (c .if1 .taken)
+returns c = λ text d. no-thread _ text _ _ (c .before .find .ensures) (c .if1 .taken)
 
 returns-2 : tie.Need-returns-2
 returns-2 c =
-    λ registry makers segments locks text.
-    ended registry makers segments locks _ text _ _ (c .before .before .before .find .ensures) _ (c .before .before .if1 .left) (c .depth .ensures .count)
+    λ text d.
+    ended _ text _ _ (c .before .before .before .find .ensures) _ (c .before .before .if1 .left) (c .depth .ensures .count)
 
 pub end-thread-spec : {M : Type 1} → statement M
 end-thread-spec =

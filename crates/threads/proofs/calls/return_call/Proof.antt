@@ -11,8 +11,8 @@ use Rattle.model.specs.declared.answer.Answer.the-variants.{Accepted, Refused}
 use Rattle.model.specs.Limits.{mostThreads}
 use Rattle.model.specs.Threads.{Thread}
 use Rattle.model.specs.Model.{isThread, threadAt, newest, conditions, answer}
-use Rattle.model.specs.Cells.{Row, Table, Cells, cell, rowAt, tableAt, frameCount, depthOf, framesOf, stateOf, setCell, onTable, popRow, store}
-use Rattle.model.specs.Serving.{cellsWith, Serves}
+use Rattle.model.specs.Cells.{Table, Cells, threadsAre, cell, rowAt, tableAt, frameCount, depthOf, framesOf, stateOf, setCell, onTable, popRow, store}
+use Rattle.model.specs.Serving.{Serves}
 use Rattle.model.proofs.Serving.{serves-refused, serves-accepted}
 use Rattle.threads.specs.Steps.{Placed}
 use Rattle.threads.proofs.Finding.{stands, stands-nowhere}
@@ -23,17 +23,14 @@ newest-row : (t : Table) (k : ℕ) → (k ≡ 0 → ⊥) → cell (rowAt t k) 0 
 newest-row t zero some = absurd (some refl)
 newest-row t (suc k) some = refl
 
-module _ (registry makers : Row) (segments locks threads : List Table) (text : List ℕ) (n i : ℕ) (found : Placed threads n (isThread n) i) where
-  abbrev d : Cells
-  d = cellsWith registry makers segments locks threads
-
+module _ (d : Cells) (text : List ℕ) (n i : ℕ) (found : Placed (d .threads) n (isThread n) i) where
   no-thread : mostThreads ≤ i → Serves d (ReturnCall n) text (Refused NoThread) d
   unfolding conditions
   no-thread high = let dead = stands-nowhere d n i (found .count) (found .place) high in serves-refused d (ReturnCall n) text (rw dead)
 
-  module _ (low : i < mostThreads) (k : ℕ) (depth : k ≡ depthOf (tableAt threads i)) where
+  module _ (low : i < mostThreads) (k : ℕ) (depth : k ≡ depthOf (tableAt (d .threads) i)) where
     abbrev t : Table
-    t = tableAt threads i
+    t = tableAt (d .threads) i
 
     counted : length (threadAt (stateOf d) n .frames) ≡ k
     counted = stands d n i (found .count) (found .place) low .depth ∙ sym depth
@@ -43,30 +40,30 @@ module _ (registry makers : Row) (segments locks threads : List Table) (text : L
     no-frame none = let s = stands d n i (found .count) (found .place) low in serves-refused d (ReturnCall n) text (rw (s .live, counted, none))
 
     left : (k ≡ 0 → ⊥)
-        → Serves d (ReturnCall n) text (Accepted (cell (rowAt t k) 0)) (cellsWith registry makers segments locks (onTable threads i (λ r. setCell r 0 frameCount (k - 1))))
+        → Serves d (ReturnCall n) text (Accepted (cell (rowAt t k) 0)) (threadsAre (onTable (d .threads) i (λ r. setCell r 0 frameCount (k - 1))) d)
     unfolding conditions answer stateOf store
     left some =
         let s = stands d n i (found .count) (found .place) low in
         serves-accepted d (ReturnCall n) text
         (rw (s .live, counted, ne-eqb k 0 some))
         (newest-row t k some ∙ ap (λ (j : ℕ). newest (framesOf t j)) depth ∙ sym (ap (λ (r : Thread). newest (r .frames)) (s .thread)))
-        (ap (λ (m : ℕ). cellsWith registry makers segments locks (onTable threads i (λ r. setCell r 0 frameCount (m - 1)))) depth
-        ∙ ap (λ (j : ℕ). cellsWith registry makers segments locks (onTable threads j popRow)) (found .place))
+        (ap (λ (m : ℕ). threadsAre (onTable (d .threads) i (λ r. setCell r 0 frameCount (m - 1))) d) depth
+        ∙ ap (λ (j : ℕ). threadsAre (onTable (d .threads) j popRow) d) (found .place))
 
 returns : tie.Need-returns
-returns c = λ registry makers segments locks text. no-thread registry makers segments locks _ text _ _ (c .before .find .ensures) (c .if1 .taken)
+returns c = λ text d. no-thread _ text _ _ (c .before .find .ensures) (c .if1 .taken)
 
 returns-2 : tie.Need-returns-2
 returns-2 c =
-    λ registry makers segments locks text.
+    λ text d.
     let called = c .before in
-    no-frame registry makers segments locks _ text _ _ (called .before .before .before .find .ensures) (called .before .before .if1 .left) _ (called .depth .ensures .count) (c .if2 .taken)
+    no-frame _ text _ _ (called .before .before .before .find .ensures) (called .before .before .if1 .left) _ (called .depth .ensures .count) (c .if2 .taken)
 
 returns-3 : tie.Need-returns-3
 returns-3 c =
-    λ registry makers segments locks text.
+    λ text d.
     let called = c .before .before in
-    left registry makers segments locks _ text _ _ (called .before .before .before .find .ensures) (called .before .before .if1 .left) _ (called .depth .ensures .count) (c .before .if2 .left)
+    left _ text _ _ (called .before .before .before .find .ensures) (called .before .before .if1 .left) _ (called .depth .ensures .count) (c .before .if2 .left)
 
 pub return-call-spec : {M : Type 1} → statement M
 return-call-spec =

@@ -14,8 +14,8 @@ use Rattle.model.specs.declared.answer.Refusal.the-variants.{UnknownUser, Full}
 use Rattle.model.specs.declared.answer.Answer.the-variants.{Accepted, Refused}
 use Rattle.model.specs.Limits.{mostThreads, mostNumbers, passes}
 use Rattle.model.specs.Model.{isFree, liveIn, conditions, answer}
-use Rattle.model.specs.Cells.{Row, Table, Cells, cell, userCount, threadCount, placeIn, stateOf, onTable, startThread, store}
-use Rattle.model.specs.Serving.{cellsWith, Serves}
+use Rattle.model.specs.Cells.{Cells, registryIs, threadsAre, cell, userCount, threadCount, placeIn, stateOf, onTable, startThread, store}
+use Rattle.model.specs.Serving.{Serves}
 use Rattle.model.proofs.Serving.{serves-refused, serves-accepted}
 use Rattle.model.proofs.Lists.{caseBool}
 use Rattle.threads.specs.Steps.{Placed}
@@ -23,21 +23,18 @@ use Rattle.threads.proofs.Room.{room, no-room}
 use Rattle.threads.proofs.calls.start_thread.Statement.{statement}
 use Rattle.threads.proofs.calls.start_thread.Tie as tie
 
-module _ (registry makers : Row) (segments locks threads : List Table) (text : List ℕ) (u : ℕ) where
-  abbrev d : Cells
-  d = cellsWith registry makers segments locks threads
-
+module _ (d : Cells) (text : List ℕ) (u : ℕ) where
   abbrev n : ℕ
-  n = cell registry threadCount
+  n = cell (d .registry) threadCount
 
   abbrev live : ℕ
-  live = liveIn (map placeIn threads)
+  live = liveIn (map placeIn (d .threads))
 
-  unknown-user : not (ltb u (cell registry userCount)) ≡ true → Serves d (StartThread u) text (Refused UnknownUser) d
+  unknown-user : not (ltb u (cell (d .registry) userCount)) ≡ true → Serves d (StartThread u) text (Refused UnknownUser) d
   unfolding conditions stateOf
   unknown-user e = serves-refused d (StartThread u) text (rw e)
 
-  module _ (is-user : not (ltb u (cell registry userCount)) ≡ false) where
+  module _ (is-user : not (ltb u (cell (d .registry) userCount)) ≡ false) where
     full : (passes mostThreads (suc live) || passes mostNumbers (suc n)) ≡ true → Serves d (StartThread u) text (Refused Full) d
     unfolding conditions stateOf
     full e = serves-refused d (StartThread u) text (rw (is-user, e))
@@ -47,38 +44,38 @@ module _ (registry makers : Row) (segments locks threads : List Table) (text : L
         let last : passes mostNumbers (suc n) ≡ true = lt-ltb mostNumbers (suc n) (omega arith) in
         full (caseBool (passes mostThreads (suc live)) (λ e. simp e) (λ e. simp (e, last)))
 
-    module _ (i : ℕ) (found : Placed threads n isFree i) where
+    module _ (i : ℕ) (found : Placed (d .threads) n isFree i) where
       no-place : mostThreads ≤ i → Serves d (StartThread u) text (Refused Full) d
       no-place high = full (rw (no-room found high))
 
       started : n < mostNumbers → i < mostThreads
-          → Serves d (StartThread u) text (Accepted n) (cellsWith (set registry threadCount (n + 1)) makers segments locks (onTable threads i (startThread n u)))
+          → Serves d (StartThread u) text (Accepted n) (registryIs (set (d .registry) threadCount (n + 1)) (threadsAre (onTable (d .threads) i (startThread n u)) d))
       unfolding conditions answer stateOf store
       started h low =
           serves-accepted d (StartThread u) text
           (rw (is-user, room found low, le-ltb mostNumbers (suc n) (omega arith)))
           refl
-          (ap₂ (λ (m j : ℕ). cellsWith (set registry threadCount m) makers segments locks (onTable threads j (startThread n u))) (add-one n) (found .place))
+          (ap₂ (λ (m j : ℕ). registryIs (set (d .registry) threadCount m) (threadsAre (onTable (d .threads) j (startThread n u)) d)) (add-one n) (found .place))
 
 known : (c : tie.Else1) → not (ltb (c .before .before .before .args .user) (cell (c .before .before .before .args .registry .now) userCount)) ≡ false
 known c = sym (ap not (c .before .is-user .ensures)) ∙ c .if1 .left
 
 returns : tie.Need-returns
-returns c = λ makers segments locks text. unknown-user _ makers segments locks _ text _ (sym (ap not (c .before .is-user .ensures)) ∙ c .if1 .taken)
+returns c = λ text d. unknown-user _ text _ (sym (ap not (c .before .is-user .ensures)) ∙ c .if1 .taken)
 
 returns-2 : tie.Need-returns-2
-returns-2 c = λ makers segments locks text. no-number _ makers segments locks _ text _ (known (c .before .before)) (c .if2 .taken)
+returns-2 c = λ text d. no-number _ text _ (known (c .before .before)) (c .if2 .taken)
 
 returns-3 : tie.Need-returns-3
 returns-3 c =
-    λ makers segments locks text.
-    no-place _ makers segments locks _ text _ (known (c .before .before .before .before .before)) _ (c .before .find-free .ensures) (c .if3 .taken)
+    λ text d.
+    no-place _ text _ (known (c .before .before .before .before .before)) _ (c .before .find-free .ensures) (c .if3 .taken)
 
 returns-4 : tie.Need-returns-4
 returns-4 c =
-    λ makers segments locks text.
+    λ text d.
     let numbered = c .before .before .before in
-    started _ makers segments locks _ text _ (known (numbered .before .before)) _ (c .before .find-free .ensures) (numbered .if2 .left) (c .if3 .left)
+    started _ text _ (known (numbered .before .before)) _ (c .before .find-free .ensures) (numbered .if2 .left) (c .if3 .left)
 
 pub start-thread-spec : {M : Type 1} → statement M
 start-thread-spec =
