@@ -4,19 +4,15 @@ ghost use Rattle.formula.specs.Outcome.{outcomeOf};
 ghost use Rattle.call.specs.declared.request.Request.the-variants.{CallSegment, ReturnCall, Access};
 ghost use Rattle.call.specs.Calls.{callWith};
 ghost use Rattle.model.specs.Cells.{cellsWith, registryIs, segmentsAre, locksAre, threadsAre, unchanged, _and_, emptyCells, stepCells};
-ghost use Rattle.checking.specs.Deciding.{openingOf};
 ghost use Rattle.abi.specs.Calls.{answerNumber, Tells, TellsLent};
-use checking::opening;
 use guard::call;
 use model::answer::Answer;
 use model::answer::number;
 use model::answer::second;
 use model::arrays::Locks;
 use model::arrays::Makers;
-use model::arrays::Products;
 use model::arrays::Registry;
 use model::arrays::Segments;
-use model::arrays::Thread;
 use model::arrays::Threads;
 use route::access;
 use route::call_segment;
@@ -123,15 +119,6 @@ pub extern "C" fn rotundaaloe_access(
         unchanged ⌝ }
 {
     answer_number(access(registry, segments, locks, threads, a, b, c))
-}
-
-// The check alone, on one thread's rows and one segment's products: 0 where no lock opens, else lock * 65536 + literals * 16 + operations of the
-// product that decides, with 8 among the operations of a deny lock.
-#[no_mangle]
-pub extern "C" fn rotundaaloe_check(thread: &Thread, products: &Products, operation: u32) -> u32
-    ensures { λ r. ⌜ r ≡ openingOf (now (thread .entry)) (now (products .entry)) operation ⌝ }
-{
-    opening(thread, products, operation)
 }
 
 fn answer_number(answer: Answer) -> u32

@@ -11,12 +11,15 @@ use borrow.Author.Tests.{eqb-true, eqb-false, not-true}
 use Rattle.product.specs.Product.{opens}
 use Rattle.call.proofs.Truth.{and-right}
 use Rattle.model.specs.Lists.{first, isSome, mapOption}
-use Rattle.model.specs.Operations.{execute, read, write, deny, includes, shares, denies, grants}
+use Rattle.model.specs.Operations.{execute, read, write, deny, includes, shares, denies, grants, isOperation}
 use Rattle.model.specs.Model.{opensFor, lockOf}
 use Rattle.model.specs.Cells.{Row, Table, cell, isUsed, usedRows, productIn}
 use Rattle.model.proofs.Lists.{caseBool, clash, first-map, some-inj, some≢none}
 use Rattle.model.proofs.OperationSets.{Bit, executes, reads, writes, denying, shares-one}
-use Rattle.checking.specs.Deciding.{keysOf, firstOpening, checkOf, isOperation, opensRow, isDeny, headOf, openingOf, headVerdict, Decides}
+use Rattle.checking.specs.declared.Checked.{Checked}
+use Rattle.checking.specs.declared.Checked.the-variants.{NotGranted}
+use Rattle.checking.specs.Deciding.{keysOf, firstOpening, decide, checkOf}
+use Rattle.checking.specs.Steps.{isDeny, opensRow, headOf, openingOf, headChecked, codeChecked}
 
 -- ---- the operations of a row's head are its last four bits
 
@@ -146,10 +149,10 @@ module _ {n : ℕ} (t w : Table) (b : Bit n) where
           (ap isSome (deny-is none p), ap isSome (grant-is (some v) g), ap lockOf (grant-is (some v) g) ∙ ap (λ (k : ℕ). k / 65536) (sym q))
       go (neither p g q) = absurd (z q)
 
-  -- so the verdict on the head is the model's
-  pub verdict-is : headVerdict (openingOf t w n) ≡ checkOf t w n
-  unfolding headVerdict checkOf
-  verdict-is =
+  -- so the answer by the head is the check's
+  pub decided : headChecked (openingOf t w n) ≡ decide (firstOpening denies t w n) (firstOpening grants t w n)
+  unfolding headChecked
+  decided =
       caseBool (eqb (openingOf t w n) 0)
       (λ z. let (d, g) = opening-none (eqb-true (openingOf t w n) 0 z) in rw (z, d, g))
       (λ z. caseBool (shares (openingOf t w n) deny)
@@ -166,5 +169,18 @@ operation-bit n e =
     (λ v. subst Bit (sym (eqb-true n write v)) writes)
     (λ v. clash e (simp (x, y, v)))))
 
-pub decides : Decides
-decides t w n e = verdict-is t w (operation-bit n e)
+-- ---- the check of an operation is the answer by that row; of any other number there is none
+
+module _ (t w : Table) (n : ℕ) where
+  pub check-is : isOperation n ≡ true → headChecked (openingOf t w n) ≡ checkOf t w n
+  unfolding checkOf
+  check-is e = rw e (decided t w (operation-bit n e))
+
+  pub no-check : isOperation n ≡ false → NotGranted ≡ checkOf t w n
+  unfolding checkOf
+  no-check e = rw e
+
+-- what the code answers, by the number of its answer
+pub answered : (t w : Table) (n code : ℕ) (r : Checked) → isOperation n ≡ true → codeChecked code ≡ headChecked (openingOf t w n) → r ≡ codeChecked code
+    → r ≡ checkOf t w n
+answered t w n code r o h v = v ∙ h ∙ check-is t w n o

@@ -20,8 +20,8 @@ use Rattle.model.specs.Threads.{KeySet}
 use Rattle.model.specs.Operations.{shares, deny}
 use Rattle.model.specs.Cells.{Row, Table, cell, rowAt, frameCount, literalIn, usedRows, productIn}
 use Rattle.model.proofs.Lists.{caseBool, clash, each-snoc}
-use Rattle.checking.specs.Deciding.{keysAt, opensRow, isDeny, headOf, openingOf}
-use Rattle.checking.specs.Steps.{hasCode, inherited, listable, deniesFrom}
+use Rattle.checking.specs.Deciding.{keysAt}
+use Rattle.checking.specs.Steps.{hasCode, inherited, listable, isDeny, deniesFrom, opensRow, headOf, openingOf}
 use Rattle.checking.proofs.Codes.{literal-listable}
 
 step-down : (i : ℕ) → 0 < i → i ≡ suc (i - 1)

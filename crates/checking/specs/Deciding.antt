@@ -1,22 +1,19 @@
--- Document 01, 'Operations and the check', on a thread's table and a segment's product rows: the row that decides, and what the check answers.
--- Assumes nothing.
-use mathlib.Core.Path.{_≡_}
-use mathlib.Core.Bool.{Bool, true, _&&_, _||_, not, cond}
+-- Document 01, 'Operations and the check', on a thread's table and the table of a segment's product rows: what the check answers. Assumes nothing.
+use mathlib.Core.Bool.{Bool, cond}
 use mathlib.Core.List.{map}
 use mathlib.Core.Option.{Option}
-use Prim.Native.Nat.{ℕ, _/_}
-use lib.Dec.{eqb}
-use Rattle.product.specs.Product.{opens}
-use Rattle.model.specs.declared.answer.Refusal.the-variants.{Denied, NotGranted}
+use Prim.Native.Nat.{ℕ}
+use Rattle.model.specs.declared.answer.Refusal.{Refusal}
+use Rattle.model.specs.declared.answer.Refusal.the-variants.{Denied as DeniedBy, NotGranted as NoneGrants}
 use Rattle.model.specs.declared.answer.Answer.{Answer}
 use Rattle.model.specs.declared.answer.Answer.the-variants.{Accepted, Refused}
-use Rattle.model.specs.Lists.{first, isSome, orDefault}
-use Rattle.model.specs.Operations.{execute, read, write, deny, shares, denies, grants}
+use Rattle.model.specs.Lists.{first, isSome}
+use Rattle.model.specs.Operations.{denies, grants, isOperation}
 use Rattle.model.specs.Threads.{KeySet, keySet}
 use Rattle.model.specs.Model.{LockProduct, opensFor, lockOf}
-use Rattle.model.specs.Cells.{Row, Table, cell, rowAt, numberCell, userCell, framesOf, depthOf, usedRows, productIn}
-
--- ---- in the model's words
+use Rattle.model.specs.Cells.{Table, cell, rowAt, numberCell, userCell, framesOf, depthOf, usedRows, productIn}
+use Rattle.checking.specs.declared.Checked.{Checked}
+use Rattle.checking.specs.declared.Checked.the-variants.{Granted, Denied, NotGranted}
 
 -- the key set of the thread, with its oldest n frames
 abbrev pub keysAt : Table → ℕ → KeySet
@@ -29,40 +26,27 @@ keysOf t = keysAt t (depthOf t)
 abbrev pub firstOpening : (ℕ → ℕ → Bool) → Table → Table → ℕ → Option LockProduct
 firstOpening stands t w n = first (opensFor stands n (keysOf t)) (map productIn (usedRows w))
 
--- 'If a deny lock opens, the lowest one's number goes with refusal 14. Otherwise .. 15 if none opens.'
-unfoldable pub checkOf : Table → Table → ℕ → Answer
-checkOf t w n =
-    let d = firstOpening denies t w n in
-    let g = firstOpening grants t w n in
-    cond (isSome d) (Refused (Denied (lockOf d))) (cond (isSome g) (Accepted (lockOf g)) (Refused NotGranted))
+-- 'If a deny lock opens, the lowest one's number goes with refusal 14. Otherwise the lowest opening grant lock is the answer, and 15 if none opens.'
+abbrev pub decide : Option LockProduct → Option LockProduct → Checked
+decide d g = cond (isSome d) (Denied (lockOf d)) (cond (isSome g) (Granted (lockOf g)) NotGranted)
 
-abbrev pub isOperation : ℕ → Bool
-isOperation n = eqb n execute || (eqb n read || eqb n write)
+-- no lock stands for a number that is no operation
+unfoldable pub checkOf : Table → Table → ℕ → Checked
+checkOf t w n = cond (isOperation n) (decide (firstOpening denies t w n) (firstOpening grants t w n)) NotGranted
 
--- ---- in the rows' words, for any number n, whose bits are compared with the head's: of a sum of operations, one of them; beyond 15 the numbers of
--- literals and of the lock take part, and the answer has no meaning
+-- document 01's number of each case, 0 where nothing is refused, and its value: the lock
+abbrev pub checkedNumber : Checked → ℕ
+checkedNumber (Granted lock) = 0
+checkedNumber (Denied lock) = 14
+checkedNumber NotGranted = 15
 
--- the row is of a lock that stands for n, and opens
-abbrev pub opensRow : KeySet → ℕ → Row → Bool
-opensRow keys n w = shares (cell w 0) n && opens keys (productIn w .product)
+abbrev pub checkedValue : Checked → ℕ
+checkedValue (Granted lock) = lock
+checkedValue (Denied lock) = lock
+checkedValue NotGranted = 0
 
-abbrev pub isDeny : Row → Bool
-isDeny w = shares (cell w 0) deny
-
-abbrev pub headOf : Option Row → ℕ
-headOf o = orDefault 0 (λ w. cell w 0) o
-
--- the head of the row that decides, 0 where none opens
-unfoldable pub openingOf : Table → Table → ℕ → ℕ
-openingOf t w n =
-    let d = first (λ v. opensRow (keysOf t) n v && isDeny v) (usedRows w) in
-    let g = first (λ v. opensRow (keysOf t) n v && not (isDeny v)) (usedRows w) in
-    cond (isSome d) (headOf d) (headOf g)
-
-unfoldable pub headVerdict : ℕ → Answer
-headVerdict head =
-    cond (eqb head 0) (Refused NotGranted) (cond (shares head deny) (Refused (Denied (head / 65536))) (Accepted (head / 65536)))
-
--- The check, the verdict on that head, is the model's: proved in `proofs/Deciding.antt`.
-abbrev pub Decides : Type 0
-Decides = (t w : Table) (n : ℕ) → isOperation n ≡ true → headVerdict (openingOf t w n) ≡ checkOf t w n
+-- as the answer of the call or access that is checked
+abbrev pub answerOf : Checked → Answer
+answerOf (Granted lock) = Accepted lock
+answerOf (Denied lock) = Refused (DeniedBy lock)
+answerOf NotGranted = Refused NoneGrants

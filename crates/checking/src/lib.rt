@@ -1,10 +1,9 @@
-// The check of document 01, 'Operations and the check', is `verdict(opening(..))`: the head of the row that decides, and what it answers. Two functions,
-// since a number is returned in a register and an answer is not.
+// The check of document 01, 'Operations and the check': what a segment's standing locks answer to a thread's operation.
 ghost use mathlib.Core.Path.{_≡_};
 ghost use Prim.Native.Nat.{_+_, _≤_};
 ghost use lib.ListN.{length};
-ghost use Rattle.checking.specs.Deciding.{openingOf, headVerdict};
-ghost use Rattle.checking.specs.Steps.{deniesFrom};
+ghost use Rattle.checking.specs.Deciding.{checkOf, answerOf};
+ghost use Rattle.checking.specs.Steps.{openingOf, headChecked, codeChecked, deniesFrom};
 use crate::keys::agrees;
 use crate::keys::clamp;
 use crate::keys::literal_in;
@@ -17,28 +16,82 @@ use model::arrays::LOCK_UNIT;
 use model::arrays::Products;
 use model::arrays::Thread;
 use model::operations::Operations;
+use model::operations::is_access;
 
 mod keys;
 
-// What the head of the row that decides answers.
-pub fn verdict(head: u32) -> Answer
-    ensures { λ r. ⌜ r ≡ headVerdict head ⌝ }
+// What the check answers; `checkedNumber` and `checkedValue` give document 01's number and value for each.
+pub enum Checked {
+    // the lowest grant lock that opens
+    Granted(u16),
+    // 14, barred: the lowest deny lock that opens
+    Denied(u16),
+    // 15, no way in
+    NotGranted,
+}
+
+// The check of an operation of the thread in those rows, by the locks whose products are in those. No lock stands for an operation that isn't 1, 2 or 4.
+pub fn check(thread: &Thread, products: &Products, operation: u32) -> Checked
+    ensures { λ r. ⌜ r ≡ checkOf (now (thread .entry)) (now (products .entry)) operation ⌝ }
 {
-    if head == 0 {
-        return Answer::Refused(Refusal::NotGranted);
-    }
-    let lock = (head / LOCK_UNIT) as u16;
-    let operations = Operations { bits: head };
-    if operations.has(Operations::DENY) {
-        Answer::Refused(Refusal::Denied(lock))
+    // Asked at two places, `opening` stays a function of its own, and its answer a number in a register.
+    let code = if is_access(operation) {
+        opening(thread, products, operation)
+    } else if operation == Operations::EXECUTE {
+        opening(thread, products, Operations::EXECUTE)
     } else {
-        Answer::Accepted(lock)
+        NOT_GRANTED
+    };
+    checked_in(code)
+}
+
+// What it answers of a call or an access.
+pub fn answer(checked: Checked) -> Answer
+    ensures { λ r. ⌜ r ≡ answerOf checked ⌝ }
+{
+    match checked {
+        Checked::Granted(lock) => Answer::Accepted(lock),
+        Checked::Denied(lock) => Answer::Refused(Refusal::Denied(lock)),
+        Checked::NotGranted => Answer::Refused(Refusal::NotGranted),
     }
 }
 
-// The head of the row that decides: of the first deny lock's that opens, else of the first grant lock's; 0 where none opens.
-pub fn opening(thread: &Thread, products: &Products, operation: u32) -> u32
-    ensures { λ r. ⌜ r ≡ openingOf (now (thread .entry)) (now (products .entry)) operation ⌝ }
+// An answer as one number: a grant lock's own, a deny lock's from here on, and one for none.
+const DENIED: u32 = 65536;
+
+const NOT_GRANTED: u32 = 131072;
+
+fn checked_in(code: u32) -> Checked
+    ensures { λ r. ⌜ r ≡ codeChecked code ⌝ }
+{
+    if code < DENIED {
+        return Checked::Granted(code as u16);
+    }
+    if NOT_GRANTED <= code {
+        return Checked::NotGranted;
+    }
+    Checked::Denied((code - DENIED) as u16)
+}
+
+// The number of the answer that the head of the row that decides gives; head 0 is none's.
+fn head_code(head: u32) -> u32
+    ensures { λ r. ⌜ codeChecked r ≡ headChecked head ⌝ }
+{
+    if head == 0 {
+        return NOT_GRANTED;
+    }
+    let lock = head / LOCK_UNIT;
+    let operations = Operations { bits: head };
+    if operations.has(Operations::DENY) {
+        DENIED + lock
+    } else {
+        lock
+    }
+}
+
+// The number of the answer by the row that decides: the first deny lock's that opens, else the first grant lock's.
+fn opening(thread: &Thread, products: &Products, operation: u32) -> u32
+    ensures { λ r. ⌜ codeChecked r ≡ headChecked (openingOf (now (thread .entry)) (now (products .entry)) operation) ⌝ }
 {
     let depth = clamp(thread[0][FRAMES]);
     let rows = count(products);
@@ -46,7 +99,7 @@ pub fn opening(thread: &Thread, products: &Products, operation: u32) -> u32
     let mut p: usize = 0;
     'products: loop {
         if rows <= p {
-            break 'products found;
+            break 'products head_code(found);
         }
         let head = products[p][0];
         let operations = Operations { bits: head };
@@ -55,11 +108,11 @@ pub fn opening(thread: &Thread, products: &Products, operation: u32) -> u32
             loop {
                 if k == 0 {
                     if operations.has(Operations::DENY) {
-                        break 'products head;
+                        break 'products head_code(head);
                     }
                     if found == 0 {
                         if !denies_after(products, operation, p) {
-                            break 'products head;
+                            break 'products head_code(head);
                         }
                         found = head;
                     }
@@ -73,7 +126,7 @@ pub fn opening(thread: &Thread, products: &Products, operation: u32) -> u32
             }
         } else if head == 0 {
             // tested after the operation, which no unused row has
-            break 'products found;
+            break 'products head_code(found);
         }
         p += 1;
     }

@@ -17,6 +17,9 @@ write = 4
 abbrev pub deny : ℕ
 deny = 8
 
+abbrev pub isOperation : ℕ → Bool
+isOperation n = eqb n execute || (eqb n read || eqb n write)
+
 -- a set of operations is the sum of their numbers; n is one of them
 abbrev pub includes : ℕ → ℕ → Bool
 includes operations n = eqb (operations / n % 2) 1

@@ -13,20 +13,23 @@ use Rattle.model.specs.declared.answer.Refusal.the-variants.{NoThread, NoSegmen
 use Rattle.model.specs.declared.answer.Answer.{Answer}
 use Rattle.model.specs.declared.answer.Answer.the-variants.{Accepted, Refused}
 use Rattle.model.specs.Limits.{mostThreads}
-use Rattle.model.specs.Operations.{denies, grants}
+use Rattle.model.specs.Operations.{denies, grants, isOperation}
 use Rattle.model.specs.Model.{isThread, isSegment, lockOf, opening, conditions}
 use Rattle.model.specs.Cells.{Table, Cells, tableAt, stateOf}
 use Rattle.model.specs.Serving.{Serves}
 use Rattle.model.proofs.Serving.{segmentsIn, segment-at, is-segment, serves-refused}
 use Rattle.threads.specs.Steps.{Placed}
 use Rattle.threads.proofs.Finding.{Standing, stands, stands-nowhere}
-use Rattle.checking.specs.Deciding.{isOperation, firstOpening, checkOf, openingOf, headVerdict}
-use Rattle.checking.proofs.Deciding.{decides}
+use Rattle.checking.specs.declared.Checked.{Checked}
+use Rattle.checking.specs.Deciding.{firstOpening, checkOf, answerOf}
 use Rattle.route.proofs.Gates.{gates, checked, no-thread, no-segment, unfit, as-refused, as-accepted}
 
--- the verdict on the row that decides
-pub decided : (t w : Table) (n head : ℕ) (r : Answer) → isOperation n ≡ true → head ≡ openingOf t w n → r ≡ headVerdict head → r ≡ checkOf t w n
-decided t w n head r o h v = v ∙ ap headVerdict h ∙ decides t w n o
+-- what the check of the thread's rows by the segment's products answers
+abbrev pub answeredBy : Table → Table → ℕ → Answer
+answeredBy t w n = answerOf (checkOf t w n)
+
+pub answered : (t w : Table) (n : ℕ) (k : Checked) (r : Answer) → k ≡ checkOf t w n → r ≡ answerOf k → r ≡ answeredBy t w n
+answered t w n k r h v = v ∙ ap answerOf h
 
 -- a request that goes through the gates, of thread a at place i
 module _ (d : Cells) (q : Request) (text : List ℕ) (a b n i : ℕ) (fit : Bool) (rest : List (Condition Refusal))
@@ -34,15 +37,15 @@ module _ (d : Cells) (q : Request) (text : List ℕ) (a b n i : ℕ) (fit : Bool
   refuses : {r : Refusal} → firstRefusal (gates (stateOf d) a b n fit rest) ≡ some r → Serves d q text (Refused r) d
   refuses e = serves-refused d q text (ap firstRefusal same ∙ e)
 
-  pub nobody : mostThreads ≤ i → Serves d q text (Refused NoThread) d
-  nobody h = refuses (no-thread (stateOf d) a b n fit rest (stands-nowhere d a i (placed .count) (placed .place) h))
+  pub thread-missing : mostThreads ≤ i → Serves d q text (Refused NoThread) d
+  thread-missing h = refuses (no-thread (stateOf d) a b n fit rest (stands-nowhere d a i (placed .count) (placed .place) h))
 
   module _ (here : i < mostThreads) where
     standing : Standing d a i
     standing = stands d a i (placed .count) (placed .place) here
 
-    pub nowhere : segmentsIn d ≤ b → Serves d q text (Refused NoSegment) d
-    nowhere h = refuses (no-segment (stateOf d) a b n fit rest (standing .live) (is-segment d b ∙ le-ltb b (segmentsIn d) h))
+    pub segment-missing : segmentsIn d ≤ b → Serves d q text (Refused NoSegment) d
+    segment-missing h = refuses (no-segment (stateOf d) a b n fit rest (standing .live) (is-segment d b ∙ le-ltb b (segmentsIn d) h))
 
     module _ (low : b < segmentsIn d) where
       out : isSegment (stateOf d) b ≡ true
@@ -56,15 +59,15 @@ module _ (d : Cells) (q : Request) (text : List ℕ) (a b n i : ℕ) (fit : Bool
       unfolding opening
       asks stands′ = rw (standing .thread, standing .number, segment-at d b low)
 
-      as-checked : checked (opening (stateOf d) denies a b n) (opening (stateOf d) grants a b n) ≡ checkOf (tableAt (d .threads) i) (tableAt (d .locks) b) n
-      unfolding checkOf
-      as-checked = rw (asks denies, asks grants)
+      module _ (fits : fit ≡ true) (known : isOperation n ≡ true) where
+        as-checked : checked (opening (stateOf d) denies a b n) (opening (stateOf d) grants a b n) ≡ answeredBy (tableAt (d .threads) i) (tableAt (d .locks) b) n
+        unfolding checkOf
+        as-checked = rw (asks denies, asks grants, known)
 
-      module _ (fits : fit ≡ true) where
-        pub turned-away : {r : Refusal} → Refused r ≡ checkOf (tableAt (d .threads) i) (tableAt (d .locks) b) n → Serves d q text (Refused r) d
+        pub turned-away : {r : Refusal} → Refused r ≡ answeredBy (tableAt (d .threads) i) (tableAt (d .locks) b) n → Serves d q text (Refused r) d
         turned-away e = refuses (as-refused (stateOf d) a b n fit rest (standing .live) out fits (as-checked ∙ sym e))
 
-        pub let-through : {lock : ℕ} → Accepted lock ≡ checkOf (tableAt (d .threads) i) (tableAt (d .locks) b) n
+        pub let-through : {lock : ℕ} → Accepted lock ≡ answeredBy (tableAt (d .threads) i) (tableAt (d .locks) b) n
             → (firstRefusal (conditions outcomeOf (stateOf d) q text) ≡ firstRefusal rest) × (lock ≡ lockOf (opening (stateOf d) grants a b n))
         let-through e =
             let (free, lock) = as-accepted (stateOf d) a b n fit rest (standing .live) out fits (as-checked ∙ sym e) in

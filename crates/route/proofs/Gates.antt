@@ -1,23 +1,24 @@
 -- C and A ask the same questions in the same order: the thread, the segment, the operation, the deny locks and the grant locks. Assumes nothing.
 use mathlib.Core.Path.{_≡_, sym}
-use mathlib.Core.Bool.{Bool, true, false, cond}
+use mathlib.Core.Bool.{Bool, true, false}
 use mathlib.Core.List.{List, _∷_}
 use mathlib.Core.Option.{Option, some}
 use Prim.Native.Nat.{ℕ}
 use native.Mathlib.Omega.{arith}
 use Rattle.call.specs.Conditions.{Condition, firstRefusal}
 use Rattle.model.specs.declared.answer.Refusal.{Refusal}
-use Rattle.model.specs.declared.answer.Refusal.the-variants.{NoThread, NoSegment, Unfit, Denied, NotGranted}
+use Rattle.model.specs.declared.answer.Refusal.the-variants.{NoThread, NoSegment, Unfit}
 use Rattle.model.specs.declared.answer.Answer.{Answer}
 use Rattle.model.specs.declared.answer.Answer.the-variants.{Accepted, Refused}
 use Rattle.model.specs.Lists.{isSome}
 use Rattle.model.specs.Operations.{denies, grants}
 use Rattle.model.specs.Model.{State, LockProduct, isLive, isSegment, lockOf, opening, unless, denied, notGranted}
 use Rattle.model.proofs.Lists.{caseBool}
+use Rattle.checking.specs.Deciding.{decide, answerOf}
 
 -- what the check answers, by the first deny product and the first grant product that open
 abbrev pub checked : Option LockProduct → Option LockProduct → Answer
-checked d g = cond (isSome d) (Refused (Denied (lockOf d))) (cond (isSome g) (Accepted (lockOf g)) (Refused NotGranted))
+checked d g = answerOf (decide d g)
 
 refused-is : {r s : Refusal} → _≡_ {A = Answer} (Refused r) (Refused s) → r ≡ s
 refused-is e = cc

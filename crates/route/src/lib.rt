@@ -2,8 +2,8 @@
 ghost use Rattle.call.specs.declared.request.Request.the-variants.{CallSegment, Access};
 ghost use Rattle.model.specs.Cells.{registryIs, segmentsAre, locksAre, threadsAre, unchanged, _and_};
 ghost use Rattle.model.specs.Serving.{ServesLent};
-use checking::opening;
-use checking::verdict;
+use checking::answer;
+use checking::check;
 use model::answer::Answer;
 use model::answer::Refusal;
 use model::arrays::KIND;
@@ -44,7 +44,7 @@ pub fn call_segment(
     if !is_taken(Operations::EXECUTE, segments[s][0][KIND]) {
         return Answer::Refused(Refusal::Unfit);
     }
-    let answer = verdict(opening(&threads[place], &locks[s], Operations::EXECUTE));
+    let answer = answer(check(&threads[place], &locks[s], Operations::EXECUTE));
     let Answer::Accepted(lock) = answer else {
         return answer;
     };
@@ -83,5 +83,5 @@ pub fn access(
     if !(is_access(n) & is_taken(n, segments[s][0][KIND])) {
         return Answer::Refused(Refusal::Unfit);
     }
-    verdict(opening(&threads[place], &locks[s], n))
+    answer(check(&threads[place], &locks[s], n))
 }

@@ -1,13 +1,14 @@
 -- Outer loop: what decides is what decides from row p on, with the first grant row found before it. Inner loop: the row opens exactly when the
 -- literals up to k agree. Assumes nothing.
-use mathlib.Core.Path.{_≡_, refl}
+use mathlib.Core.Path.{_≡_, refl, ap, _∙_}
 use mathlib.Core.Logic.{⊎-elim}
 use Prim.Native.Nat.{_-_, _≤_, _<_}
 use borrow.Author.Needs.{needs}
 use borrow.Author.Tests.{not-true, not-false}
 use lib.ListN.{length}
 use Rattle.model.specs.Cells.{rowAt}
-use Rattle.checking.specs.Deciding.{keysAt, openingOf}
+use Rattle.checking.specs.Deciding.{keysAt}
+use Rattle.checking.specs.Steps.{openingOf, headChecked}
 use Rattle.checking.proofs.Turns.{Left, left-start, left-listable, left-hit, left-miss, left-end, Rest, rest-start, rest-as, rest-end, rest-stop, rest-idle, rest-shut, rest-denied, rest-found, rest-before, rest-granted}
 use Rattle.checking.proofs.opening.Statement.{statement}
 use Rattle.checking.proofs.opening.Tie as tie
@@ -64,23 +65,30 @@ products-again c =
           (c .if2 .came),
     )
 
+-- the answer by the head that decides
 returns : tie.Need-returns Inv-loop μ-loop Inv-products μ-products
-returns c = let inv = c .before .products .inv in rest-end (inv .0 .0 .1) (inv .1) (c .if1 .taken)
+returns c =
+    let turn = c .before in
+    let inv = turn .before .products .inv in
+    c .head-code .ensures ∙ ap headChecked (rest-end (inv .0 .0 .1) (inv .1) (turn .if1 .taken))
 
 returns-2 : tie.Need-returns-2 Inv-loop μ-loop Inv-products μ-products
 returns-2 c =
-    let judged = c .before in
+    let deny = c .before in
+    let judged = deny .before in
     let through = judged .before in
     let chosen = through .before .before in
     let asked = chosen .before in
     let turn = asked .before .before in
     let inv = turn .before .products .inv in
-    rest-denied (inv .0 .0 .1) (inv .1) (turn .if1 .left) _ (asked .has .ensures) (chosen .if2 .taken)
-    (left-end (through .before .loop .inv .2) (through .if3 .taken)) _ (judged .has2 .ensures) (c .if4 .taken)
+    c .head-code2 .ensures ∙ ap headChecked
+    (rest-denied (inv .0 .0 .1) (inv .1) (turn .if1 .left) _ (asked .has .ensures) (chosen .if2 .taken)
+    (left-end (through .before .loop .inv .2) (through .if3 .taken)) _ (judged .has2 .ensures) (deny .if4 .taken))
 
 returns-3 : tie.Need-returns-3 Inv-loop μ-loop Inv-products μ-products
 returns-3 c =
-    let looked = c .before in
+    let alone = c .before in
+    let looked = alone .before in
     let unfound = looked .before in
     let grant = unfound .before in
     let judged = grant .before in
@@ -90,15 +98,17 @@ returns-3 c =
     let asked = chosen .before in
     let turn = asked .before .before in
     let inv = turn .before .products .inv in
-    rest-granted (inv .0 .0 .1) (rest-as (kept .1) (inv .1)) (turn .if1 .left) _ (asked .has .ensures) (chosen .if2 .taken)
+    c .head-code3 .ensures ∙ ap headChecked
+    (rest-granted (inv .0 .0 .1) (rest-as (kept .1) (inv .1)) (turn .if1 .left) _ (asked .has .ensures) (chosen .if2 .taken)
     (left-end (kept .2) (through .if3 .taken)) _ (judged .has2 .ensures) (grant .if4 .left) (unfound .if5 .taken)
-    _ (looked .denies-after .ensures) (not-true _ (c .if6 .taken))
+    _ (looked .denies-after .ensures) (not-true _ (alone .if6 .taken)))
 
 returns-4 : tie.Need-returns-4 Inv-loop μ-loop Inv-products μ-products
 returns-4 c =
-    let turn = c .before .before .before .before in
+    let unused = c .before in
+    let turn = unused .before .before .before .before in
     let inv = turn .before .products .inv in
-    rest-stop (inv .0 .0 .1) (inv .1) (turn .if1 .left) (c .if8 .taken)
+    c .head-code4 .ensures ∙ ap headChecked (rest-stop (inv .0 .0 .1) (inv .1) (turn .if1 .left) (unused .if8 .taken))
 
 pub opening-spec : {M : Type 1} → statement M
 opening-spec =
@@ -113,6 +123,7 @@ opening-spec =
     (λ c κs. search needs)  -- clamp-requires
     (λ c κs. search needs)  -- count-requires
     products-holds
+    (λ c κs. search needs)  -- head-code-requires
     (λ c. search needs)  -- mul-head
     (λ c. search needs)  -- index-1-head
     (λ c. search needs)  -- index-2-head
@@ -120,7 +131,9 @@ opening-spec =
     (λ c. search needs)  -- cast-k
     loop-holds
     (λ c κs. search needs)  -- has-requires-2
+    (λ c κs. search needs)  -- head-code-requires-2
     (λ c κs. search needs)  -- denies-after-requires
+    (λ c κs. search needs)  -- head-code-requires-3
     (λ c. search needs)  -- mul-literal-in
     (λ c. search needs)  -- mul-literal-in-2
     (λ c. search needs)  -- index-1-literal-in
@@ -130,6 +143,7 @@ opening-spec =
     (λ c. search needs)  -- sub-k
     (λ c. search needs)  -- loop-less
     loop-again
+    (λ c κs. search needs)  -- head-code-requires-4
     (λ c. search needs)  -- add-p
     (λ c. search needs)  -- products-less
     products-again

@@ -13,16 +13,17 @@ use Rattle.model.specs.declared.answer.Refusal.the-variants.{NoThread, NoSegmen
 use Rattle.model.specs.declared.answer.Answer.{Answer}
 use Rattle.model.specs.declared.answer.Answer.the-variants.{Accepted, Refused}
 use Rattle.model.specs.Limits.{mostThreads, mostSegments}
-use Rattle.model.specs.Operations.{execute, isAccess, takes}
+use Rattle.model.specs.Operations.{execute, isAccess, takes, isOperation}
 use Rattle.model.specs.Model.{isThread, segmentAt, conditions, answer}
 use Rattle.model.specs.Cells.{Cells, cell, rowAt, tableAt, segmentCount, kindCell, stateOf, store}
 use Rattle.model.specs.Serving.{Serves}
 use Rattle.model.proofs.Serving.{segmentsIn, segment-at, serves-accepted}
 use Rattle.registry.specs.Counts.{Counted}
 use Rattle.threads.specs.Steps.{Placed}
-use Rattle.checking.specs.Deciding.{isOperation, checkOf, openingOf, headVerdict}
+use Rattle.checking.specs.declared.Checked.{Checked}
+use Rattle.checking.specs.Deciding.{checkOf, answerOf}
 use Rattle.route.proofs.Gates.{gates}
-use Rattle.route.proofs.Asking.{decided, nobody, nowhere, misfit, turned-away, let-through}
+use Rattle.route.proofs.Asking.{answeredBy, answered, thread-missing, segment-missing, misfit, turned-away, let-through}
 use Rattle.route.proofs.access.Statement.{statement}
 use Rattle.route.proofs.access.Tie as tie
 
@@ -39,11 +40,11 @@ module _ (d : Cells) (text : List ℕ) (a b n i : ℕ) (placed : Placed (d .thre
   same = refl
 
   no-thread : mostThreads ≤ i → Serves d (Access a b n) text (Refused NoThread) d
-  no-thread = nobody d (Access a b n) text a b n i fit [] same placed
+  no-thread = thread-missing d (Access a b n) text a b n i fit [] same placed
 
   module _ (here : i < mostThreads) (count : ℕ) (counted : Counted (cell (d .registry) segmentCount) mostSegments count) where
     no-segment : count ≤ b → Serves d (Access a b n) text (Refused NoSegment) d
-    no-segment h = nowhere d (Access a b n) text a b n i fit [] same placed here (rw (counted .count) at h)
+    no-segment h = segment-missing d (Access a b n) text a b n i fit [] same placed here (rw (counted .count) at h)
 
     module _ (below : b < count) (known taken : Bool) (is-known : known ≡ isAccess n) (is-taken : taken ≡ takes (cell (rowAt (tableAt (d .segments) b) 0) kindCell) n) where
       low : b < segmentsIn d
@@ -59,15 +60,15 @@ module _ (d : Cells) (text : List ℕ) (a b n i : ℕ) (placed : Placed (d .thre
         known-operation : isOperation n ≡ true
         known-operation = or-right (eqb n execute) (isAccess n) (sym is-known ∙ and-left known taken e)
 
-        granted : (r : Answer) → r ≡ checkOf (tableAt (d .threads) i) (tableAt (d .locks) b) n → Serves d (Access a b n) text r d
+        granted : (r : Answer) → r ≡ answeredBy (tableAt (d .threads) i) (tableAt (d .locks) b) n → Serves d (Access a b n) text r d
         unfolding answer store
-        granted (Refused x) h = turned-away d (Access a b n) text a b n i fit [] same placed here low (sym fits ∙ e) h
+        granted (Refused x) h = turned-away d (Access a b n) text a b n i fit [] same placed here low (sym fits ∙ e) known-operation h
         granted (Accepted lock) h =
-            let (free, is) = let-through d (Access a b n) text a b n i fit [] same placed here low (sym fits ∙ e) h in
+            let (free, is) = let-through d (Access a b n) text a b n i fit [] same placed here low (sym fits ∙ e) known-operation h in
             serves-accepted d (Access a b n) text free is refl
 
-        checked : (head : ℕ) (r : Answer) → head ≡ openingOf (tableAt (d .threads) i) (tableAt (d .locks) b) n → r ≡ headVerdict head → Serves d (Access a b n) text r d
-        checked head r h v = granted r (decided (tableAt (d .threads) i) (tableAt (d .locks) b) n head r known-operation h v)
+        checked : (k : Checked) (r : Answer) → k ≡ checkOf (tableAt (d .threads) i) (tableAt (d .locks) b) n → r ≡ answerOf k → Serves d (Access a b n) text r d
+        checked k r h v = granted r (answered (tableAt (d .threads) i) (tableAt (d .locks) b) n k r h v)
 
 returns : tie.Need-returns
 returns c = λ text d. no-thread _ text _ _ _ _ (c .before .find .ensures) (c .if1 .taken)
@@ -97,7 +98,7 @@ returns-4 c = λ text d.
     let counted = low .before in
     let found = counted .before in
     checked _ text _ _ _ _ (found .before .find .ensures) (found .if1 .left) _ (counted .segments .ensures) (low .if2 .left)
-    _ _ (known .is-access .ensures) (asked .is-taken .ensures) (not-false _ (fit .if3 .left)) _ _ (c .before .opening .ensures) (c .verdict .ensures)
+    _ _ (known .is-access .ensures) (asked .is-taken .ensures) (not-false _ (fit .if3 .left)) _ _ (c .before .check .ensures) (c .answer .ensures)
 
 pub access-spec : {M : Type 1} → statement M
 access-spec =
@@ -114,10 +115,10 @@ access-spec =
     (λ c. search needs)  -- index-3-is-taken
     (λ c κs. search needs)  -- is-taken-requires
     returns-3
-    (λ c. search needs)  -- mul-opening
-    (λ c. search needs)  -- index-1-opening
-    (λ c. search needs)  -- mul-opening-2
-    (λ c. search needs)  -- index-1-opening-2
-    (λ c κs. search needs)  -- opening-requires
-    (λ c κs. search needs)  -- verdict-requires
+    (λ c. search needs)  -- mul-check
+    (λ c. search needs)  -- index-1-check
+    (λ c. search needs)  -- mul-check-2
+    (λ c. search needs)  -- index-1-check-2
+    (λ c κs. search needs)  -- check-requires
+    (λ c κs. search needs)  -- answer-requires
     returns-4)

@@ -25,10 +25,9 @@ use Rattle.model.proofs.ThreadTables.{length-frames}
 use Rattle.model.proofs.Serving.{segmentsIn, segment-at, serves-refused, serves-accepted}
 use Rattle.registry.specs.Counts.{Counted}
 use Rattle.threads.specs.Steps.{Placed}
-use Rattle.checking.specs.Deciding.{checkOf}
 use Rattle.threads.proofs.Finding.{stands}
 use Rattle.route.proofs.Gates.{gates}
-use Rattle.route.proofs.Asking.{decided, nobody, nowhere, misfit, turned-away, let-through}
+use Rattle.route.proofs.Asking.{answeredBy, answered, thread-missing, segment-missing, misfit, turned-away, let-through}
 use Rattle.route.proofs.call_segment.Statement.{statement}
 use Rattle.route.proofs.call_segment.Tie as tie
 
@@ -44,11 +43,11 @@ module _ (d : Cells) (text : List ℕ) (a b i : ℕ) (placed : Placed (d .thread
   same = refl
 
   no-thread : mostThreads ≤ i → Serves d (CallSegment a b) text (Refused NoThread) d
-  no-thread = nobody d (CallSegment a b) text a b execute i fit rest same placed
+  no-thread = thread-missing d (CallSegment a b) text a b execute i fit rest same placed
 
   module _ (here : i < mostThreads) (count : ℕ) (counted : Counted (cell (d .registry) segmentCount) mostSegments count) where
     no-segment : count ≤ b → Serves d (CallSegment a b) text (Refused NoSegment) d
-    no-segment h = nowhere d (CallSegment a b) text a b execute i fit rest same placed here (rw (counted .count) at h)
+    no-segment h = segment-missing d (CallSegment a b) text a b execute i fit rest same placed here (rw (counted .count) at h)
 
     module _ (below : b < count) where
       low : b < segmentsIn d
@@ -61,12 +60,12 @@ module _ (d : Cells) (text : List ℕ) (a b i : ℕ) (placed : Placed (d .thread
       unfit e = misfit d (CallSegment a b) text a b execute i fit rest same placed here low (fits refl ∙ e)
 
       module _ (taken : takes (cell (rowAt (tableAt (d .segments) b) 0) kindCell) execute ≡ true) where
-        refused : (r : Answer) {x : Refusal} → r ≡ Refused x → r ≡ checkOf (tableAt (d .threads) i) (tableAt (d .locks) b) execute → Serves d (CallSegment a b) text r d
-        refused r e h = rw e (turned-away d (CallSegment a b) text a b execute i fit rest same placed here low (fits refl ∙ taken) (sym e ∙ h))
+        refused : (r : Answer) {x : Refusal} → r ≡ Refused x → r ≡ answeredBy (tableAt (d .threads) i) (tableAt (d .locks) b) execute → Serves d (CallSegment a b) text r d
+        refused r e h = rw e (turned-away d (CallSegment a b) text a b execute i fit rest same placed here low (fits refl ∙ taken) refl (sym e ∙ h))
 
-        module _ {r : Answer} (lock : ℕ) (is : r ≡ Accepted lock) (passed : r ≡ checkOf (tableAt (d .threads) i) (tableAt (d .locks) b) execute) where
+        module _ {r : Answer} (lock : ℕ) (is : r ≡ Accepted lock) (passed : r ≡ answeredBy (tableAt (d .threads) i) (tableAt (d .locks) b) execute) where
           through : (firstRefusal (conditions outcomeOf (stateOf d) (CallSegment a b) text) ≡ firstRefusal rest) × (lock ≡ lockOf (opening (stateOf d) grants a b execute))
-          through = let-through d (CallSegment a b) text a b execute i fit rest same placed here low (fits refl ∙ taken) (sym is ∙ passed)
+          through = let-through d (CallSegment a b) text a b execute i fit rest same placed here low (fits refl ∙ taken) refl (sym is ∙ passed)
 
           frames : length (threadAt (stateOf d) a .frames) ≡ depthOf (tableAt (d .threads) i)
           frames = ap (λ t. length (t .frames)) (stands d a i (placed .count) (placed .place) here .thread) ∙ length-frames (tableAt (d .threads) i) (depthOf (tableAt (d .threads) i))
@@ -123,34 +122,34 @@ returns-4 c = λ text d.
     let counted = low .before in
     let found = counted .before in
     refused _ text _ _ _ (found .before .find .ensures) (found .if1 .left) _ (counted .segments .ensures) (low .if2 .left)
-    (sym (asked .is-taken .ensures) ∙ not-false _ (fit .if3 .left)) _ (c .enum-told .given .1) (decided _ _ _ _ _ refl (checked .before .opening .ensures) (checked .verdict .ensures))
+    (sym (asked .is-taken .ensures) ∙ not-false _ (fit .if3 .left)) _ (c .enum-told .given .1) (answered _ _ _ _ _ (checked .before .check .ensures) (checked .answer .ensures))
 
 returns-5 : tie.Need-returns-5
 returns-5 c = λ text d.
     let stored = c .before in
-    let told = stored .before .before .before .before in
-    let checked = told .before .before in
+    let accepted = stored .before .before .before .before in
+    let checked = accepted .before .before in
     let fit = checked .before .before .before .before in
     let asked = fit .before in
     let low = asked .before .before in
     let counted = low .before in
     let found = counted .before in
     pushed _ text _ _ _ (found .before .find .ensures) (found .if1 .left) _ (counted .segments .ensures) (low .if2 .left)
-    (sym (asked .is-taken .ensures) ∙ not-false _ (fit .if3 .left)) _ (told .answer .given .1) (decided _ _ _ _ _ refl (checked .before .opening .ensures) (checked .verdict .ensures))
+    (sym (asked .is-taken .ensures) ∙ not-false _ (fit .if3 .left)) _ (accepted .answer2 .given .1) (answered _ _ _ _ _ (checked .before .check .ensures) (checked .answer .ensures))
     _ refl _ (stored .push .ensures .1) _ (stored .push .ensures .0) (c .if4 .taken)
 
 returns-6 : tie.Need-returns-6
 returns-6 c = λ text d.
     let stored = c .before in
-    let told = stored .before .before .before .before in
-    let checked = told .before .before in
+    let accepted = stored .before .before .before .before in
+    let checked = accepted .before .before in
     let fit = checked .before .before .before .before in
     let asked = fit .before in
     let low = asked .before .before in
     let counted = low .before in
     let found = counted .before in
     full _ text _ _ _ (found .before .find .ensures) (found .if1 .left) _ (counted .segments .ensures) (low .if2 .left)
-    (sym (asked .is-taken .ensures) ∙ not-false _ (fit .if3 .left)) _ (told .answer .given .1) (decided _ _ _ _ _ refl (checked .before .opening .ensures) (checked .verdict .ensures))
+    (sym (asked .is-taken .ensures) ∙ not-false _ (fit .if3 .left)) _ (accepted .answer2 .given .1) (answered _ _ _ _ _ (checked .before .check .ensures) (checked .answer .ensures))
     _ refl _ (stored .push .ensures .1) _ (stored .push .ensures .0) (c .if4 .left)
 
 pub call-segment-spec : {M : Type 1} → statement M
@@ -167,12 +166,12 @@ call-segment-spec =
     (λ c. search needs)  -- index-3-is-taken
     (λ c κs. search needs)  -- is-taken-requires
     returns-3
-    (λ c. search needs)  -- mul-opening
-    (λ c. search needs)  -- index-1-opening
-    (λ c. search needs)  -- mul-opening-2
-    (λ c. search needs)  -- index-1-opening-2
-    (λ c κs. search needs)  -- opening-requires
-    (λ c κs. search needs)  -- verdict-requires
+    (λ c. search needs)  -- mul-check
+    (λ c. search needs)  -- index-1-check
+    (λ c. search needs)  -- mul-check-2
+    (λ c. search needs)  -- index-1-check-2
+    (λ c κs. search needs)  -- check-requires
+    (λ c κs. search needs)  -- answer-requires
     (λ c. search needs)  -- enum-known-answer
     (λ c. search needs)  -- enum-told
     returns-4
