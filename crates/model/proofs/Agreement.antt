@@ -26,7 +26,7 @@ use Rattle.model.specs.declared.answer.Refusal.{Refusal}
 use Rattle.model.specs.Lists.{adjust, tailOf}
 use Rattle.model.specs.Limits.{mostThreads, passes}
 use Rattle.model.specs.Threads.{Thread}
-use Rattle.model.specs.Model.{State, emptyState, findThread, threadAt, isFree, placeFor, free, taken, Segment, nowhere, segmentAt, liveIn, isMalformed, isTooWide, isUnsatisfiable, issued, isLive, isLock, homeOf, placeOf, onThread, pushFrame, popFrame, giveKey, takeKey, addProducts, dropProducts, onSegment, conditions, update, answer, judged, stepDecoded, step}
+use Rattle.model.specs.Model.{State, emptyState, findThread, threadAt, isFree, placeFor, free, taken, Segment, blankSegment, segmentAt, liveIn, isMalformed, isTooWide, isUnsatisfiable, issued, isLive, isLock, homeOf, placeOf, onThread, pushFrame, popFrame, giveKey, takeKey, addProducts, dropProducts, onSegment, conditions, update, answer, judged, stepDecoded, step}
 use Rattle.model.specs.History.{History, Entry, Event, event, emptyHistory, withEntries, onFrames, listOf, note, noteAnswer, advance, historyFrom, history, counts, countFrom, acceptedOf}
 use Rattle.model.specs.Replay.{stateAfter, eventsOf}
 use Rattle.model.proofs.Lists.{at-lt, length-append-one}
@@ -187,7 +187,7 @@ module _ (compile : Compiler) (holds : Meaning) (laws : Laws compile holds) (tex
       omega arith
 
   pub keys-agree : (b : ℕ) → b < length (d .segments) → listOf h b ≡ segmentAt d b .keys
-  keys-agree b lt = simp (c .segments b, at-lt (d .segments) b nowhere lt)
+  keys-agree b lt = simp (c .segments b, at-lt (d .segments) b blankSegment lt)
 
   keep-call : (a b : ℕ) → Kept (CallSegment a b)
   unfolding conditions update answer note

@@ -26,7 +26,7 @@ use Rattle.model.specs.declared.answer.Refusal.{Refusal}
 use Rattle.model.specs.Lists.{orDefault, tailOf}
 use Rattle.model.specs.Limits.{mostUsers, mostThreads, mostSegments, mostDefined, mostListed, mostStanding, mostFrames, mostNumbers, passes}
 use Rattle.model.specs.Threads.{Thread, sameKey}
-use Rattle.model.specs.Model.{State, emptyState, Segment, nowhere, segmentAt, Place, free, taken, isFree, liveIn, threadIn, nobody, placeFor, placeOf, threadAt, isOfLock, homeOf, issued, conditions, withUsers, withThreadNumbers, withLockNumbers, withMakers, withSegments, withPlaces, onSegment, onThread, atPlace, pushFrame, popFrame, giveKey, takeKey, lockProduct, addProducts, dropProducts, update, judged, stepDecoded, step}
+use Rattle.model.specs.Model.{State, emptyState, Segment, blankSegment, segmentAt, Place, free, taken, isFree, liveIn, threadIn, blankThread, placeFor, placeOf, threadAt, isOfLock, homeOf, issued, conditions, withUsers, withThreadNumbers, withLockNumbers, withMakers, withSegments, withPlaces, onSegment, onThread, atPlace, pushFrame, popFrame, giveKey, takeKey, lockProduct, addProducts, dropProducts, update, judged, stepDecoded, step}
 use Rattle.model.specs.Replay.{stateAfter}
 use Rattle.model.specs.Bounds.{Within, BoundsAlways, Bounds}
 use Rattle.model.proofs.Lists.{length-keep, length-append-one, Everywhere, everywhere-set, everywhere-append-one, everywhere-replicate}
@@ -42,7 +42,7 @@ module _ {A : Type 0} where
 -- ---- the invariant
 
 abbrev occupant : Place → Thread
-occupant p = orDefault nobody (λ t. t) (threadIn p)
+occupant p = orDefault blankThread (λ t. t) (threadIn p)
 
 abbrev Shallow : Place → Type 0
 Shallow p = length (occupant p .frames) ≤ mostFrames
@@ -57,7 +57,7 @@ record SegmentKept (g : Segment) : Type 0 where
 
 record SegmentsKept (segments : List Segment) : Type 0 where
   pub count : length segments ≤ mostSegments
-  pub each : Everywhere SegmentKept nowhere segments
+  pub each : Everywhere SegmentKept blankSegment segments
 
 record Kept (d : State) : Type 0 where
   pub users : d .users ≤ mostUsers
@@ -138,13 +138,13 @@ segments-set : (segments : List Segment) → SegmentsKept segments → (s : ℕ)
 segments-set segments k s g h =
     let same : length (set segments s g) ≡ length segments = length-set segments s g in
     let c : length segments ≤ mostSegments = k .count in
-    record { count = omega arith; each = everywhere-set SegmentKept nowhere segments (k .each) s g h }
+    record { count = omega arith; each = everywhere-set SegmentKept blankSegment segments (k .each) s g h }
 
 segments-add : (segments : List Segment) → SegmentsKept segments → (g : Segment) → SegmentKept g → suc (length segments) ≤ mostSegments
     → SegmentsKept (segments ++ g ∷ [])
 segments-add segments k g h c =
     let more : length (segments ++ g ∷ []) ≡ suc (length segments) = length-append-one segments g in
-    record { count = omega arith; each = everywhere-append-one SegmentKept nowhere segments (k .each) g h }
+    record { count = omega arith; each = everywhere-append-one SegmentKept blankSegment segments (k .each) g h }
 
 give-kept : (k : ℕ) (g : Segment) → SegmentKept g → suc (length (g .keys)) ≤ mostListed → SegmentKept (giveKey k g)
 give-kept k g h c =

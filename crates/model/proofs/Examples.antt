@@ -22,7 +22,7 @@ unfolding bytes outcomeOf issuedTo readText readNots readAtom readNumber readDig
 examples =
     record {
       routeHappens = refl;
-      nobodyHappens = refl;
+      emptyDeskHappens = refl;
       emptyReadable = journal-examples .empty-readable;
       emptyRecords = journal-examples .empty-has-none;
       textsCompile = formula-examples;

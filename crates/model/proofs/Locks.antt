@@ -18,7 +18,7 @@ use Rattle.formula.specs.Compiler.{Compiler, Meaning, Laws, everything}
 use Rattle.call.proofs.Truth.{and-left, and-right}
 use Rattle.model.specs.Lists.{any, keep, first, concatMap, mapOption, indexOf, rising}
 use Rattle.model.specs.Threads.{KeySet}
-use Rattle.model.specs.Model.{Segment, LockProduct, lockProduct, opensFor, isOfLock, hasLock, nowhere, addProducts, dropProducts}
+use Rattle.model.specs.Model.{Segment, LockProduct, lockProduct, opensFor, isOfLock, hasLock, blankSegment, addProducts, dropProducts}
 use Rattle.model.specs.History.{Lock}
 use Rattle.model.specs.StoredLocks.{standsOn, productsOf, storedOf}
 use Rattle.model.proofs.Lists.{All, caseBool, same-truth, eqb-self, any-found, any-passes, any-at, all-at, any-same, any-map, any-concatMap, any-keep, any-and, from-any, map-append, concatMap-append, concatMap-map, concatMap-same, keep-append, keep-map, keep-concatMap, keep-keep, keep-idle, first-keep, first-map, first-same, All-map, All-append, All-keep, indexOf-lt, indexOf-passes}
@@ -193,7 +193,7 @@ module _ (compile : Compiler) where
         to : any (hasLock n) segments ≡ true → any numbered (c .standing) ≡ true
         to h =
             let i = indexOf (hasLock n) segments in
-            let (l, m, t) = any-found (λ l. isOn i l && numbered l) (c .standing) (sym (rows-of i) ∙ indexOf-passes (hasLock n) nowhere segments h) in
+            let (l, m, t) = any-found (λ l. isOn i l && numbered l) (c .standing) (sym (rows-of i) ∙ indexOf-passes (hasLock n) blankSegment segments h) in
             any-passes numbered l (c .standing) m (and-right (isOn i l) (numbered l) t)
 
         from : any numbered (c .standing) ≡ true → any (hasLock n) segments ≡ true
@@ -201,7 +201,7 @@ module _ (compile : Compiler) where
             let (l, m, t) = any-found numbered (c .standing) h in
             let s = l .segment in
             let on : (isOn s l && numbered l) ≡ true = simp (eqb-self s, t) in
-            any-at (hasLock n) nowhere segments s (rows-of s ∙ any-passes (λ k. isOn s k && numbered k) l (c .standing) m on) refl
+            any-at (hasLock n) blankSegment segments s (rows-of s ∙ any-passes (λ k. isOn s k && numbered k) l (c .standing) m on) refl
 
   -- ---- the products of one standing lock
 
@@ -302,7 +302,7 @@ module _ (compile : Compiler) where
           (λ e. simp (e, keep-append, ne-eqb s t (λ p. eqb-false t s e (sym p)), append-nil) (c .rows t))
 
       pub agree-add : s < length segments → 1 ≤ length ps → (i : Issued) → compile i text ≡ accepted ps
-          → AgreeLocks (set segments s (addProducts numbers operations ps (getD segments s nowhere))) (suc numbers)
+          → AgreeLocks (set segments s (addProducts numbers operations ps (getD segments s blankSegment))) (suc numbers)
           (locks ++ record { number = numbers; segment = s; operations = operations; text = text } ∷ [])
       unfolding new home′
       agree-add h some-product i m =
@@ -333,9 +333,9 @@ module _ (compile : Compiler) where
           (sym (any-keep (λ l. any (isOfLock n) (rowsOf l)) (isOn place) (c .standing))
           ∙ sym (any-concatMap (isOfLock n) rowsOf (keep (isOn place) (c .standing)))
           ∙ ap (any (isOfLock n)) (sym (c .rows place))
-          ∙ indexOf-passes (hasLock n) nowhere segments there)
+          ∙ indexOf-passes (hasLock n) blankSegment segments there)
 
-      dropped-rows : (t : ℕ) → cond (eqb t place) (dropProducts n (getD segments place nowhere) .products) (productsAt segments t) ≡ concatMap rowsOf (keep (isOn t) (keep (stays n) (c .standing)))
+      dropped-rows : (t : ℕ) → cond (eqb t place) (dropProducts n (getD segments place blankSegment) .products) (productsAt segments t) ≡ concatMap rowsOf (keep (isOn t) (keep (stays n) (c .standing)))
       dropped-rows t =
           caseBool (eqb t place)
           (λ e. simp e
@@ -352,7 +352,7 @@ module _ (compile : Compiler) where
               (λ q. absurd (eqb-false t place e (sym (eqb-true (l .segment) t on) ∙ sym (k .homed) ∙ ap (c .home) (eqb-true (l .number) n q) ∙ found)))
               (λ q. simp q)
 
-      pub agree-drop : AgreeLocks (set segments place (dropProducts n (getD segments place nowhere))) numbers (keep (λ l. not (eqb (l .number) n)) locks)
+      pub agree-drop : AgreeLocks (set segments place (dropProducts n (getD segments place blankSegment))) numbers (keep (λ l. not (eqb (l .number) n)) locks)
       agree-drop =
           record {
             standing = keep (stays n) (c .standing);

@@ -28,7 +28,7 @@ use Rattle.call.proofs.Requests.{requests-exactly}
 use Rattle.model.specs.declared.answer.Refusal.{Refusal}
 use Rattle.model.specs.declared.answer.Answer.the-variants.{Accepted}
 use Rattle.model.specs.Lists.{isSome, mapOption, keep, tailOf}
-use Rattle.model.specs.Model.{State, emptyState, Segment, issued, nowhere, segmentAt, isSegment, isLock, homeOf, conditions, update, answer, judged, stepDecoded, step}
+use Rattle.model.specs.Model.{State, emptyState, Segment, issued, blankSegment, segmentAt, isSegment, isLock, homeOf, conditions, update, answer, judged, stepDecoded, step}
 use Rattle.model.specs.Cells.{Cells, Sized, rowAt, tableAt, keyIn, hasKey, stateOf}
 use Rattle.model.specs.History.{Event, Entry, Lock, event, history, counts, acceptedOf}
 use Rattle.model.specs.Replay.{stateAfter, eventsOf}
@@ -50,7 +50,7 @@ module _ (compile : Compiler) (es : List Event) (d : State) (c : Agrees compile 
   segment-as : (s : ℕ) → isSegment d s ≡ isSome (history es .segments s)
   segment-as s =
       same-truth (isSegment d s) (isSome (history es .segments s))
-      (λ t. ap isSome (c .segments s) ∙ ap (λ o. isSome (mapOption entryOf o)) (at-lt (d .segments) s nowhere (ltb-true s (length (d .segments)) t)))
+      (λ t. ap isSome (c .segments s) ∙ ap (λ o. isSome (mapOption entryOf o)) (at-lt (d .segments) s blankSegment (ltb-true s (length (d .segments)) t)))
       (λ t. let (e, h) = isSome-some (history es .segments s) t in
       lt-ltb s (length (d .segments)) (entry-low (d .segments) (history es .segments) (c .segments) s e h))
 

@@ -20,7 +20,7 @@ use Rattle.model.specs.declared.answer.Answer.{Answer}
 use Rattle.model.specs.declared.answer.Answer.the-variants.{Accepted}
 use Rattle.model.specs.Lists.{keep}
 use Rattle.model.specs.Threads.{Frame, Thread}
-use Rattle.model.specs.Model.{State, emptyState, Segment, nowhere, lockProduct, segmentAt, isLock, isOfLock, homeOf, giveKey, takeKey, newest, conditions, update, answer, step}
+use Rattle.model.specs.Model.{State, emptyState, Segment, blankSegment, lockProduct, segmentAt, isLock, isOfLock, homeOf, giveKey, takeKey, newest, conditions, update, answer, step}
 use Rattle.model.specs.History.{History, Lock, event, advance, history, listOf, acceptedOf}
 use Rattle.model.specs.Replay.{reached, stateAfter, eventsOf, answerTo}
 use Rattle.model.specs.StoredLocks.{productsOf, storedOf}
@@ -55,8 +55,8 @@ module _ (compile : Compiler) (holds : Meaning) (law : Laws compile holds) (d : 
       let d′ = step compile d next .state in
       let same : length (d′ .segments) ≡ length (d .segments) = ap length w ∙ length-set (d .segments) b _ in
       keys-agree compile holds law text d′ _ (counted count (event next r)) (step-agrees compile holds law d h count next c) b (omega arith)
-      ∙ ap (λ (gs : List Segment). getD gs b nowhere .keys) w
-      ∙ ap (λ (g : Segment). g .keys) (getD-set-same (d .segments) b (f (segmentAt d b)) nowhere lt)
+      ∙ ap (λ (gs : List Segment). getD gs b blankSegment .keys) w
+      ∙ ap (λ (g : Segment). g .keys) (getD-set-same (d .segments) b (f (segmentAt d b)) blankSegment lt)
 
   given-as : (a b k n : ℕ) → decoded next ≡ WellFormed (GiveKey a b k) → r ≡ Accepted n → n ≡ length (listOf (advance h (event next r)) b)
   unfolding answer conditions update

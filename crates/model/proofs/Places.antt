@@ -12,7 +12,7 @@ use lib.ListN.{length, getD, set, length-set}
 use lib.Seq.{getD-set-same, getD-set-other}
 use borrow.Author.Tests.{eqb-true, eqb-false, eq-eqb, ne-eqb, ltb-false}
 use Rattle.call.proofs.Truth.{neither}
-use Rattle.model.specs.Lists.{any, isSome, indexOf, put, strike, adjust, Map, mapOption}
+use Rattle.model.specs.Lists.{any, isSome, indexOf, put, remove, adjust, Map, mapOption}
 use Rattle.model.specs.Limits.{mostThreads, passes}
 use Rattle.model.specs.Threads.{Thread}
 use Rattle.model.specs.Model.{Place, free, taken, isFree, liveIn, isThread, threadIn, placeFor, placeOf, findThread, onThread}
@@ -166,20 +166,20 @@ module _ (places : List Place) (numbers : ℕ) (threads : Map Thread) (c : Agree
   look n = go (getD places (placeOf n places) free) refl ∙ sym (found-stands n places)
     where
       -- no place passes: then n's own doesn't
-      nowhere : isThread n (getD places (placeOf n places) free) ≡ false → (x : Place) → getD places (c .home n) free ≡ x → standing n x ≡ none
-      nowhere h free e = refl
-      nowhere h (taken k t) e =
+      blankSegment : isThread n (getD places (placeOf n places) free) ≡ false → (x : Place) → getD places (c .home n) free ≡ x → standing n x ≡ none
+      blankSegment h free e = refl
+      blankSegment h (taken k t) e =
           caseBool (eqb n k)
           (λ q. clash (place-passes (isThread n) n places (c .home n) (ap (isThread n) e ∙ q) refl) h)
           (λ q. simp q)
 
       go : (x : Place) → getD places (placeOf n places) free ≡ x → threads n ≡ standing n (getD places (placeOf n places) free)
-      go free e = c .written n ∙ nowhere (ap (isThread n) e) _ refl ∙ sym (ap (standing n) e)
+      go free e = c .written n ∙ blankSegment (ap (isThread n) e) _ refl ∙ sym (ap (standing n) e)
       go (taken k t) e =
           caseBool (eqb n k)
           (λ q. let f : getD places (placeOf n places) free ≡ taken n t = e ∙ ap (λ (m : ℕ). taken m t) (sym (eqb-true n k q)) in
           stands-home n (placeOf n places) t f ∙ sym (ap (standing n) f ∙ simp (eqb-self n)))
-          (λ q. c .written n ∙ nowhere (ap (isThread n) e ∙ q) _ refl ∙ sym (ap (standing n) e ∙ simp q))
+          (λ q. c .written n ∙ blankSegment (ap (isThread n) e ∙ q) _ refl ∙ sym (ap (standing n) e ∙ simp q))
 
   -- a place changed, whose thread n the ghost map tells: the relation is kept where the history changes alike
   module _ (i : ℕ) (x : Place) (low : i < length places) where
@@ -262,13 +262,13 @@ module _ (places : List Place) (numbers : ℕ) (threads : Map Thread) (c : Agree
 
   -- E: it is freed
   pub agree-end : (n i : ℕ) (t : Thread) → i < length places → getD places i free ≡ taken n t
-      → AgreeThreads (set places i free) numbers (strike threads n)
+      → AgreeThreads (set places i free) numbers (remove threads n)
   agree-end n i t low e = record { count = length-set places i _ ∙ c .count; home = c .home; written = written′; here = here′; below = below′ }
     where
       at-home : c .home n ≡ i
       at-home = c .here i n t e
 
-      written′ : (m : ℕ) → strike threads n m ≡ standing m (getD (set places i free) (c .home m) free)
+      written′ : (m : ℕ) → remove threads n m ≡ standing m (getD (set places i free) (c .home m) free)
       written′ m =
           caseBool (eqb m n)
           (λ q. simp q (sym (ap (λ (j : ℕ). standing m (getD (set places i free) j free)) (ap (c .home) (eqb-true m n q) ∙ at-home) ∙ ap (standing m) (same i free low))))

@@ -31,7 +31,7 @@ use Rattle.model.specs.Lists.{keep, each, isSome, indexOf, orDefault}
 use Rattle.model.specs.Limits.{mostThreads, mostSegments, mostDefined, mostStanding, mostFrames, passes}
 use Rattle.model.specs.Operations.{execute, read, write, includes}
 use Rattle.model.specs.Threads.{Thread}
-use Rattle.model.specs.Model.{State, emptyState, Segment, nowhere, Place, free, taken, isFree, liveIn, findThread, nobody, threadAt, placeFor, placeOf, hasLock, isLock, issued, conditions, withPlaces, withSegments, onSegment, onThread, atPlace, pushFrame, popFrame, giveKey, takeKey, addProducts, dropProducts, update, answer, judged, stepDecoded, step}
+use Rattle.model.specs.Model.{State, emptyState, Segment, blankSegment, Place, free, taken, isFree, liveIn, findThread, blankThread, threadAt, placeFor, placeOf, hasLock, isLock, issued, conditions, withPlaces, withSegments, onSegment, onThread, atPlace, pushFrame, popFrame, giveKey, takeKey, addProducts, dropProducts, update, answer, judged, stepDecoded, step}
 use Rattle.model.specs.Cells.{Row, Table, Cells, Tables, Sized, cell, rowAt, tableAt, segmentCount, definedCell, keyIn, hasKey, keysIn, usedRows, productIn, placeIn, depthOf, framesOf, listRow, segmentOf, segmentIn, stateOf, setCell, onTable, countUp, registryIs, makersAre, segmentsAre, locksAre, threadsAre, handOut, startThread, endThread, newSegment, giveCode, takeCode, endRows, addRows, dropRows, pushRow, popRow, atThread, store, judgedCells, stepCellsDecoded, stepCells, zeros, emptyCells}
 use Rattle.model.specs.History.{Event, event}
 use Rattle.model.specs.Replay.{cellsAfter, eventsIn, stateAfter, eventsOf}
@@ -173,8 +173,8 @@ module _ (d : Cells) (c : Sized d) where
   pub length-segments : length segments ≡ count
   length-segments = length-each (segmentIn d) 0 count
 
-  pub segment-is : (s : ℕ) → s < count → getD segments s nowhere ≡ segmentIn d s
-  segment-is s lt = let e : 0 + s ≡ s = omega arith in getD-each (segmentIn d) 0 count s nowhere lt ∙ ap (segmentIn d) e
+  pub segment-is : (s : ℕ) → s < count → getD segments s blankSegment ≡ segmentIn d s
+  segment-is s lt = let e : 0 + s ≡ s = omega arith in getD-each (segmentIn d) 0 count s blankSegment lt ∙ ap (segmentIn d) e
 
   pub handed : (s : ℕ) → not (ltb s (length segments)) ≡ false → s < count
   handed s h = let l = length-segments in let lt = ltb-true s (length segments) (not-false _ h) in omega arith
@@ -187,9 +187,9 @@ module _ (d : Cells) (c : Sized d) where
 
   -- the tables of segment s changed, as the segment is
   segments-set : (d′ : Cells) (s : ℕ) → s < count → (F : Segment → Segment) → ((j : ℕ) → (j ≡ s → ⊥) → segmentIn d′ j ≡ segmentIn d j)
-      → segmentIn d′ s ≡ F (segmentIn d s) → each (segmentIn d′) 0 count ≡ set segments s (F (getD segments s nowhere))
+      → segmentIn d′ s ≡ F (segmentIn d s) → each (segmentIn d′) 0 count ≡ set segments s (F (getD segments s blankSegment))
   segments-set d′ s lt F other same =
-      each-set (segmentIn d′) (segmentIn d) count s nowhere lt other ∙ ap (set segments s) (same ∙ ap F (sym (segment-is s lt)))
+      each-set (segmentIn d′) (segmentIn d) count s blankSegment lt other ∙ ap (set segments s) (same ∙ ap F (sym (segment-is s lt)))
 
   table-other : (ts : List Table) (s : ℕ) (t : Table) (j : ℕ) → (j ≡ s → ⊥) → tableAt (set ts s t) j ≡ tableAt ts j
   table-other ts s t j ne = getD-set-other ts s j t [] ne
@@ -311,12 +311,12 @@ module _ (d : Cells) (c : Sized d) where
         let g = tableAt (d .segments) b in
         let w = listRow b g in
         let full : ℕ = length (threadAt (stateOf d) a .frames) in
-        let thread : full ≡ length (p .thread .frames) = ap (λ (o : Option Thread). length (orDefault nobody (λ t. t) o .frames)) (p .is-found) in
+        let thread : full ≡ length (p .thread .frames) = ap (λ (o : Option Thread). length (orDefault blankThread (λ t. t) o .frames)) (p .is-found) in
         let room : suc full ≤ 16 = within 16 (suc full) (f .1 .1 .1 .1 .1 .0) in
         let deep : depthOf (mine a p) < 16 = let q = mine-depth a p in omega arith in
         let own : cell w 0 ≡ b = getD-set-same (rowAt g 1) 0 b 0 (let q = segment-shaped b lt .cells 1 (omega arith) in omega arith) in
-        let keys : keysIn w ≡ getD segments b nowhere .keys = ap (λ (x : Segment). x .keys) (sym (segment-is b lt)) in
-        let x = thread-stored a p (pushRow w) (onThread (pushFrame b (getD segments b nowhere .keys)))
+        let keys : keysIn w ≡ getD segments b blankSegment .keys = ap (λ (x : Segment). x .keys) (sym (segment-is b lt)) in
+        let x = thread-stored a p (pushRow w) (onThread (pushFrame b (getD segments b blankSegment .keys)))
         (push-place w (mine a p) (s .rows) (s .cells 0 (omega arith)) deep
         ∙ ap₂ (λ (n : ℕ) (ks : List Key). onThread (pushFrame n ks) (placeIn (mine a p))) own keys)
         (shaped-cell 17 _ (shaped-row 17 (mine a p) s (suc (depthOf (mine a p))) w (listed-row b lt)) 0 2 _ (omega arith)) in
@@ -392,9 +392,9 @@ module _ (d : Cells) (c : Sized d) where
         let sh = segment-shaped b lt in
         let made : k < length (take (min (cell (d .registry) 3) 1024) (d .makers)) = ltb-true k _ (not-false _ (f .1 .1 .0)) in
         let few : k < 1024 = let l = length-take (min (cell (d .registry) 3) 1024) (d .makers) in omega arith in
-        let keys : length (getD segments b nowhere .keys) ≡ length (keep hasKey (listRow b g)) =
+        let keys : length (getD segments b blankSegment .keys) ≡ length (keep hasKey (listRow b g)) =
         ap (λ (x : Segment). length (x .keys)) (segment-is b lt) ∙ length-map (keep hasKey (listRow b g)) keyIn in
-        let room : suc (length (getD segments b nowhere .keys)) ≤ 8 = within 8 _ (f .1 .1 .1 .1 .1 .0) in
+        let room : suc (length (getD segments b blankSegment .keys)) ≤ 8 = within 8 _ (f .1 .1 .1 .1 .1 .0) in
         let x = list-stored b lt (giveCode b (definedCell k)) (giveKey k) (give-table b k g (tableAt (d .locks) b) (omega arith) few (sh .rows) (sh .cells 1 (omega arith)))
         (relisted b lt _ (give-sizes b k g (sh .cells 1 (omega arith)) (omega arith))) in
         record { state = x .0; sized = x .1 }
@@ -413,7 +413,7 @@ module _ (d : Cells) (c : Sized d) where
     -- a change of one segment's product rows
     rows-set : (s : ℕ) → s < count → (r : Row) (f : Table → Table) (F : Segment → Segment)
         → segmentOf s (tableAt (d .segments) s) (f (tableAt (d .locks) s)) ≡ F (segmentIn d s)
-        → each (segmentIn (registryIs r (locksAre (onTable (d .locks) s f) d))) 0 count ≡ set segments s (F (getD segments s nowhere))
+        → each (segmentIn (registryIs r (locksAre (onTable (d .locks) s f) d))) 0 count ≡ set segments s (F (getD segments s blankSegment))
     rows-set s lt r f F h =
         segments-set (registryIs r (locksAre (onTable (d .locks) s f) d)) s lt F
         (λ j ne. ap (segmentOf j (tableAt (d .segments) j)) (table-other (d .locks) s _ j ne))
@@ -456,9 +456,9 @@ module _ (d : Cells) (c : Sized d) where
         let set-fits = not-false _ (f .1 .1 .1 .0) in
         let few : o < 16 = ltb-true o 16 (and-left (ltb o 16) _ set-fits) in
         let some : 0 < o = operations-some o (and-left _ _ (and-right (ltb o 16) _ set-fits)) in
-        let had : length (getD segments b nowhere .products) ≡ length (segmentOf b g t .products) = ap (λ (y : Segment). length (y .products)) (segment-is b lt) in
-        let fits : length (getD segments b nowhere .products) + length ps ≤ 8 =
-        within 8 _ (neither (passes 8 (length (getD segments b nowhere .products) + length ps)) _ (f .1 .1 .1 .1 .1 .1 .1 .0) .0) in
+        let had : length (getD segments b blankSegment .products) ≡ length (segmentOf b g t .products) = ap (λ (y : Segment). length (y .products)) (segment-is b lt) in
+        let fits : length (getD segments b blankSegment .products) + length ps ≤ 8 =
+        within 8 _ (neither (passes 8 (length (getD segments b blankSegment .products) + length ps)) _ (f .1 .1 .1 .1 .1 .1 .1 .0) .0) in
         let rows : length (usedRows t) ≡ length (segmentOf b g t .products) = sym (length-map (usedRows t) productIn) in
         let makers : length (take (min (cell r 3) 1024) (d .makers)) ≤ 1024 = let l = length-take (min (cell r 3) 1024) (d .makers) in omega arith in
         let handed-out : length segments ≤ 64 = let l = length-segments in omega arith in

@@ -8,7 +8,7 @@ use native.Mathlib.Nat.{le-of-suc-le-suc, not-suc-le-zero}
 use lib.Dec.{eqb, eqb·suc-suc, eqb·suc-zero, eqb·zero-suc}
 use lib.ListN.{length, getD, set, getElem?}
 use Rattle.model.specs.Lists.{put, adjust, Map, mapOption}
-use Rattle.model.specs.Model.{Segment, LockProduct, nowhere}
+use Rattle.model.specs.Model.{Segment, LockProduct, blankSegment}
 use Rattle.model.specs.History.{Entry}
 use Rattle.model.proofs.Lists.{caseBool, at-append-one, at-set, at-lt, at-some-lt, some-inj, some≢none}
 
@@ -27,8 +27,8 @@ module _ (segments : List Segment) (entries : Map Entry) (c : AgreeSegments segm
       by none q = absurd (some≢none (sym h ∙ c s ∙ ap (mapOption entryOf) q))
       by (some g) q = at-some-lt segments s g q
 
-  pub entry-is : (s : ℕ) (e : Entry) → entries s ≡ some e → entryOf (getD segments s nowhere) ≡ e
-  entry-is s e h = some-inj (sym (ap (mapOption entryOf) (at-lt segments s nowhere (entry-low s e h))) ∙ sym (c s) ∙ h)
+  pub entry-is : (s : ℕ) (e : Entry) → entries s ≡ some e → entryOf (getD segments s blankSegment) ≡ e
+  entry-is s e h = some-inj (sym (ap (mapOption entryOf) (at-lt segments s blankSegment (entry-low s e h))) ∙ sym (c s) ∙ h)
 
   -- N
   pub agree-new : (g : Segment) → AgreeSegments (segments ++ g ∷ []) (put entries (length segments) (entryOf g))
@@ -36,14 +36,14 @@ module _ (segments : List Segment) (entries : Map Entry) (c : AgreeSegments segm
 
   module _ (s : ℕ) (f : Segment → Segment) where
     abbrev changed : List Segment
-    changed = set segments s (f (getD segments s nowhere))
+    changed = set segments s (f (getD segments s blankSegment))
 
     -- a change of segment s that the history follows
     pub agree-adjust : (F : Entry → Entry) → ((g : Segment) → entryOf (f g) ≡ F (entryOf g)) → AgreeSegments changed (adjust entries s F)
     agree-adjust F h j =
         caseBool (eqb j s)
-        (λ t. simp (at-set segments s f nowhere j, t, c j) (square (getElem? segments j)))
-        (λ t. simp (at-set segments s f nowhere j, t) (c j))
+        (λ t. simp (at-set segments s f blankSegment j, t, c j) (square (getElem? segments j)))
+        (λ t. simp (at-set segments s f blankSegment j, t) (c j))
       where
         square : (o : Option Segment) → mapOption F (mapOption entryOf o) ≡ mapOption entryOf (mapOption f o)
         square none = refl
@@ -53,8 +53,8 @@ module _ (segments : List Segment) (entries : Map Entry) (c : AgreeSegments segm
     pub agree-unseen : ((g : Segment) → entryOf (f g) ≡ entryOf g) → AgreeSegments changed entries
     agree-unseen h j =
         caseBool (eqb j s)
-        (λ t. simp (at-set segments s f nowhere j, t) (c j ∙ unseen (getElem? segments j)))
-        (λ t. simp (at-set segments s f nowhere j, t) (c j))
+        (λ t. simp (at-set segments s f blankSegment j, t) (c j ∙ unseen (getElem? segments j)))
+        (λ t. simp (at-set segments s f blankSegment j, t) (c j))
       where
         unseen : (o : Option Segment) → mapOption entryOf o ≡ mapOption entryOf (mapOption f o)
         unseen none = refl
@@ -63,7 +63,7 @@ module _ (segments : List Segment) (entries : Map Entry) (c : AgreeSegments segm
 -- ---- the products of a segment's standing locks
 
 abbrev pub productsAt : List Segment → ℕ → List LockProduct
-productsAt segments s = getD segments s nowhere .products
+productsAt segments s = getD segments s blankSegment .products
 
 pub products-append-one : (segments : List Segment) (g : Segment) → g .products ≡ [] → (s : ℕ) → productsAt (segments ++ g ∷ []) s ≡ productsAt segments s
 products-append-one [] g e zero = e
@@ -82,7 +82,7 @@ products-set (x ∷ xs) (suc i) g h (suc s) = simp eqb·suc-suc (products-set xs
 
 -- a change that leaves the products alone
 pub products-same : (segments : List Segment) (i : ℕ) (f : Segment → Segment) → ((g : Segment) → f g .products ≡ g .products)
-    → (s : ℕ) → productsAt (set segments i (f (getD segments i nowhere))) s ≡ productsAt segments s
+    → (s : ℕ) → productsAt (set segments i (f (getD segments i blankSegment))) s ≡ productsAt segments s
 products-same [] i f h s = refl
 products-same (x ∷ xs) zero f h zero = h x
 products-same (x ∷ xs) zero f h (suc s) = refl

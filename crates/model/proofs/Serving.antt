@@ -15,7 +15,7 @@ use Rattle.model.specs.declared.answer.Refusal.{Refusal}
 use Rattle.model.specs.declared.answer.Answer.{Answer}
 use Rattle.model.specs.declared.answer.Answer.the-variants.{Accepted, Refused}
 use Rattle.model.specs.Limits.{mostSegments, mostDefined}
-use Rattle.model.specs.Model.{conditions, answer, nowhere, segmentAt, isSegment}
+use Rattle.model.specs.Model.{conditions, answer, blankSegment, segmentAt, isSegment}
 use Rattle.model.specs.Cells.{Cells, cell, segmentCount, segmentIn, stateOf, store, judgedCells}
 use Rattle.model.specs.Serving.{Gives, Serves}
 use Rattle.model.proofs.Lists.{length-each, getD-each}
@@ -44,4 +44,4 @@ is-segment d s = ap (ltb s) (length-each (segmentIn d) 0 (segmentsIn d))
 
 pub segment-at : (d : Cells) (s : ℕ) → s < segmentsIn d → segmentAt (stateOf d) s ≡ segmentIn d s
 unfolding stateOf
-segment-at d s h = getD-each (segmentIn d) 0 (segmentsIn d) s nowhere h ∙ ap (segmentIn d) (omega arith)
+segment-at d s h = getD-each (segmentIn d) 0 (segmentsIn d) s blankSegment h ∙ ap (segmentIn d) (omega arith)

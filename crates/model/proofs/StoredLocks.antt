@@ -13,7 +13,7 @@ use Rattle.formula.specs.Compiler.{Compiler, Meaning, Laws, everything}
 use Rattle.formula.proofs.Opening.{laws, opening-law, holds-spelt}
 use Rattle.model.specs.Lists.{any, keep, concatMap, total}
 use Rattle.model.specs.Threads.{KeySet}
-use Rattle.model.specs.Model.{State, emptyState, Segment, LockProduct, lockProduct, segmentAt, nowhere, isOfLock}
+use Rattle.model.specs.Model.{State, emptyState, Segment, LockProduct, lockProduct, segmentAt, blankSegment, isOfLock}
 use Rattle.model.specs.History.{Event, Lock, history, acceptedOf}
 use Rattle.model.specs.Replay.{stateAfter, eventsOf}
 use Rattle.model.specs.StoredLocks.{locksOn, productsOf, storedOf, standingProducts, storedFor, storedOpens, Stores, StoredLocksByLaws, StoredFormula, StoredLocks}
@@ -43,7 +43,7 @@ module _ (compile : Compiler) (meaning : Meaning) (law : Laws compile meaning) (
     lock-as : storedFor d (l .number) ≡ storedOf compile l
     lock-as =
         keep-each (isOfLock (l .number)) (λ (g : Segment). g .products) (d .segments)
-        ∙ concatMap-at (λ (g : Segment). keep (isOfLock (l .number)) (g .products)) nowhere (storedOf compile l) refl (d .segments) (l .segment)
+        ∙ concatMap-at (λ (g : Segment). keep (isOfLock (l .number)) (g .products)) blankSegment (storedOf compile l) refl (d .segments) (l .segment)
         (lock-stores compile meaning law (d .segments) (d .lockNumbers) (history es .locks) (c .locks) l m)
 
     opens-as : (keys : KeySet) → storedOpens d (l .number) keys ≡ meaning keys (l .text)

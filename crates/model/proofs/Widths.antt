@@ -41,7 +41,7 @@ use Rattle.model.specs.Lists.{keep, first, orDefault}
 use Rattle.model.specs.Limits.{mostUsers, mostThreads, mostSegments, mostDefined, mostListed, mostStanding, mostFrames, mostNumbers, passes}
 use Rattle.model.specs.Operations.{denies, grants, execute}
 use Rattle.model.specs.Threads.{Thread, sameKey, keySet}
-use Rattle.model.specs.Model.{LockProduct, Segment, nowhere, segmentAt, Place, free, isFree, liveIn, threadIn, nobody, placeFor, placeOf, threadAt, isOfLock, hasLock, isLock, homeOf, issued, opensFor, opening, lockOf, conditions, newest, answer}
+use Rattle.model.specs.Model.{LockProduct, Segment, blankSegment, segmentAt, Place, free, isFree, liveIn, threadIn, blankThread, placeFor, placeOf, threadAt, isOfLock, hasLock, isLock, homeOf, issued, opensFor, opening, lockOf, conditions, newest, answer}
 use Rattle.model.specs.Cells.{Row, Table, Cells, Sized, cell, rowAt, tableAt, userCount, threadCount, segmentCount, definedCount, lockCount, frameCount, liveCell, noKey, definedCell, keyIn, hasKey, keyRow, literalCell, isUsed, usedRows, framesOf, depthOf, placeIn, productIn, listRow, segmentOf, stateOf, setCell, onTable, registryIs, makersAre, segmentsAre, locksAre, threadsAre, handOut, startThread, endThread, newSegment, giveCode, takeCode, endRows, storeRows, productRow, addRows, dropRows, pushRow, popRow, atThread, store, judgedCells, stepCellsDecoded, stepCells, zeros, emptyCells}
 use Rattle.model.specs.Replay.{cellsAfter}
 use Rattle.model.specs.Widths.{word, doubleWord, Fitting, Fields, AllFields, Contained, WidthsByLaws, Widths}
@@ -212,7 +212,7 @@ newest-low t h zero = omega arith
 newest-low t h (suc n) = h (suc n) 0
 
 abbrev PlaceFits : Place → Type 0
-PlaceFits p = ThreadFits (orDefault nobody (λ r. r) (threadIn p))
+PlaceFits p = ThreadFits (orDefault blankThread (λ r. r) (threadIn p))
 
 place-fits : (t : Table) → LowRows word t → PlaceFits (placeIn t)
 place-fits t h =
@@ -272,7 +272,7 @@ module _ (compile : Compiler) (d : Cells) (c : Sized d) (k : Fitting d) (text : 
       low =
           caseBool (ltb b (length (stateOf d .segments)))
           (λ e. segment-fits b (handed-out b e) .locks)
-          (λ e. let none-there : segmentAt (stateOf d) b ≡ nowhere = List·getD-eq-default (stateOf d .segments) nowhere (ltb-false b (length (stateOf d .segments)) e) in
+          (λ e. let none-there : segmentAt (stateOf d) b ≡ blankSegment = List·getD-eq-default (stateOf d .segments) blankSegment (ltb-false b (length (stateOf d .segments)) e) in
           subst (λ (g : Segment). All (λ r. r .lock < word) (g .products)) (sym none-there) tt)
 
   -- a change of a table, or of a count

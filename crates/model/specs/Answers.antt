@@ -32,6 +32,15 @@ refusalNumber r = numbersOf r .0
 abbrev pub secondNumber : Refusal → ℕ
 secondNumber r = numbersOf r .1
 
+-- of an answer: the number of the refusal, 0 where the call is accepted, and the value, the answer or the second number
+abbrev pub answerNumber : Answer → ℕ
+answerNumber (Accepted n) = 0
+answerNumber (Refused r) = refusalNumber r
+
+abbrev pub answerValue : Answer → ℕ
+answerValue (Accepted n) = n
+answerValue (Refused r) = secondNumber r
+
 abbrev pub isAccepted : Answer → Bool
 isAccepted (Accepted n) = true
 isAccepted (Refused r) = false

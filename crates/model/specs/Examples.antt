@@ -13,18 +13,17 @@ use Rattle.formula.specs.Examples.{bytes, Examples as FormulaExamples}
 use Rattle.journal.specs.declared.file.Verdict.the-variants.{Readable}
 use Rattle.journal.specs.Reading.{verdictOf, recordsOf}
 use Rattle.journal.specs.Examples.{emptyFile}
-use Rattle.model.specs.declared.answer.Refusal.the-variants.{UnknownUser, NoThread, Full, Malformed, Unsatisfiable, Denied, NotGranted}
 use Rattle.model.specs.Lists.{mapOption}
 use Rattle.model.specs.Threads.{keySet}
 use Rattle.model.specs.Model.{LockProduct, lockProduct, segmentAt, threadAt}
 use Rattle.model.specs.Cells.{stateOf}
-use Rattle.model.specs.History.{Event, History}
+use Rattle.model.specs.History.{History}
 use Rattle.model.specs.Granting.{calls, accesses, Fits}
 use Rattle.model.specs.Replay.{reached, historyOf}
-use Rattle.model.specs.Letters.{U, S, E, N, K, G, T, L, D, C, R, A, ok, bad, callsOf, Happens}
+use Rattle.model.specs.Letters.{Expected, U, S, E, N, K, G, T, L, D, C, R, A, ok, no, callsOf, Happens}
 
 -- * the sixteen records: the totals, segment 2, may be saved only by way of segments 0 and 1
-abbrev pub route : List Event
+abbrev pub route : List Expected
 route =
     ok U 0
     ∷ ok (N 0 0) 0
@@ -39,30 +38,30 @@ route =
     ∷ ok (C 0 1) 1
     ∷ ok (C 1 1) 1
     ∷ ok (A 0 2 4) 2
-    ∷ bad (A 1 2 4) NotGranted
+    ∷ no (A 1 2 4) 15 0
     ∷ ok (R 0) 1
-    ∷ bad (A 0 2 4) NotGranted
+    ∷ no (A 0 2 4) 15 0
     ∷ []
 
 -- * 'Empty desk: S 0 gives 1; R 0 gives 2.'
-abbrev pub nobodyYet : List Event
-nobodyYet = bad (S 0) UnknownUser ∷ bad (R 0) NoThread ∷ []
+abbrev pub emptyDesk : List Expected
+emptyDesk = no (S 0) 1 0 ∷ no (R 0) 2 0 ∷ []
 
 -- * the texts as locks; D answers how many products each has
-abbrev pub texts : List Event
+abbrev pub texts : List Expected
 texts =
     ok U 0
     ∷ ok (N 0 0) 0
     ∷ ok (K 0) 0
     ∷ ok (K 0) 1
-    ∷ bad (L 0 0 1 (bytes "D0&!D0")) Unsatisfiable
+    ∷ no (L 0 0 1 (bytes "D0&!D0")) 13 0
     ∷ ok (L 0 0 1 (bytes "(D0&!D0)|D1")) 0
     ∷ ok (D 0 0) 1
     ∷ ok (L 0 0 1 (bytes "D0|D0&D1")) 1
     ∷ ok (D 0 1) 2
     ∷ ok (L 0 0 1 (bytes "!(D0|D1)")) 2
     ∷ ok (D 0 2) 1
-    ∷ bad (L 0 0 1 (bytes "D01")) Malformed
+    ∷ no (L 0 0 1 (bytes "D01")) 11 0
     ∷ ok (K 0) 2
     ∷ ok (K 0) 3
     ∷ ok (L 0 0 1 (bytes "(D0|D1)&(D2|D3)")) 3
@@ -70,7 +69,7 @@ texts =
     ∷ []
 
 -- * 'Call one segment twice, return once: its S key is held', and a sheet that asks for it can be read
-abbrev pub twice : List Event
+abbrev pub twice : List Expected
 twice =
     ok U 0
     ∷ ok (N 0 0) 0
@@ -83,11 +82,11 @@ twice =
     ∷ ok (R 0) 0
     ∷ ok (A 0 1 2) 1
     ∷ ok (R 0) 0
-    ∷ bad (A 0 1 2) NotGranted
+    ∷ no (A 0 1 2) 15 0
     ∷ []
 
 -- the key of the older open call stays when the newer one returns
-abbrev pub back : List Event
+abbrev pub back : List Expected
 back =
     ok U 0
     ∷ ok (N 0 0) 0
@@ -103,29 +102,29 @@ back =
     ∷ ok (R 0) 1
     ∷ ok (A 0 2 2) 2
     ∷ ok (R 0) 0
-    ∷ bad (A 0 2 2) NotGranted
+    ∷ no (A 0 2 2) 15 0
     ∷ []
 
 -- 'The 16th open call is accepted; a 17th that a grant lock and no deny lock opens is 10, one without a lock 15.' Returned from, the place is used
 -- again; and all sixteen are closed at the end.
-abbrev pub deep : List Event
+abbrev pub deep : List Expected
 deep =
     ok U 0
     ∷ ok (N 0 0) 0
     ∷ ok (L 0 0 1 (bytes "U0")) 0
     ∷ ok (S 0) 0
     ∷ replicate 16 (ok (C 0 0) 0)
-    ++ bad (C 0 0) Full
+    ++ no (C 0 0) 10 0
     ∷ ok (R 0) 0
     ∷ ok (C 0 0) 0
     ∷ ok (D 0 0) 1
-    ∷ bad (C 0 0) NotGranted
+    ∷ no (C 0 0) 15 0
     ∷ ok (E 0) 16
     ∷ []
 
 -- A key is given, and taken while a call that handed it over is open. The open call keeps it, so a deny lock on it still opens, until that is
 -- dropped. Then the grant lock is dropped, and then the thread ended.
-abbrev pub edits : List Event
+abbrev pub edits : List Expected
 edits =
     ok U 0
     ∷ ok (N 0 0) 0
@@ -136,16 +135,16 @@ edits =
     ∷ ok (C 0 0) 0
     ∷ ok (T 0 0 0) 1
     ∷ ok (L 0 0 9 (bytes "D0")) 1
-    ∷ bad (C 0 0) (Denied 1)
+    ∷ no (C 0 0) 14 1
     ∷ ok (D 0 1) 1
     ∷ ok (C 0 0) 0
     ∷ ok (D 0 0) 1
-    ∷ bad (C 0 0) NotGranted
+    ∷ no (C 0 0) 15 0
     ∷ ok (E 0) 2
     ∷ []
 
 -- what is stored of two locks on segment 0 with one dropped between them, and of one on segment 1; no thread ever has the keys U0 and U1 both
-abbrev pub standing : List Event
+abbrev pub standing : List Expected
 standing =
     ok U 0
     ∷ ok U 1
@@ -168,7 +167,7 @@ before n = historyOf outcomeOf (callsOf (take n route))
 
 pub record Examples : Type 0 where
   pub routeHappens : Happens route
-  pub nobodyHappens : Happens nobodyYet
+  pub emptyDeskHappens : Happens emptyDesk
   -- * 'File 4B 4C 44 01 00 00 00 (hexadecimal) prints nothing.'
   pub emptyReadable : verdictOf emptyFile ≡ Readable
   pub emptyRecords : recordsOf emptyFile ≡ []

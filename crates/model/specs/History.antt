@@ -15,7 +15,7 @@ use Rattle.call.specs.Calls.{Call, decoded}
 use Rattle.model.specs.declared.answer.Answer.{Answer}
 use Rattle.model.specs.declared.answer.Answer.the-variants.{Accepted, Refused}
 use Rattle.model.specs.Answers.{isAccepted}
-use Rattle.model.specs.Lists.{Map, put, strike, adjust, keep, orDefault, tailOf}
+use Rattle.model.specs.Lists.{Map, put, remove, adjust, keep, orDefault, tailOf}
 use Rattle.model.specs.Threads.{Frame, Thread, sameKey}
 
 -- a segment handed out
@@ -67,7 +67,7 @@ note h (NewKey a) text n = h
 note h (Access a b c) text n = h
 -- 'S writes the answered run as live, with user a and no open calls. E strikes run a and its open calls.'
 note h (StartThread a) text n = withThreads h (put (h .threads) n (record { user = a; frames = [] }))
-note h (EndThread a) text n = withThreads h (strike (h .threads) a)
+note h (EndThread a) text n = withThreads h (remove (h .threads) a)
 -- 'N writes the answered segment as handed out, with owner a, kind b and a list of its own S key.'
 note h (NewSegment a b) text n = withEntries h (put (h .segments) n (record { owner = a; kind = b; keys = SegmentKey n ∷ [] }))
 -- 'G adds D key c to segment b's list. T strikes it there.'

@@ -1,12 +1,11 @@
--- Document 01's letters, for worked examples: each is the call with its fields. And events, a call with its answer. Assumes nothing.
+-- Document 01's letters, for worked examples: each is the call with its fields. And the answers that they are to get. Assumes nothing.
 use mathlib.Core.Path.{_≡_}
 use mathlib.Core.List.{List, [], map}
 use Prim.Native.Nat.{ℕ}
 use Rattle.formula.specs.Outcome.{outcomeOf}
 use Rattle.call.specs.Calls.{Call, callWith}
-use Rattle.model.specs.declared.answer.Refusal.{Refusal}
-use Rattle.model.specs.declared.answer.Answer.the-variants.{Accepted, Refused}
-use Rattle.model.specs.History.{Event, event}
+use Rattle.model.specs.Answers.{answerNumber, answerValue}
+use Rattle.model.specs.History.{Event}
 use Rattle.model.specs.Replay.{events}
 
 abbrev pub U : Call
@@ -45,16 +44,26 @@ R a = callWith 82 a 0 0 []
 abbrev pub A : ℕ → ℕ → ℕ → Call
 A a b c = callWith 65 a b c []
 
--- the call is accepted with that answer, or refused
-abbrev pub ok : Call → ℕ → Event
-ok x n = event x (Accepted n)
+-- a call and the answer that it is to get: document 01's number of the refusal, 0 where it is accepted, and the answer or the second number
+pub record Expected : Type 0 where
+  pub call : Call
+  pub number : ℕ
+  pub value : ℕ
 
-abbrev pub bad : Call → Refusal → Event
-bad x r = event x (Refused r)
+-- the call is accepted with that answer, or refused with those two numbers
+abbrev pub ok : Call → ℕ → Expected
+ok x n = record { call = x; number = 0; value = n }
 
-abbrev pub callsOf : List Event → List Call
+abbrev pub no : Call → ℕ → ℕ → Expected
+no x number value = record { call = x; number = number; value = value }
+
+abbrev pub callsOf : List Expected → List Call
 callsOf es = map (λ e. e .call) es
 
+-- what a call got
+abbrev pub got : Event → Expected
+got e = record { call = e .call; number = answerNumber (e .answer); value = answerValue (e .answer) }
+
 -- these calls, one after the other from the empty state, get these answers
-abbrev pub Happens : List Event → Type 0
-Happens es = events outcomeOf (callsOf es) ≡ es
+abbrev pub Happens : List Expected → Type 0
+Happens es = map got (events outcomeOf (callsOf es)) ≡ es

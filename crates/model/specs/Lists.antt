@@ -79,8 +79,8 @@ module _ {ℓ} {A : Type ℓ} where
   abbrev pub put : Map A → ℕ → A → Map A
   put f n x = λ m. cond (eqb m n) (some x) (f m)
 
-  abbrev pub strike : Map A → ℕ → Map A
-  strike f n = λ m. cond (eqb m n) none (f m)
+  abbrev pub remove : Map A → ℕ → Map A
+  remove f n = λ m. cond (eqb m n) none (f m)
 
   abbrev pub adjust : Map A → ℕ → (A → A) → Map A
   adjust f n g = λ m. cond (eqb m n) (mapOption g (f m)) (f m)

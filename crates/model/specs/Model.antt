@@ -74,11 +74,11 @@ isSegment d s = ltb s (length (d .segments))
 abbrev pub isKey : State → ℕ → Bool
 isKey d k = ltb k (length (d .makers))
 
-abbrev pub nowhere : Segment
-nowhere = record { owner = 0; kind = 0; keys = []; products = [] }
+abbrev pub blankSegment : Segment
+blankSegment = record { owner = 0; kind = 0; keys = []; products = [] }
 
 abbrev pub segmentAt : State → ℕ → Segment
-segmentAt d s = getD (d .segments) s nowhere
+segmentAt d s = getD (d .segments) s blankSegment
 
 abbrev pub owns : State → ℕ → ℕ → Bool
 owns d u s = eqb (segmentAt d s .owner) u
@@ -119,11 +119,11 @@ findThread n places = threadIn (getD places (placeOf n places) free)
 abbrev pub isLive : State → ℕ → Bool
 isLive d n = isSome (findThread n (d .places))
 
-abbrev pub nobody : Thread
-nobody = record { user = 0; frames = [] }
+abbrev pub blankThread : Thread
+blankThread = record { user = 0; frames = [] }
 
 abbrev pub threadAt : State → ℕ → Thread
-threadAt d n = orDefault nobody (λ t. t) (findThread n (d .places))
+threadAt d n = orDefault blankThread (λ t. t) (findThread n (d .places))
 
 -- a product of lock n
 abbrev pub isOfLock : ℕ → LockProduct → Bool

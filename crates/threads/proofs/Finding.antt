@@ -9,7 +9,7 @@ use lib.ListN.{length, getD, length-map}
 use borrow.Author.Tests.{eqb-true}
 use Rattle.model.specs.Lists.{isSome, indexOf, orDefault}
 use Rattle.model.specs.Limits.{mostThreads}
-use Rattle.model.specs.Model.{Place, free, taken, isThread, placeFor, placeOf, threadIn, isLive, nobody, threadAt}
+use Rattle.model.specs.Model.{Place, free, taken, isThread, placeFor, placeOf, threadIn, isLive, blankThread, threadAt}
 use Rattle.model.specs.Cells.{Table, Cells, cell, rowAt, tableAt, numberCell, userCell, liveCell, framesOf, depthOf, placeIn, stateOf}
 use Rattle.model.proofs.Lists.{caseBool, clash}
 use Rattle.model.proofs.ThreadTables.{length-frames}
@@ -68,8 +68,8 @@ module _ (d : Cells) (n i : ℕ) (size : length (d .threads) ≡ mostThreads) (i
       let found = at-place ∙ is-taken in
       record {
         live = ap (λ (x : Place). isSome (threadIn x)) found;
-        thread = ap (λ (x : Place). orDefault nobody (λ t. t) (threadIn x)) found;
-        depth = ap (λ (x : Place). length (orDefault nobody (λ t. t) (threadIn x) .frames)) found ∙ length-frames (tableAt (d .threads) i) (depthOf (tableAt (d .threads) i));
+        thread = ap (λ (x : Place). orDefault blankThread (λ t. t) (threadIn x)) found;
+        depth = ap (λ (x : Place). length (orDefault blankThread (λ t. t) (threadIn x) .frames)) found ∙ length-frames (tableAt (d .threads) i) (depthOf (tableAt (d .threads) i));
         number = number;
       }
 

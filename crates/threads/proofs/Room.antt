@@ -7,7 +7,7 @@ use native.Mathlib.Omega.{arith}
 use lib.ListN.{length, getD, set, length-map, length-set}
 use borrow.Author.Tests.{le-ltb}
 use Rattle.model.specs.Limits.{mostThreads, passes}
-use Rattle.model.specs.Model.{Place, free, taken, isFree, liveIn, placeFor, nobody}
+use Rattle.model.specs.Model.{Place, free, taken, isFree, liveIn, placeFor, blankThread}
 use Rattle.model.specs.Cells.{Table, placeIn}
 use Rattle.model.proofs.Lists.{caseBool, clash, length-keep}
 use Rattle.model.proofs.Places.{spare, one, live-change}
@@ -17,11 +17,11 @@ use Rattle.threads.proofs.Finding.{place-hits}
 -- take the free place, and no more threads live than there are places
 free-live : (places : List Place) (i : ℕ) → i < length places → isFree (getD places i free) ≡ true → liveIn places < length places
 free-live places i low open-place =
-    let full : List Place = set places i (taken 0 nobody) in
-    let more = live-change places i (taken 0 nobody) low in
+    let full : List Place = set places i (taken 0 blankThread) in
+    let more = live-change places i (taken 0 blankThread) low in
     let none = counts-none (getD places i free) open-place in
     let most : liveIn full ≤ length full = length-keep (λ p. not (isFree p)) full in
-    let same : length full ≡ length places = length-set places i (taken 0 nobody) in
+    let same : length full ≡ length places = length-set places i (taken 0 blankThread) in
     omega arith
   where
     counts-none : (x : Place) → isFree x ≡ true → one x ≡ 0
