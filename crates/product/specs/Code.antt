@@ -1,5 +1,5 @@
--- A literal as one number: twice the key's number, and 1 where it is barred. A key's number is 65,536 for each kind before its own, and
--- its own number. So literals compare as their numbers do. Assumes nothing.
+-- The number that a cell of a row holds of a literal: twice the key's, and 1 more where it is barred. The key's is 65,536 for each kind before
+-- its own, and its own number. Literals are compared, joined and asked as literals; a row alone has numbers. Assumes nothing.
 use mathlib.Core.Path.{_≡_}
 use mathlib.Core.Bool.{cond}
 use Prim.Native.Nat.{ℕ, _+_, _*_, _-_, _/_, _%_, _<_}
@@ -13,6 +13,10 @@ use Rattle.product.specs.Atom.{kindOf, numberOf, atomOf, signOf}
 -- document 01: a 16-bit number
 abbrev pub numberLimit : ℕ
 numberLimit = 65536
+
+-- how many keys there are, of four kinds
+abbrev pub keyLimit : ℕ
+keyLimit = 262144
 
 unfoldable pub keyCode : Key → ℕ
 keyCode k = numberLimit * kindOf k + numberOf k

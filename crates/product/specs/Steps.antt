@@ -9,7 +9,7 @@ use Rattle.product.specs.declared.literal.Key.{Key}
 use Rattle.product.specs.declared.literal.Literal.{Literal}
 use Rattle.product.specs.Product.{Product, insert, contradictory}
 use Rattle.product.specs.Sum.{Sum, Sum?, cap, present}
-use Rattle.product.specs.Code.{keyCode, keyAt, literalOf, codeLimit}
+use Rattle.product.specs.Code.{keyCode, keyAt, keyLimit, literalOf, codeLimit}
 use Rattle.product.specs.Cells.{sizeOf, productOf, productsOf, sumOf, rowOf, rowsOf}
 
 -- a count that is clamped, of a row of 8 cells
@@ -22,7 +22,7 @@ pub record Size (row : List ℕ) (n : ℕ) : Type 0 where
 pub record EncodedKey (k : Key) (c : ℕ) : Type 0 where
   pub code : c ≡ keyCode k
   pub back : keyAt c ≡ k
-  pub small : c < 262144
+  pub small : c < keyLimit
 
 -- the product that the first n of sixteen cells hold
 abbrev pub wideOf : ℕ → List ℕ → Product

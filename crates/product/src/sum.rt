@@ -5,7 +5,7 @@ ghost use mathlib.Core.Option.{some};
 ghost use Prim.Native.Nat.{_≤_};
 ghost use lib.ListN.{length};
 ghost use Rattle.product.specs.Sum.{conjoin, disjoin, joined, present, joinEach, joinAll};
-ghost use Rattle.product.specs.Cells.{productOf, productsOf, sumOf, rowOf, Written};
+ghost use Rattle.product.specs.Cells.{productOf, productsOf, sumOf, Written};
 ghost use Rattle.product.specs.Steps.{Blank, Clean, Filled, wideOf, addTo, addEach};
 use crate::literal::Literal;
 use crate::literal::encode;
@@ -30,8 +30,8 @@ pub fn single(l: Literal, rows: &mut Rows) -> usize
     ensures { λ r. ⌜ Written (some ((l ∷ []) ∷ [])) (now (rows .exit)) r ⌝ }
 {
     *rows = [[0u32; 8]; 8];
-    let code = encode(l);
-    rows[0] = [code, 0, 0, 0, 0, 0, 0, 1];
+    let cell = encode(l);
+    rows[0] = [cell, 0, 0, 0, 0, 0, 0, 1];
     1
 }
 
@@ -137,9 +137,9 @@ fn add(rows: &mut Rows, n: usize, cells: &Wide, size: usize) -> usize
     n + 1
 }
 
-// The product is among the first n rows.
-fn present(rows: &Rows, n: usize, row: &Cells) -> bool
-    requires { ⌜ (n ≤ 8) × (Clean (now rows) n) × (now row ≡ rowOf (productOf (now row))) ⌝ }
+// The row's product is among those of the first n rows.
+fn present(rows: &[Cells], n: usize, row: &Cells) -> bool
+    requires { ⌜ n ≤ length (now rows) ⌝ }
     ensures { λ r. ⌜ r ≡ present (productOf (now (row .entry))) (productsOf n (now (rows .entry))) ⌝ }
 {
     let mut i = 0;
