@@ -1,4 +1,4 @@
-// Formula texts for C: the answer is a number, and the products go into rows that the caller lends.
+// Formula texts (document 01: lock texts) for C: the answer is a number, and the products go into rows that the caller lends.
 ghost use mathlib.Core.Path.{_≡_};
 ghost use Rattle.formula.specs.Outcome.{outcomeOf};
 ghost use Rattle.abi.specs.Answers.{issuedWith, numberIn, rowsIn};

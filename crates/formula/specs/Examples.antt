@@ -1,6 +1,6 @@
--- Worked examples: document 01's texts under 'Trial desks', those that just fit and those that just do not, and texts that show each rule of
--- 'Lock text' and each limit. With each its refusal's number, 0 for none, and its products, worked out by hand from document 01.
--- Proved in `proofs/Examples.antt`, by computing. Assumes nothing.
+-- Worked examples: document 01's texts under 'Trial desks', those that just fit and those that just do not, and texts
+-- that show each rule of 'Lock text' and each limit. With each its refusal's number, 0 for none, and its products,
+-- worked out by hand from document 01. Proved in `proofs/Examples.antt`, by computing. Assumes nothing.
 use mathlib.Core.Path.{_≡_}
 use mathlib.Core.Bool.{Bool, true, false}
 use mathlib.Core.List.{List, [], _∷_, _++_, map}
@@ -16,6 +16,7 @@ use Rattle.product.specs.Cells.{blankRow}
 use Rattle.product.specs.Held.{heldBy}
 use Rattle.formula.specs.declared.text.Issued.{Issued}
 use Rattle.formula.specs.declared.text.Verdict.the-variants.{Accepted, Unsatisfiable}
+use Rattle.formula.specs.Spelling.{notSign}
 use Rattle.formula.specs.Outcome.{Outcome, outcomeOf, refusalNumber, verdictOf, sumIn, rowWith, compiledOf}
 use Rattle.formula.specs.Opening.{textHolds}
 use Rattle.formula.specs.Compiler.{everything}
@@ -53,20 +54,26 @@ pub record Examples : Type 0 where
   pub neither : compiled 2 "!(D0|D1)" ≡ (0, (barred 0 ∷ barred 1 ∷ []) ∷ [])
   pub padded : compiled 2 "D01" ≡ (11, [])
   pub four : compiled 4 "(D0|D1)&(D2|D3)"
-      ≡ (0, (plain 0 ∷ plain 2 ∷ []) ∷ (plain 0 ∷ plain 3 ∷ []) ∷ (plain 1 ∷ plain 2 ∷ []) ∷ (plain 1 ∷ plain 3 ∷ []) ∷ [])
+      ≡ (
+        0,
+        (plain 0 ∷ plain 2 ∷ []) ∷ (plain 0 ∷ plain 3 ∷ []) ∷ (plain 1 ∷ plain 2 ∷ [])
+            ∷ (plain 1 ∷ plain 3 ∷ []) ∷ [],
+      )
   -- eight different keys joined by `|` fit, nine do not; six by `&` fit, seven do not
   pub eight : compiled 9 "D0|D1|D2|D3|D4|D5|D6|D7" ≡ (0, map (λ n. plain n ∷ []) (0 ∷ 1 ∷ 2 ∷ 3 ∷ 4 ∷ 5 ∷ 6 ∷ 7 ∷ []))
   pub nine : compiled 9 "D0|D1|D2|D3|D4|D5|D6|D7|D8" ≡ (12, [])
   pub six : compiled 9 "D0&D1&D2&D3&D4&D5" ≡ (0, map plain (0 ∷ 1 ∷ 2 ∷ 3 ∷ 4 ∷ 5 ∷ []) ∷ [])
   pub seven : compiled 9 "D0&D1&D2&D3&D4&D5&D6" ≡ (12, [])
-  -- the answer in arrays, every place of it: of an accepted text, where 393,217 and 393,219 are D0 and D1 barred, and of a refusal
+  -- the answer in arrays, every place of it: of an accepted text, where 393,217 and 393,219 are D0 and D1 barred, and
+  -- of a refusal
   pub rows : compiledOf (made 2) (bytes "!(D0|D1)")
       ≡ record {
         verdict = Accepted;
         count = 1;
         rows = rowWith (393217 ∷ 393219 ∷ 0 ∷ 0 ∷ 0 ∷ 0 ∷ 0 ∷ 2 ∷ []) ∷ replicate 7 (rowWith blankRow);
       }
-  pub blank : compiledOf (made 2) (bytes "D0&!D0") ≡ record { verdict = Unsatisfiable; count = 0; rows = replicate 8 (rowWith blankRow) }
+  pub blank : compiledOf (made 2) (bytes "D0&!D0")
+      ≡ record { verdict = Unsatisfiable; count = 0; rows = replicate 8 (rowWith blankRow) }
 
 -- a different number of keys of each kind: U0; R0, R1; S0 to S2; D0 to D3
 abbrev pub several : Issued
@@ -75,12 +82,12 @@ several = record { users = 1; threads = 2; segments = 3; defined = 4 }
 abbrev pub compiledSeveral : String → ℕ × Sum
 compiledSeveral text = numbered (outcomeOf several (bytes text))
 
--- texts of 96 bytes and of 97, which differ in a digit alone: 94 times `!`, which is 33, and D1 or D10
+-- texts of 96 bytes and of 97, which differ in a digit alone: 94 times `!`, and D1 or D10
 abbrev pub longest : List ℕ
-longest = replicate 94 33 ++ bytes "D1"
+longest = replicate 94 notSign ++ bytes "D1"
 
 abbrev pub tooLong : List ℕ
-tooLong = replicate 94 33 ++ bytes "D10"
+tooLong = replicate 94 notSign ++ bytes "D10"
 
 -- more users than numbers of 16 bits
 abbrev pub beyond : Issued
@@ -155,7 +162,8 @@ pub record FurtherExamples : Type 0 where
   pub always-true : compiled 1 "D0|!D0" ≡ (0, (plain 0 ∷ []) ∷ (barred 0 ∷ []) ∷ [])
   -- contradictions and repeats go before a node is measured, and every node is measured, not only the last
   pub seven-contradict : compiled 6 "D0&D1&D2&D3&D4&D5&!D0" ≡ (13, [])
-  pub nine-repeat : compiled 8 "D0|D1|D2|D3|D4|D5|D6|D7|D0" ≡ (0, map (λ n. plain n ∷ []) (0 ∷ 1 ∷ 2 ∷ 3 ∷ 4 ∷ 5 ∷ 6 ∷ 7 ∷ []))
+  pub nine-repeat : compiled 8 "D0|D1|D2|D3|D4|D5|D6|D7|D0"
+      ≡ (0, map (λ n. plain n ∷ []) (0 ∷ 1 ∷ 2 ∷ 3 ∷ 4 ∷ 5 ∷ 6 ∷ 7 ∷ []))
   pub inner-wide : compiled 7 "(D0&D1&D2&D3&D4&D5&D6)&!D0" ≡ (12, [])
   pub inner-nine : compiled 9 "(D0|D1|D2|D3|D4|D5|D6|D7|D8)&D0" ≡ (12, [])
   pub not-wide : compiled 7 "!(D0&D1&D2&D3&D4&D5&D6)" ≡ (0, map (λ n. barred n ∷ []) (0 ∷ 1 ∷ 2 ∷ 3 ∷ 4 ∷ 5 ∷ 6 ∷ []))

@@ -1,5 +1,6 @@
--- Sums in arrays. A product is a row of 8 cells: its literals as numbers from cell 0 on, in cell 7 how many they are, 0 elsewhere. A sum is
--- 8 rows and the number of its products; a number above 8 says that it is too wide. Assumes nothing.
+-- Sums in arrays. A product is a row of 8 cells: its literals as numbers from cell 0 on, in cell 7 how many they are, 0
+-- elsewhere. A sum is 8 rows and the number of its products; a number above 8 says that it is too wide. Assumes
+-- nothing.
 use mathlib.Core.Path.{_≡_}
 use mathlib.Core.Bool.{cond}
 use mathlib.Core.List.{List, [], _∷_, _++_, map}

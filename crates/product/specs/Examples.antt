@@ -1,5 +1,5 @@
--- Worked examples of products and sums, by document 01's 'Lock text', each answer written out. Proved in `proofs/Examples.antt`, by computing.
--- Assumes nothing.
+-- Worked examples of products and sums, by document 01's 'Lock text', each answer written out. Proved in
+-- `proofs/Examples.antt`, by computing. Assumes nothing.
 use mathlib.Core.Path.{_≡_}
 use mathlib.Core.Bool.{Bool, true, false}
 use mathlib.Core.List.{List, [], _∷_, map}
@@ -35,10 +35,13 @@ abbrev pub opensFor : List ℕ → Product → Bool
 opensFor keys p = opens (heldBy keys) p
 
 pub record Examples : Type 0 where
-  -- A product is kept in the order U, R, S, D, then by number: 10 comes after 9, and a later kind's 0 after an earlier one's 9.
+  -- A product is kept in the order U, R, S, D, then by number: 10 comes after 9, and a later kind's 0 after an earlier
+  -- one's 9.
   pub kinds : union (plain 1 ∷ []) (Barred (Segment 0) ∷ Plain (Thread 0) ∷ Barred (User 0) ∷ plain 0 ∷ [])
       ≡ Barred (User 0) ∷ Plain (Thread 0) ∷ Barred (Segment 0) ∷ plain 0 ∷ plain 1 ∷ []
-  pub numbers : union (plain 10 ∷ []) (plain 9 ∷ Plain (Segment 10) ∷ Plain (Segment 9) ∷ Plain (Thread 65535) ∷ Plain (User 65535) ∷ [])
+  pub numbers :
+      union (plain 10 ∷ [])
+      (plain 9 ∷ Plain (Segment 10) ∷ Plain (Segment 9) ∷ Plain (Thread 65535) ∷ Plain (User 65535) ∷ [])
       ≡ Plain (User 65535) ∷ Plain (Thread 65535) ∷ Plain (Segment 9) ∷ Plain (Segment 10) ∷ plain 9 ∷ plain 10 ∷ []
   pub once : union (plain 0 ∷ plain 1 ∷ []) (plain 1 ∷ plain 2 ∷ plain 0 ∷ []) ≡ plain 0 ∷ plain 1 ∷ plain 2 ∷ []
   -- a key both plain and barred; not two keys with one number, nor a key twice with one sign
@@ -47,7 +50,8 @@ pub record Examples : Type 0 where
   pub other-number : contradictory (plain 0 ∷ barred 1 ∷ []) ≡ false
   pub sign-matters : sameProduct (plain 0 ∷ []) (barred 0 ∷ []) ≡ false
   pub kind-matters : sameProduct (Plain (Segment 0) ∷ []) (plain 0 ∷ []) ≡ false
-  -- A key set opens a product when every plain key is in it and every barred one is not. U1 is 1, R2 65,538, S3 131,075, D4 196,612.
+  -- A key set opens a product when every plain key is in it and every barred one is not. U1 is 1, R2 65,538, S3
+  -- 131,075, D4 196,612.
   pub held : opensFor (1 ∷ 65538 ∷ 131075 ∷ 196612 ∷ []) mixed ≡ true
   pub order-free : opensFor (196612 ∷ 131075 ∷ 1 ∷ 65538 ∷ 196617 ∷ []) mixed ≡ true
   pub no-user : opensFor (65538 ∷ 131075 ∷ 196612 ∷ []) mixed ≡ false
@@ -70,25 +74,33 @@ pub record Examples : Type 0 where
   pub none-opens : opensSum (heldBy (196610 ∷ [])) (some ((plain 0 ∷ []) ∷ (plain 1 ∷ []) ∷ [])) ≡ false
   pub wide-opens : opensSum (heldBy (196608 ∷ [])) none ≡ false
   -- OR joins the left list and the right, and of repeats the first stays
-  pub either : disjoin ((plain 1 ∷ []) ∷ (plain 0 ∷ []) ∷ []) ((plain 2 ∷ []) ∷ (plain 1 ∷ []) ∷ []) ≡ (plain 1 ∷ []) ∷ (plain 0 ∷ []) ∷ (plain 2 ∷ []) ∷ []
+  pub either : disjoin ((plain 1 ∷ []) ∷ (plain 0 ∷ []) ∷ []) ((plain 2 ∷ []) ∷ (plain 1 ∷ []) ∷ [])
+      ≡ (plain 1 ∷ []) ∷ (plain 0 ∷ []) ∷ (plain 2 ∷ []) ∷ []
   -- AND joins each left product, in order, with each right one; a product with a key both plain and barred goes
   pub both : conjoin ((plain 0 ∷ []) ∷ (plain 1 ∷ []) ∷ []) ((plain 2 ∷ []) ∷ (barred 0 ∷ []) ∷ [])
       ≡ (plain 0 ∷ plain 2 ∷ []) ∷ (plain 1 ∷ plain 2 ∷ []) ∷ (barred 0 ∷ plain 1 ∷ []) ∷ []
   -- a node fits with 8 products and not with 9, of 6 literals and not of 7
-  pub eight : cap (map (λ n. plain n ∷ []) (0 ∷ 1 ∷ 2 ∷ 3 ∷ 4 ∷ 5 ∷ 6 ∷ 7 ∷ [])) ≡ some (map (λ n. plain n ∷ []) (0 ∷ 1 ∷ 2 ∷ 3 ∷ 4 ∷ 5 ∷ 6 ∷ 7 ∷ []))
+  pub eight : cap (map (λ n. plain n ∷ []) (0 ∷ 1 ∷ 2 ∷ 3 ∷ 4 ∷ 5 ∷ 6 ∷ 7 ∷ []))
+      ≡ some (map (λ n. plain n ∷ []) (0 ∷ 1 ∷ 2 ∷ 3 ∷ 4 ∷ 5 ∷ 6 ∷ 7 ∷ []))
   pub nine : cap (map (λ n. plain n ∷ []) (0 ∷ 1 ∷ 2 ∷ 3 ∷ 4 ∷ 5 ∷ 6 ∷ 7 ∷ 8 ∷ [])) ≡ none
   pub six : cap (map plain (0 ∷ 1 ∷ 2 ∷ 3 ∷ 4 ∷ 5 ∷ []) ∷ []) ≡ some (map plain (0 ∷ 1 ∷ 2 ∷ 3 ∷ 4 ∷ 5 ∷ []) ∷ [])
   pub seven : cap ((plain 0 ∷ []) ∷ map plain (0 ∷ 1 ∷ 2 ∷ 3 ∷ 4 ∷ 5 ∷ 6 ∷ []) ∷ []) ≡ none
   pub wide-left : joined disjoin none (some []) ≡ none
   pub wide-right : joined disjoin (some []) none ≡ none
   -- the number of a cell: twice the key's, and 1 more where it is barred; 65,536 keys of a kind
-  pub codes : map codeOf (Plain (User 0) ∷ Barred (User 0) ∷ Plain (User 65535) ∷ Plain (Thread 0) ∷ Plain (Segment 0) ∷ barred 1 ∷ [])
+  pub codes :
+      map codeOf
+      (Plain (User 0) ∷ Barred (User 0) ∷ Plain (User 65535) ∷ Plain (Thread 0) ∷ Plain (Segment 0) ∷ barred 1 ∷ [])
       ≡ 0 ∷ 1 ∷ 131070 ∷ 131072 ∷ 262144 ∷ 393219 ∷ []
   pub read : map literalOf (0 ∷ 1 ∷ 131071 ∷ 131072 ∷ 262145 ∷ 393219 ∷ 524289 ∷ [])
-      ≡ Plain (User 0) ∷ Barred (User 0) ∷ Barred (User 65535) ∷ Plain (Thread 0) ∷ Barred (Segment 0) ∷ barred 1 ∷ Barred (User 0) ∷ []
+      ≡ Plain (User 0) ∷ Barred (User 0) ∷ Barred (User 65535) ∷ Plain (Thread 0)
+      ∷ Barred (Segment 0) ∷ barred 1 ∷ Barred (User 0) ∷ []
   -- a row's last cell says how many literals it has, as 6 where it says more; the rows of a sum, and what they read as
   pub row : productOf (393217 ∷ 393219 ∷ 5 ∷ 0 ∷ 0 ∷ 0 ∷ 0 ∷ 2 ∷ []) ≡ barred 0 ∷ barred 1 ∷ []
-  pub long-row : productOf (0 ∷ 2 ∷ 4 ∷ 6 ∷ 8 ∷ 10 ∷ 12 ∷ 9 ∷ []) ≡ map (λ n. Plain (User n)) (0 ∷ 1 ∷ 2 ∷ 3 ∷ 4 ∷ 5 ∷ [])
-  pub rows : rowsOf ((barred 0 ∷ barred 1 ∷ []) ∷ []) ≡ (393217 ∷ 393219 ∷ 0 ∷ 0 ∷ 0 ∷ 0 ∷ 0 ∷ 2 ∷ []) ∷ replicate 7 blankRow
-  pub first-rows : sumOf 1 ((1 ∷ 0 ∷ 0 ∷ 0 ∷ 0 ∷ 0 ∷ 0 ∷ 1 ∷ []) ∷ replicate 7 blankRow) ≡ some ((Barred (User 0) ∷ []) ∷ [])
+  pub long-row : productOf (0 ∷ 2 ∷ 4 ∷ 6 ∷ 8 ∷ 10 ∷ 12 ∷ 9 ∷ [])
+      ≡ map (λ n. Plain (User n)) (0 ∷ 1 ∷ 2 ∷ 3 ∷ 4 ∷ 5 ∷ [])
+  pub rows : rowsOf ((barred 0 ∷ barred 1 ∷ []) ∷ [])
+      ≡ (393217 ∷ 393219 ∷ 0 ∷ 0 ∷ 0 ∷ 0 ∷ 0 ∷ 2 ∷ []) ∷ replicate 7 blankRow
+  pub first-rows : sumOf 1 ((1 ∷ 0 ∷ 0 ∷ 0 ∷ 0 ∷ 0 ∷ 0 ∷ 1 ∷ []) ∷ replicate 7 blankRow)
+      ≡ some ((Barred (User 0) ∷ []) ∷ [])
   pub too-many-rows : sumOf 9 (replicate 8 blankRow) ≡ none

@@ -1,4 +1,4 @@
-// Key sets, given by their keys' numbers, and whether one opens a sum.
+// Document 01: key sets, here given by their keys' numbers, and whether one opens a sum.
 ghost use mathlib.Core.Path.{_≡_};
 ghost use Prim.Native.Nat.{_≤_};
 ghost use lib.ListN.{length};

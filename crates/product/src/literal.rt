@@ -1,4 +1,5 @@
-// Keys and literals, how literals compare, and the one number that a cell of a row holds of a literal. Only `encode` and `decode` know it.
+// Keys and literals, how literals compare, and the one number that a cell of a row holds of a literal. Only `encode`
+// and `decode` know it.
 ghost use mathlib.Core.Path.{_≡_};
 ghost use Prim.Native.Nat.{_<_};
 ghost use Rattle.product.specs.Atom.{kindOf, numberOf, isLess, isEqual, compareAtoms};
@@ -20,7 +21,8 @@ pub enum Literal {
     Barred(Key),
 }
 
-// How many numbers the keys of a kind have, and where the cells' numbers of each kind begin; those of U keys begin at 0.
+// How many numbers the keys of a kind have, and where the cells' numbers of each kind begin; those of U keys begin at
+// 0.
 const KEY_NUMBERS: u32 = 65536;
 
 const THREAD_KEYS: u32 = 65536;

@@ -1,5 +1,5 @@
-// Products: rows of 8 cells, and sixteen cells while two are being joined, since two products of 6 literals are joined before their
-// contradictions and their width are judged.
+// Products: rows of 8 cells, and sixteen cells while two are being joined, since two products of 6 literals are joined
+// before their contradictions and their width are judged.
 ghost use mathlib.Core.Path.{_≡_};
 ghost use Prim.Native.Nat.{_+_, _≤_, _<_};
 ghost use lib.ListN.{getD, drop};
@@ -14,7 +14,7 @@ use crate::literal::encode;
 use crate::sum::COUNT_CELL;
 use crate::sum::MOST_LITERALS;
 
-// The cells of a product, and those in which two are joined.
+// Document 01: product. Its cells, and those in which two are joined.
 pub(crate) type Cells = [u32; 8];
 
 pub(crate) type Wide = [u32; 16];
@@ -36,7 +36,8 @@ pub(crate) fn widen(row: &Cells, cells: &mut Wide) -> usize
 
 // The literals of both rows, in sixteen cells.
 pub(crate) fn join(p: &Cells, q: &Cells, cells: &mut Wide) -> usize
-    ensures { λ r. ⌜ Joined mostJoined (union (productOf (now (p .entry))) (productOf (now (q .entry)))) (now (cells .exit)) r ⌝ }
+    ensures { λ r. ⌜ Joined mostJoined
+        (union (productOf (now (p .entry))) (productOf (now (q .entry)))) (now (cells .exit)) r ⌝ }
 {
     let m = size(q);
     let mut n = widen(p, cells);
