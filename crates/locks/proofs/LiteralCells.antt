@@ -62,12 +62,12 @@ ltb-suc i n =
     (λ e. let l = ltb-true i n e in lt-ltb (suc i) (suc n) (omega arith) ∙ sym e)
     (λ e. let l = ltb-false i n e in le-ltb (suc i) (suc n) (omega arith) ∙ sym e)
 
-cells-stored : (p : Product) (rest : Row) (k : ℕ) → All Numbered p → length p ≤ k
+literals-stored : (p : Product) (rest : Row) (k : ℕ) → All Numbered p → length p ≤ k
     → each (cellIn (length p) (map codeOf p ++ rest)) 0 k ≡ map literalCell p ++ replicate (k - length p) 0
 unfolding cellIn
-cells-stored [] rest k no-more h = let e : k - 0 ≡ k = omega arith in blanks (cellIn 0 rest) (λ i. simp (le-ltb i 0 (omega arith))) 0 k ∙ rw e
-cells-stored (x ∷ p) rest zero (and-more y all) h = absurd (omega arith)
-cells-stored (x ∷ p) rest (suc k) (and-more y all) h =
+literals-stored [] rest k no-more h = let e : k - 0 ≡ k = omega arith in blanks (cellIn 0 rest) (λ i. simp (le-ltb i 0 (omega arith))) 0 k ∙ rw e
+literals-stored (x ∷ p) rest zero (and-more y all) h = absurd (omega arith)
+literals-stored (x ∷ p) rest (suc k) (and-more y all) h =
     let n : ℕ = length p in
     let w : Row = map codeOf p ++ rest in
     let here : cellIn (suc n) (codeOf x ∷ w) 0 ≡ literalCell x = simp (lt-ltb 0 (suc n) (omega arith)) (ap literalCell (literal-back x y)) in
@@ -75,7 +75,7 @@ cells-stored (x ∷ p) rest (suc k) (and-more y all) h =
     each-suc (cellIn (suc n) (codeOf x ∷ w)) 0 k
     ∙ each-same (λ j. cellIn (suc n) (codeOf x ∷ w) (suc j)) (cellIn n w) 0 k (λ j low high. rw (ltb-suc j n)) in
     let left : suc k - suc n ≡ k - n = omega arith in
-    ap₂ (λ (c : ℕ) (cs : Row). c ∷ cs) here (shift ∙ cells-stored p rest k all (omega arith) ∙ rw left)
+    ap₂ (λ (c : ℕ) (cs : Row). c ∷ cs) here (shift ∙ literals-stored p rest k all (omega arith) ∙ rw left)
 
 -- six cells of literals, and one that is always 0
 cells-stored : (p : Product) (rest : Row) → All Numbered p → length p ≤ 6
@@ -84,7 +84,7 @@ cells-stored p rest all short =
     let one : 6 - length p + 1 ≡ 7 - length p = omega arith in
     let zeros : _≡_ {A = Row} (replicate (6 - length p) 0 ++ 0 ∷ []) (replicate (7 - length p) 0) =
     replicate-append-replicate (6 - length p) 1 0 ∙ ap (λ (k : ℕ). replicate k 0) one in
-    ap (λ (cs : Row). cs ++ 0 ∷ []) (cells-stored p rest 6 all short)
+    ap (λ (cs : Row). cs ++ 0 ∷ []) (literals-stored p rest 6 all short)
     ∙ append-assoc (map literalCell p) (replicate (6 - length p) 0) (0 ∷ [])
     ∙ ap (λ (cs : Row). map literalCell p ++ cs) zeros
 
