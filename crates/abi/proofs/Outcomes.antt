@@ -1,39 +1,22 @@
--- The answer of each verdict: the number and the rows that a caller in C gets. Assumes nothing.
-use mathlib.Core.Path.{_≡_, refl, sym, ap, _∙_, subst}
+-- The answer of each outcome: the number and the rows that a caller in C gets. Assumes nothing.
+use mathlib.Core.Path.{_≡_, refl, ap, ap₂, _∙_}
+use mathlib.Core.Bool.{cond}
 use mathlib.Core.List.{List, [], map}
 use Prim.Native.Nat.{ℕ, _≤_}
 use native.Mathlib.Omega.{arith}
+use lib.Dec.{eqb}
 use lib.ListN.{length, getD, List·getD-map}
-use Rattle.product.specs.Sum.{Sum}
+use Rattle.product.specs.Sum.{mostProducts}
 use Rattle.product.specs.Cells.{rowsOf}
 use Rattle.product.proofs.Lists.{read, read-all}
 use Rattle.product.proofs.Filling.{rows-length}
-use Rattle.formula.specs.declared.text.Verdict.{Verdict}
-use Rattle.formula.specs.declared.text.Verdict.the-variants.{Accepted, Malformed, TooWide, Unsatisfiable}
 use Rattle.formula.specs.declared.text.Issued.{Issued}
 use Rattle.formula.specs.declared.text.Row.{Row}
 use Rattle.formula.specs.declared.text.Compiled.{Compiled}
 use Rattle.formula.specs.Outcome.{Outcome, accepted, malformed, tooWide, unsatisfiable, outcomeOf, refusalNumber, verdictOf, sumIn, rowWith, answerOf, compiledOf}
-use Rattle.formula.specs.Compiler.{Bounded}
 use Rattle.formula.proofs.Opening.{laws}
 use Rattle.abi.specs.Answers.{numberIn, rowsIn}
 use Rattle.abi.specs.Steps.{cellsAt, eightCells}
-
--- what a verdict tells of the outcome: of a refusal its number, and that the rows stay as they were
-abbrev Said : Verdict → Outcome → List (List ℕ) → Type 0
-Said Accepted o old = (ps : Sum) × (o ≡ accepted ps)
-Said Malformed o old = (refusalNumber Malformed ≡ numberIn o) × (old ≡ rowsIn o old)
-Said TooWide o old = (refusalNumber TooWide ≡ numberIn o) × (old ≡ rowsIn o old)
-Said Unsatisfiable o old = (refusalNumber Unsatisfiable ≡ numberIn o) × (old ≡ rowsIn o old)
-
-said : (o : Outcome) (old : List (List ℕ)) → Said (verdictOf o) o old
-said (accepted ps) old = (ps, refl)
-said malformed old = (refl, refl)
-said tooWide old = (refl, refl)
-said unsatisfiable old = (refl, refl)
-
-pub says : {c : Compiled} {v : Verdict} (o : Outcome) (old : List (List ℕ)) → c ≡ answerOf o → c .verdict ≡ v → Said v o old
-says o old e p = subst (λ (v : Verdict). Said v o old) (sym (ap (λ (x : Compiled). x .verdict) e) ∙ p) (said o old)
 
 cells-at : (l : List (List ℕ)) (i : ℕ) → cellsAt (map rowWith l) i ≡ getD l i []
 cells-at l i = ap (λ (r : Row). r .cells) (List·getD-map rowWith l i [])
@@ -42,23 +25,39 @@ eight-cells : (l : List (List ℕ)) → length l ≡ 8 → eightCells (map rowWi
 unfolding read
 eight-cells l h = simp cells-at (read-all [] l 8 h)
 
--- an accepted text: how many products, and their cells
-module _ (i : Issued) (s : List ℕ) (old : List (List ℕ)) {c : Compiled} (e : c ≡ compiledOf i s) (p : c .verdict ≡ Accepted) where
-  pub accepted-few : c .count ≤ 8
-  accepted-few =
-      let a = says (outcomeOf i s) old e p in
-      let b : Bounded (a .0) = laws .bounds i s (a .0) (a .1) in
-      let q : c .count ≡ length (a .0) = ap (λ (x : Compiled). x .count) e ∙ ap (λ (o : Outcome). length (sumIn o)) (a .1) in
-      omega (arith, b .few)
+-- the compiler's answer and its refusal's number: how many products there are, what is written, and the number that is answered
+module _ (i : Issued) (s : List ℕ) {c : Compiled} (e : c ≡ compiledOf i s) where
+  few : (o : Outcome) → outcomeOf i s ≡ o → length (sumIn o) ≤ mostProducts
+  few (accepted ps) q = laws .bounds i s ps q .few
+  few malformed q = omega arith
+  few tooWide q = omega arith
+  few unsatisfiable q = omega arith
 
-  pub accepted-number : c .count ≡ numberIn (outcomeOf i s)
-  accepted-number =
-      let a = says (outcomeOf i s) old e p in
-      rw (a .1) (ap (λ (x : Compiled). x .count) e ∙ ap (λ (o : Outcome). length (sumIn o)) (a .1))
+  pub count-few : c .count ≤ mostProducts
+  count-few = let q : c .count ≡ length (sumIn (outcomeOf i s)) = ap (λ (x : Compiled). x .count) e in omega (arith, few (outcomeOf i s) refl)
 
-  pub accepted-rows : eightCells (c .rows) ≡ rowsIn (outcomeOf i s) old
-  accepted-rows =
-      let a = says (outcomeOf i s) old e p in
-      let b : Bounded (a .0) = laws .bounds i s (a .0) (a .1) in
-      ap (λ (x : Compiled). eightCells (x .rows)) e
-      ∙ rw (a .1) (eight-cells (rowsOf (a .0)) (rows-length (a .0) (b .few)))
+  module _ {r : ℕ} (n : r ≡ refusalNumber (c .verdict)) where
+    number-is : r ≡ refusalNumber (verdictOf (outcomeOf i s))
+    number-is = n ∙ ap (λ (x : Compiled). refusalNumber (x .verdict)) e
+
+    pub rows-written : (old : List (List ℕ)) → cond (eqb r 0) (eightCells (c .rows)) old ≡ rowsIn (outcomeOf i s) old
+    rows-written old =
+        ap₂ (λ (k : ℕ) (x : Compiled). cond (eqb k 0) (eightCells (x .rows)) old) number-is e
+        ∙ go (outcomeOf i s) (few (outcomeOf i s) refl)
+      where
+        go : (o : Outcome) → length (sumIn o) ≤ mostProducts
+            → cond (eqb (refusalNumber (verdictOf o)) 0) (eightCells (map rowWith (rowsOf (sumIn o)))) old ≡ rowsIn o old
+        go (accepted ps) l = eight-cells (rowsOf ps) (rows-length ps l)
+        go malformed l = refl
+        go tooWide l = refl
+        go unsatisfiable l = refl
+
+    pub number-answered : cond (eqb r 0) (c .count) r ≡ numberIn (outcomeOf i s)
+    number-answered =
+        ap₂ (λ (k : ℕ) (x : Compiled). cond (eqb k 0) (x .count) k) number-is e ∙ go (outcomeOf i s)
+      where
+        go : (o : Outcome) → cond (eqb (refusalNumber (verdictOf o)) 0) (length (sumIn o)) (refusalNumber (verdictOf o)) ≡ numberIn o
+        go (accepted ps) = refl
+        go malformed = refl
+        go tooWide = refl
+        go unsatisfiable = refl

@@ -1,14 +1,17 @@
-// Formula texts for C: the answer is a number, and the products go into rows that the caller lends.
+// Formula texts (document 01: lock texts) for C: the answer is a number, and the products go into rows that the caller lends.
 ghost use mathlib.Core.Path.{_≡_};
+ghost use mathlib.Core.Bool.{cond};
 ghost use Rattle.formula.specs.Outcome.{outcomeOf};
 ghost use Rattle.abi.specs.Answers.{issuedWith, numberIn, rowsIn};
 ghost use Rattle.abi.specs.Steps.{eightCells};
 use formula::text::Issued;
 use formula::text::Row;
-use formula::text::Verdict;
 use formula::text::compile;
 use formula::text::refusal_number;
 use product::sum::Rows;
+
+// The refusal number of an accepted text.
+const NO_REFUSAL: u32 = 0;
 
 // The number of products, 1 to 8, with their cells in the rows; or the number of a refusal, and then no cell is changed.
 #[no_mangle]
@@ -20,8 +23,10 @@ pub extern "C" fn rotundaaloe_compile(
     defined: u32,
     rows: &mut Rows,
 ) -> u32
-    ensures number { λ r. ⌜ r ≡ numberIn (outcomeOf (issuedWith users threads segments defined) (now (text .entry))) ⌝ }
-    ensures cells { λ r. ⌜ now (rows .exit) ≡ rowsIn (outcomeOf (issuedWith users threads segments defined) (now (text .entry))) (now (rows .entry)) ⌝ }
+    ensures number { λ r. ⌜ r
+        ≡ numberIn (outcomeOf (issuedWith users threads segments defined) (now (text .entry))) ⌝ }
+    ensures cells { λ r. ⌜ now (rows .exit)
+        ≡ rowsIn (outcomeOf (issuedWith users threads segments defined) (now (text .entry))) (now (rows .entry)) ⌝ }
 {
     let issued = Issued {
         users,
@@ -31,17 +36,20 @@ pub extern "C" fn rotundaaloe_compile(
     };
     let compiled = compile(text, issued);
     let verdict = compiled.verdict;
+    let count = compiled.count;
+    let products = compiled.rows;
     let refusal = refusal_number(verdict);
-    match verdict {
-        Verdict::Malformed => refusal,
-        Verdict::TooWide => refusal,
-        Verdict::Unsatisfiable => refusal,
-        Verdict::Accepted => {
-            let count = compiled.count;
-            let products = compiled.rows;
-            *rows = cells_of(products);
-            count as u32
-        }
+    let accepted = refusal == NO_REFUSAL;
+    write_rows(accepted, products, rows);
+    if accepted { count as u32 } else { refusal }
+}
+
+// Only the products of an accepted text are written.
+fn write_rows(accepted: bool, products: [Row; 8], rows: &mut Rows)
+    ensures { λ _. ⌜ now (rows .exit) ≡ cond accepted (eightCells products) (now (rows .entry)) ⌝ }
+{
+    if accepted {
+        *rows = cells_of(products);
     }
 }
 

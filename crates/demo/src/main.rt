@@ -1,4 +1,5 @@
-// Compiles document 01's worked formula texts and prints the products of each, or the number of its refusal. Keys D0 to D8 are handed out.
+// Compiles document 01's worked formula texts and prints the products of each, or the number of its refusal. Keys D0 to
+// D8 are handed out.
 use formula::text::Compiled;
 use formula::text::Issued;
 use formula::text::Verdict;

@@ -17,21 +17,22 @@ use Rattle.formula.specs.declared.text.Compiled.{Compiled}
 use Rattle.formula.specs.declared.reader.Read.{Read}
 use Rattle.formula.specs.declared.reader.Read.the-variants.{Malformed as Unread, Node}
 use Rattle.formula.specs.Tree.{ors}
+use Rattle.formula.specs.Text.{mostBytes, mostDeep}
 use Rattle.formula.specs.Nodes.{listOf}
 use Rattle.formula.specs.Reader.{Found, wholeOf, readText}
 use Rattle.formula.specs.Outcome.{tooWide, unsatisfiable, judgeList, judge, outcomeOf, rowWith, answerOf, compiledOf}
 use Rattle.formula.specs.Steps.{refusedOf, Reads, failed, parsed, OrAt, eightRows}
-use Rattle.formula.proofs.Walking.{told}
+use Rattle.formula.proofs.Walking.{reads-as}
 
 -- the answer of a list of products that is written in rows
 
 wide-list : (x : Sum?) {rows : List (List ℕ)} {k : ℕ} → Written x rows k → 8 < k → judgeList x ≡ tooWide
 wide-list x {rows} w h = ap judgeList (sym (w .reads) ∙ sum-wide rows h)
 
-void-list : (x : Sum?) {rows : List (List ℕ)} {k : ℕ} → Written x rows k → k ≡ 0 → judgeList x ≡ unsatisfiable
-void-list none w h = let z : ⊥ = omega (arith, w .count) in absurd z
-void-list (some []) w h = refl
-void-list (some (p ∷ ps)) w h = let z : ⊥ = omega (arith, w .count) in absurd z
+unsatisfiable-list : (x : Sum?) {rows : List (List ℕ)} {k : ℕ} → Written x rows k → k ≡ 0 → judgeList x ≡ unsatisfiable
+unsatisfiable-list none w h = let z : ⊥ = omega (arith, w .count) in absurd z
+unsatisfiable-list (some []) w h = refl
+unsatisfiable-list (some (p ∷ ps)) w h = let z : ⊥ = omega (arith, w .count) in absurd z
 
 eight-rows : (rows : List (List ℕ)) → length rows ≡ 8 → eightRows rows ≡ map rowWith rows
 unfolding read
@@ -49,14 +50,14 @@ filled-list (some (p ∷ ps)) {rows} {k} w h l =
 
 -- the answer
 
-pub long-text : (i : Issued) (s : List ℕ) → 96 < length s → refusedOf Malformed ≡ compiledOf i s
+pub long-text : (i : Issued) (s : List ℕ) → mostBytes < length s → refusedOf Malformed ≡ compiledOf i s
 unfolding outcomeOf
-long-text i s h = rw (lt-leb (length s) 96 h)
+long-text i s h = rw (lt-leb (length s) mostBytes h)
 
-module _ (i : Issued) (s : List ℕ) {r : Read} {rows : List (List ℕ)} (h : length s ≤ 96) (p : OrAt i s 8 false r rows 0) where
+module _ (i : Issued) (s : List ℕ) {r : Read} {rows : List (List ℕ)} (h : length s ≤ mostBytes) (p : OrAt i s mostDeep false r rows 0) where
   short-text : {q : Read} {c : Compiled} → r ≡ q → ((x : Found ors) → Reads false s rows q x → c ≡ answerOf (judge (wholeOf x))) → c ≡ compiledOf i s
   unfolding outcomeOf readText
-  short-text e f = rw (le-leb (length s) 96 h) (f _ (told e (p (4 * length s + 3) (omega arith))))
+  short-text e f = rw (le-leb (length s) mostBytes h) (f _ (reads-as e (p (4 * length s + 3) (omega arith))))
 
   -- not spelt right, or not up to its end
   pub text-unread : r ≡ Unread → refusedOf Malformed ≡ compiledOf i s
@@ -82,8 +83,8 @@ module _ (i : Issued) (s : List ℕ) {r : Read} {rows : List (List ℕ)} (h : le
       pub text-wide : 8 < n → refusedOf TooWide ≡ compiledOf i s
       text-wide b = found (λ x w. ap answerOf (sym (wide-list x w b)))
 
-      pub text-void : n ≡ 0 → refusedOf Unsatisfiable ≡ compiledOf i s
-      text-void b = found (λ x w. ap answerOf (sym (void-list x w b)))
+      pub text-unsatisfiable : n ≡ 0 → refusedOf Unsatisfiable ≡ compiledOf i s
+      text-unsatisfiable b = found (λ x w. ap answerOf (sym (unsatisfiable-list x w b)))
 
       pub text-accepted : (n ≡ 0 → ⊥) → n ≤ 8 → acceptedOf n rows ≡ compiledOf i s
       text-accepted b d = found (λ x w. filled-list x w b d)

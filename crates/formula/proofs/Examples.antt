@@ -1,20 +1,23 @@
--- Each outcome is computed. Assumes nothing.
+-- Each answer is computed. Assumes nothing.
 use mathlib.Core.Path.{refl}
 use Rattle.product.specs.Atom.{orderOf, compareAtoms, compareLiterals}
-use Rattle.product.specs.Product.{insert, union, clashes, contradictory, sameProduct}
-use Rattle.product.specs.Sum.{joinEach, joinAll, present, consistent, firsts, narrow, fitsNode}
+use Rattle.product.specs.Product.{opens, insert, union, clashes, contradictory, sameProduct}
+use Rattle.product.specs.Sum.{opensAny, joinEach, joinAll, present, consistent, firsts, narrow, fitsNode}
 use Rattle.product.specs.Code.{keyCode, codeOf}
+use Rattle.product.specs.Held.{member}
 use Rattle.formula.specs.Text.{issuedTo}
+use Rattle.formula.specs.Tree.{holds}
 use Rattle.formula.specs.Nodes.{products, fits, listOf}
 use Rattle.formula.specs.Reader.{readDigits, readNumber, readAtom, readNots, readText}
 use Rattle.formula.specs.Outcome.{outcomeOf}
-use Rattle.formula.specs.Examples.{bytes, Examples}
+use Rattle.formula.specs.Opening.{textHolds}
+use Rattle.formula.specs.Examples.{bytes, Examples, FurtherExamples}
 
 pub examples : Examples
 unfolding bytes outcomeOf issuedTo readText readNots readAtom readNumber readDigits listOf products fits fitsNode narrow firsts consistent present sameProduct joinAll joinEach union insert contradictory clashes compareLiterals compareAtoms orderOf keyCode codeOf
 examples =
     record {
-      void = refl;
+      contradiction = refl;
       one = refl;
       two = refl;
       neither = refl;
@@ -24,8 +27,79 @@ examples =
       nine = refl;
       six = refl;
       seven = refl;
-      unknown = refl;
-      empty = refl;
       rows = refl;
       blank = refl;
+    }
+
+pub further-examples : FurtherExamples
+unfolding bytes outcomeOf issuedTo readText readNots readAtom readNumber readDigits listOf products fits fitsNode narrow firsts consistent present sameProduct joinAll joinEach union insert contradictory clashes compareLiterals compareAtoms orderOf keyCode codeOf textHolds holds opens opensAny member
+further-examples =
+    record {
+      empty = refl;
+      longest-length = refl;
+      longest-fits = refl;
+      too-long-length = refl;
+      too-long = refl;
+      eight-deep = refl;
+      nine-deep = refl;
+      nine-brackets = refl;
+      unclosed = refl;
+      unopened = refl;
+      empty-bracket = refl;
+      blank-inside = refl;
+      blank-before = refl;
+      blank-after = refl;
+      lower-case = refl;
+      other-letter = refl;
+      two-zeros = refl;
+      no-number = refl;
+      no-letter = refl;
+      two-digits = refl;
+      largest = refl;
+      beyond-last = refl;
+      beyond-none = refl;
+      last-user = refl;
+      next-user = refl;
+      last-thread = refl;
+      next-thread = refl;
+      last-segment = refl;
+      next-segment = refl;
+      last-defined = refl;
+      next-defined = refl;
+      no-right-and = refl;
+      no-left-and = refl;
+      no-right-or = refl;
+      no-left-or = refl;
+      two-ands = refl;
+      no-join = refl;
+      not-alone = refl;
+      not-after = refl;
+      not-one = refl;
+      not-twice = refl;
+      not-and = refl;
+      not-or = refl;
+      and-first = refl;
+      bracket-first = refl;
+      grouped-left = refl;
+      changed-places = refl;
+      ordered-keys = refl;
+      key-twice = refl;
+      product-twice = refl;
+      always-true = refl;
+      seven-contradict = refl;
+      nine-repeat = refl;
+      inner-wide = refl;
+      inner-nine = refl;
+      not-wide = refl;
+      not-seven = refl;
+      malformed-first = refl;
+      not-without = refl;
+      not-with = refl;
+      not-other = refl;
+      not-opens = refl;
+      not-shut = refl;
+      or-alone = refl;
+      bracket-alone = refl;
+      bracket-both = refl;
+      no-formula = refl;
     }

@@ -13,7 +13,7 @@ use Rattle.product.specs.Sum.{Sum, Sum?}
 use Rattle.product.proofs.Truth.{never-true, never-false}
 use Rattle.formula.specs.declared.text.Issued.{Issued}
 use Rattle.formula.specs.Tree.{ors, Tree}
-use Rattle.formula.specs.Text.{issuedTo, Text}
+use Rattle.formula.specs.Text.{issuedTo, mostBytes, Text}
 use Rattle.formula.specs.Nodes.{products, fits, listOf}
 use Rattle.formula.specs.Reader.{readText}
 use Rattle.formula.specs.Outcome.{Outcome, accepted, malformed, tooWide, unsatisfiable, judgeList, judge, outcomeOf}
@@ -23,7 +23,7 @@ module _ (i : Issued) (s : List ℕ) where
   pub text-spells : {t : Tree ors} → Text i s t → Spells (issuedTo i) s t
   text-spells h = record { spelt = h .spelt; shallow = h .shallow; known-atoms = h .issued }
 
-  spells-text : (t : Tree ors) → Spells (issuedTo i) s t → length s ≤ 96 → Text i s t
+  spells-text : (t : Tree ors) → Spells (issuedTo i) s t → length s ≤ mostBytes → Text i s t
   spells-text t h l =
       record {
         spelt = h .spelt;
@@ -35,7 +35,7 @@ module _ (i : Issued) (s : List ℕ) where
 
   pub outcome-text : {t : Tree ors} → Text i s t → outcomeOf i s ≡ judgeList (listOf false t)
   unfolding outcomeOf
-  outcome-text {t} h = rw (le-leb (length s) 96 (h .short), reader-complete (issuedTo i) s t (text-spells h))
+  outcome-text {t} h = rw (le-leb (length s) mostBytes (h .short), reader-complete (issuedTo i) s t (text-spells h))
 
   pub data Judged : Outcome → Type 0 where
     formula : (t : Tree ors) → Text i s t → Judged (judgeList (listOf false t))
@@ -43,9 +43,9 @@ module _ (i : Issued) (s : List ℕ) where
 
   pub judged : Judged (outcomeOf i s)
   unfolding outcomeOf
-  judged = sized (leb (length s) 96) refl
+  judged = sized (leb (length s) mostBytes) refl
     where
-      read : length s ≤ 96 → (o : Option (Tree ors)) → readText (issuedTo i) s ≡ o → Judged (judge o)
+      read : length s ≤ mostBytes → (o : Option (Tree ors)) → readText (issuedTo i) s ≡ o → Judged (judge o)
       read l none e =
           none-such (λ t h.
           let r = reader-complete (issuedTo i) s t (text-spells h) in
@@ -53,9 +53,9 @@ module _ (i : Issued) (s : List ℕ) where
           omega arith)
       read l (some t) e = formula t (spells-text t (reader-sound (issuedTo i) s t e) l)
 
-      sized : (b : Bool) → leb (length s) 96 ≡ b → Judged (cond b (judge (readText (issuedTo i) s)) malformed)
-      sized true e = read (leb-true (length s) 96 e) (readText (issuedTo i) s) refl
-      sized false e = none-such (λ t h. let l : 96 < length s = leb-false (length s) 96 e in omega (arith, h .short))
+      sized : (b : Bool) → leb (length s) mostBytes ≡ b → Judged (cond b (judge (readText (issuedTo i) s)) malformed)
+      sized true e = read (leb-true (length s) mostBytes e) (readText (issuedTo i) s) refl
+      sized false e = none-such (λ t h. let l : mostBytes < length s = leb-false (length s) mostBytes e in omega (arith, h .short))
 
 -- what an outcome says of the list that was judged
 
@@ -83,8 +83,8 @@ module _ (t : Tree ors) where
   pub judged-fits : (o : Outcome) → judgeList (listOf false t) ≡ o → (o ≡ tooWide → ⊥) → fits false t ≡ true
   judged-fits o j n = never-false (fits false t) (λ f. n (sym j ∙ rw (list-wide f)))
 
-  pub judged-void : judgeList (listOf false t) ≡ unsatisfiable → fits false t ≡ true → products false t ≡ []
-  judged-void j f = go (products false t) (rw (list-fits f) at j)
+  pub judged-unsatisfiable : judgeList (listOf false t) ≡ unsatisfiable → fits false t ≡ true → products false t ≡ []
+  judged-unsatisfiable j f = go (products false t) (rw (list-fits f) at j)
     where
       go : (ps : Sum) → judgeList (some ps) ≡ unsatisfiable → ps ≡ []
       go [] e = refl

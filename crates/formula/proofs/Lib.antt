@@ -4,7 +4,7 @@ pub mod Nodes
 pub mod Judging
 pub mod Grammar
 pub mod Width
-pub mod Void
+pub mod Unsatisfiable
 pub mod Opening
 pub mod Examples
 pub mod Numerals

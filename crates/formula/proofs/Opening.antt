@@ -12,8 +12,8 @@ use Rattle.product.specs.declared.literal.Literal.{Literal}
 use Rattle.product.specs.declared.literal.Key.the-variants.{User, Thread, Segment, Defined}
 use Rattle.product.specs.Atom.{Atom, numberOf, atomOf}
 use Rattle.product.specs.Product.{All, no-more, and-more}
-use Rattle.product.specs.Sum.{Sum, opensAny, narrow, fitsNode}
-use Rattle.product.specs.Code.{Numbered}
+use Rattle.product.specs.Sum.{Sum, opensAny, mostProducts, mostLiterals, narrow, fitsNode}
+use Rattle.product.specs.Code.{numberLimit, Numbered}
 use Rattle.product.specs.Held.{opensSum}
 use Rattle.product.proofs.Truth.{and-both}
 use Rattle.product.proofs.Every.{all-mapped}
@@ -32,20 +32,20 @@ use Rattle.formula.proofs.Judging.{outcome-text, Judged, formula, none-
 
 -- the bounds
 
-narrow-short : (ps : Sum) → narrow ps ≡ true → All (λ p. length p ≤ 6) ps
+narrow-short : (ps : Sum) → narrow ps ≡ true → All (λ p. length p ≤ mostLiterals) ps
 unfolding narrow
 narrow-short [] h = no-more
 narrow-short (p ∷ ps) h =
-    let b = and-both (leb (length p) 6) (narrow ps) h in
-    and-more (leb-true (length p) 6 (b .0)) (narrow-short ps (b .1))
+    let b = and-both (leb (length p) mostLiterals) (narrow ps) h in
+    and-more (leb-true (length p) mostLiterals (b .0)) (narrow-short ps (b .1))
 
 issued-numbered : (i : Issued) (x : Literal) → issuedTo i (atomOf x) ≡ true → Numbered x
 unfolding issuedTo
 issued-numbered i x h =
-    let b = and-both (ltb (numberOf (atomOf x)) 65536) (ltb (numberOf (atomOf x)) (issuedOf i (atomOf x))) h in
-    ltb-true (numberOf (atomOf x)) 65536 (b .0)
+    let b = and-both (ltb (numberOf (atomOf x)) numberLimit) (ltb (numberOf (atomOf x)) (issuedOf i (atomOf x))) h in
+    ltb-true (numberOf (atomOf x)) numberLimit (b .0)
 
-all-kept : (i : Issued) {ps : Sum} → All (λ p. length p ≤ 6) ps → All Ordered ps
+all-kept : (i : Issued) {ps : Sum} → All (λ p. length p ≤ mostLiterals) ps → All Ordered ps
     → All (λ p. All (λ x. issuedTo i (atomOf x) ≡ true) p) ps → All Kept ps
 all-kept i no-more no-more no-more = no-more
 all-kept i (and-more {x = p} s r) (and-more o q) (and-more a t) =
@@ -58,10 +58,10 @@ products-bounded : (i : Issued) (t : Tree ors) → allIssued i t ≡ true → fi
 unfolding fitsNode
 products-bounded i t h f l =
     let ps = products false t in
-    let b = and-both (leb (length ps) 8) (narrow ps) (fits-node false t f) in
+    let b = and-both (leb (length ps) mostProducts) (narrow ps) (fits-node false t f) in
     record {
       filled = l;
-      few = leb-true (length ps) 8 (b .0);
+      few = leb-true (length ps) mostProducts (b .0);
       each = all-kept i (narrow-short ps (b .1)) (products-ordered false t) (products-atoms (issuedTo i) false t h);
     }
 
@@ -107,10 +107,10 @@ holds-spelt i s t h ρ =
 
 issued-everywhere : (i : Issued) (a : Atom) → issuedTo i a ≡ true → issuedTo everything a ≡ true
 unfolding issuedTo
-issued-everywhere i (User n) h = let b = and-both (ltb n 65536) (ltb n (i .users)) h in simp (b .0)
-issued-everywhere i (Thread n) h = let b = and-both (ltb n 65536) (ltb n (i .threads)) h in simp (b .0)
-issued-everywhere i (Segment n) h = let b = and-both (ltb n 65536) (ltb n (i .segments)) h in simp (b .0)
-issued-everywhere i (Defined n) h = let b = and-both (ltb n 65536) (ltb n (i .defined)) h in simp (b .0)
+issued-everywhere i (User n) h = let b = and-both (ltb n numberLimit) (ltb n (i .users)) h in simp (b .0)
+issued-everywhere i (Thread n) h = let b = and-both (ltb n numberLimit) (ltb n (i .threads)) h in simp (b .0)
+issued-everywhere i (Segment n) h = let b = and-both (ltb n numberLimit) (ltb n (i .segments)) h in simp (b .0)
+issued-everywhere i (Defined n) h = let b = and-both (ltb n numberLimit) (ltb n (i .defined)) h in simp (b .0)
 
 text-everywhere : (i : Issued) (s : List ℕ) (t : Tree ors) → Text i s t → Text everything s t
 text-everywhere i s t h =

@@ -15,7 +15,7 @@ use Rattle.product.specs.Atom.{Atom}
 use Rattle.product.proofs.Truth.{and-both, both-and}
 use Rattle.formula.specs.Tree.{Level, nots, ands, ors, Tree, atom, negate, bracket, factor, and, term, or, depth}
 use Rattle.formula.specs.Spelling.{decimal, spellAtom, spell}
-use Rattle.formula.specs.Text.{everyAtom}
+use Rattle.formula.specs.Text.{everyAtom, mostDeep}
 use Rattle.formula.specs.Reader.{digit, readNumber, Found, found, next, close, wholeOf, keep, named, readAtom, readNots, readBracket, readAnds, moreAnds, readOrs, moreOrs, readText}
 use Rattle.formula.proofs.Decimals.{number-read, number-spelt}
 
@@ -241,10 +241,10 @@ module _ (known : Atom → Bool) where
   -- the text as a whole
   pub record Spells (s : List ℕ) (t : Tree ors) : Type 0 where
     pub spelt : s ≡ spell t
-    pub shallow : depth t ≤ 8
+    pub shallow : depth t ≤ mostDeep
     pub known-atoms : everyAtom known t ≡ true
 
-  sound-whole : {s : List ℕ} {x : Found ors} (t : Tree ors) → Sound 8 s x → wholeOf x ≡ some t → Spells s t
+  sound-whole : {s : List ℕ} {x : Found ors} (t : Tree ors) → Sound mostDeep s x → wholeOf x ≡ some t → Spells s t
   sound-whole t nothing e = let z : _≡_ {A = ℕ} 0 1 = cc in absurd (omega arith)
   sound-whole {s} t (reads {t = u} {r} p d n) e = go r p (eqb (length r) 0) refl e
     where
@@ -262,12 +262,12 @@ module _ (known : Atom → Bool) where
   -- the reader answers a tree exactly where the text spells it
   pub reader-sound : (s : List ℕ) (t : Tree ors) → readText known s ≡ some t → Spells s t
   unfolding readText
-  reader-sound s t e = sound-whole t (sound-ors (4 * length s + 3) 8 s) e
+  reader-sound s t e = sound-whole t (sound-ors (4 * length s + 3) mostDeep s) e
 
   pub reader-complete : (s : List ℕ) (t : Tree ors) → Spells s t → readText known s ≡ some t
   unfolding readText
   reader-complete s t h =
       let a : s ≡ spell t ++ [] = h .spelt ∙ sym (append-nil (spell t)) in
-      let c = complete t 8 (4 * length (spell t ++ []) + 3) [] (h .shallow) (h .known-atoms) refl refl (omega arith) in
-      ap (λ (x : List ℕ). wholeOf (readOrs known (4 * length x + 3) 8 x)) a
-      ∙ ap wholeOf (c .2 ∙ ors-stop (c .0) 8 t [] (omega (arith, c .1)) refl)
+      let c = complete t mostDeep (4 * length (spell t ++ []) + 3) [] (h .shallow) (h .known-atoms) refl refl (omega arith) in
+      ap (λ (x : List ℕ). wholeOf (readOrs known (4 * length x + 3) mostDeep x)) a
+      ∙ ap wholeOf (c .2 ∙ ors-stop (c .0) mostDeep t [] (omega (arith, c .1)) refl)

@@ -55,8 +55,8 @@ shorter (reads {t} {r} p d n) = omega (arith, ap length p, length-append (spell 
 -- what was read
 
 -- by the answer's variant
-pub told : {odd : Bool} {s : List ℕ} {l : Level} {rows : List (List ℕ)} {r q : Read} {x : Found l} → r ≡ q → Reads odd s rows r x → Reads odd s rows q x
-told e p = rw e at p
+pub reads-as : {odd : Bool} {s : List ℕ} {l : Level} {rows : List (List ℕ)} {r q : Read} {x : Found l} → r ≡ q → Reads odd s rows r x → Reads odd s rows q x
+reads-as e p = rw e at p
 
 module _ (odd : Bool) (s : List ℕ) where
   next-failed : {l m : Level} {rows new : List (List ℕ)} {x : Found l} (g : Tree l → List ℕ → Found m) → Reads odd s rows Malformed x → Reads odd s new Malformed (next x g)
@@ -114,7 +114,7 @@ module _ (i : Issued) (s : List ℕ) (odd : Bool) (at : ℕ) {new : List (List �
   unfolding readNots
   inner level e d p g zero h = let z : ⊥ = omega arith in absurd z
   inner zero e d p g (suc f) h = absurd (e refl)
-  inner (suc k) {r} {rows = rows} e d p g (suc f) h = let o : OrAt i s k odd r rows at = rw (less-one k) at p in g _ (told d (o f (omega arith)))
+  inner (suc k) {r} {rows = rows} e d p g (suc f) h = let o : OrAt i s k odd r rows at = rw (less-one k) at p in g _ (reads-as d (o f (omega arith)))
 
   pub bracket-failed : (level : ℕ) {r : Read} {rows : List (List ℕ)} → (level ≡ 0 → ⊥) → r ≡ Malformed → OrAt i s (level - 1) odd r rows at → BracketAt i s level odd Malformed new at
   bracket-failed level e d p = inner level e d p (λ x q. next-failed odd s close q)
@@ -152,11 +152,11 @@ module _ {odd : Bool} {part whole : Level} {cost byte : ℕ} {join : Sum → Sum
   MoreAt r rows at n old = (t : Tree whole) → Written (listOf odd t) old n → (f : ℕ) → 4 * (length s - at) + (cost + 1) ≤ f → Reads odd s rows r (c .more f t (drop at s))
 
   pub chain-further : (at : ℕ) {r : Read} {a n : ℕ} {rows : List (List ℕ)} → r ≡ Node a n → PartAt r rows at → length s - a < length s - at
-  chain-further at e p = further odd s at (told e (p (4 * (length s - at) + cost) (omega arith))) (c .parts-shorter (4 * (length s - at) + cost) (drop at s))
+  chain-further at e p = further odd s at (reads-as e (p (4 * (length s - at) + cost) (omega arith))) (c .parts-shorter (4 * (length s - at) + cost) (drop at s))
 
   pub chain-failed : (at : ℕ) {r : Read} {rows new : List (List ℕ)} → r ≡ Malformed → PartAt r rows at → WholeAt Malformed new at
   chain-failed at e p zero h = let z : ⊥ = omega arith in absurd z
-  chain-failed at e p (suc f) h = rw (c .wholes-suc f (drop at s)) (next-failed odd s _ (told e (p f (omega arith))))
+  chain-failed at e p (suc f) h = rw (c .wholes-suc f (drop at s)) (next-failed odd s _ (reads-as e (p f (omega arith))))
 
   -- the first part, and what follows it
   begun : {a n : ℕ} {r : Read} {rows new : List (List ℕ)} {x : Found part} (f : ℕ) → 4 * (length s - a) + (cost + 1) ≤ f → Reads odd s rows (Node a n) x → MoreAt r new a n rows
@@ -167,7 +167,7 @@ module _ {odd : Bool} {part whole : Level} {cost byte : ℕ} {join : Sum → Sum
   chain-begun at e p m zero h = let z : ⊥ = omega arith in absurd z
   chain-begun at e p m (suc f) h =
       let g = chain-further at e p in
-      rw (c .wholes-suc f (drop at s)) (begun f (omega arith) (told e (p f (omega arith))) m)
+      rw (c .wholes-suc f (drop at s)) (begun f (omega arith) (reads-as e (p f (omega arith))) m)
 
   -- no further part
   pub chain-stop : {at n : ℕ} {rows : List (List ℕ)} → (getD s at 0 ≡ byte → ⊥) → MoreAt (Node at n) rows at n rows
@@ -179,7 +179,7 @@ module _ {odd : Bool} {part whole : Level} {cost byte : ℕ} {join : Sum → Sum
   chain-broken at b e p t k zero h = let z : ⊥ = omega arith in absurd z
   chain-broken at b e p t k (suc f) h =
       let i = inside s at byte (c .printable) b in
-      rw (c .more-suc f t (drop at s), head-drop at s 0, eq-eqb (getD s at 0) byte b, drop-drop 1 at s) (next-failed odd s _ (told e (p f (omega arith))))
+      rw (c .more-suc f t (drop at s), head-drop at s 0, eq-eqb (getD s at 0) byte b, drop-drop 1 at s) (next-failed odd s _ (reads-as e (p f (omega arith))))
 
   -- a further part, joined to what stands to its left
   grown : {a n m j : ℕ} {r : Read} {old right both new : List (List ℕ)} {x : Found part} (t : Tree whole) (f : ℕ) → 4 * (length s - a) + (cost + 1) ≤ f → Written (listOf odd t) old n → Reads odd s right (Node a m) x
@@ -194,7 +194,7 @@ module _ {odd : Bool} {part whole : Level} {cost byte : ℕ} {join : Sum → Sum
   chain-grown at b e p w m t k (suc f) h =
       let i = inside s at byte (c .printable) b in
       let g = chain-further (at + 1) e p in
-      rw (c .more-suc f t (drop at s), head-drop at s 0, eq-eqb (getD s at 0) byte b, drop-drop 1 at s) (grown t f (omega arith) k (told e (p f (omega arith))) w m)
+      rw (c .more-suc f t (drop at s), head-drop at s 0, eq-eqb (getD s at 0) byte b, drop-drop 1 at s) (grown t f (omega arith) k (reads-as e (p f (omega arith))) w m)
 
 -- the chains of AND and of OR
 

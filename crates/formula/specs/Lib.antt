@@ -7,7 +7,7 @@ pub mod Outcome
 pub mod Compiler
 pub mod Grammar
 pub mod Width
-pub mod Void
+pub mod Unsatisfiable
 pub mod Opening
 pub mod Examples
 pub mod Steps

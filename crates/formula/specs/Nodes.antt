@@ -1,4 +1,5 @@
--- The list of products of each node of a formula, and whether every node fits. Document 01, 'Lock text'. Assumes nothing.
+-- The list of products of each node of a formula, and whether every node fits. Document 01, 'Lock text'. Assumes
+-- nothing.
 use mathlib.Core.Bool.{Bool, true, false, not, cond, _&&_}
 use mathlib.Core.List.{[], _∷_}
 use mathlib.Core.Option.{none, some}
@@ -21,7 +22,7 @@ abbrev pub joinOr : Bool → Sum → Sum → Sum
 joinOr false ps qs = disjoin ps qs
 joinOr true ps qs = conjoin ps qs
 
--- the node's list of products
+-- document 01: the node's list of products
 unfoldable pub products : Bool → {l : Level} → Tree l → Sum
 products odd (atom a) = (literal odd a ∷ []) ∷ []
 products odd (negate t) = products (not odd) t
@@ -31,8 +32,9 @@ products odd (and t u) = joinAnd odd (products odd t) (products odd u)
 products odd (term t) = products odd t
 products odd (or t u) = joinOr odd (products odd t) (products odd u)
 
--- Every node from this one down fits. A node is judged on the list that it has where it stands, under its own number of NOTs. A key's list,
--- one product of one literal, always fits; a NOT's is that of what it stands before.
+-- Document 01: fits. Every node from this one down does. A node is judged on the list that it has where it stands,
+-- under its own number of NOTs. A key's list, one product of one literal, always fits; a NOT's is that of what it
+-- stands before.
 unfoldable pub fits : Bool → {l : Level} → Tree l → Bool
 fits odd (atom a) = true
 fits odd (negate t) = fits (not odd) t

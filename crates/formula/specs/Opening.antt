@@ -1,6 +1,6 @@
--- The opening law: document 01, 'Lock text'. A text is accepted exactly where it is in the grammar, every node fits and some key set makes
--- its formula true; its products are then its formula's, within the bounds, and a key set opens one of them exactly where it makes the
--- formula true. Proved in `proofs/Opening.antt`. Assumes nothing.
+-- The opening law: document 01, 'Lock text'. A text is accepted exactly where it is in the grammar, every node fits and
+-- some key set makes its formula true; its products are then its formula's, within the bounds, and a key set opens one
+-- of them exactly where it makes the formula true. Proved in `proofs/Opening.antt`. Assumes nothing.
 use mathlib.Core.Path.{_≡_}
 use mathlib.Core.Bool.{Bool, true, false}
 use mathlib.Core.List.{List}
@@ -38,8 +38,8 @@ AcceptedWhere =
     (i : Issued) (s : List ℕ) (t : Tree ors) → Text i s t → fits false t ≡ true → (ρ : Atom → Bool) → holds ρ t ≡ true
     → outcomeOf i s ≡ accepted (products false t)
 
--- What the laws of the compiler call the formula of a text: the tree that the reader finds, whatever keys were handed out. False of a text
--- that is no formula.
+-- What the laws of the compiler call the formula of a text: the tree that the reader finds, whatever keys were handed
+-- out. False of a text that is no formula.
 abbrev pub treeHolds : (Atom → Bool) → Option (Tree ors) → Bool
 treeHolds ρ none = false
 treeHolds ρ (some t) = holds ρ t

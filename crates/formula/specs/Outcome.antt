@@ -1,4 +1,5 @@
--- What compiling a formula text answers: its products, or a refusal. Document 01, 'Lock text' and refusals 11 to 13. Assumes nothing.
+-- What compiling a formula text answers: its products, or a refusal. Document 01, 'Lock text' and refusals 11 to 13.
+-- Assumes nothing.
 use mathlib.Core.Bool.{false, cond}
 use mathlib.Core.List.{List, [], _∷_, map}
 use mathlib.Core.Option.{Option, none, some}
@@ -17,6 +18,7 @@ use Rattle.formula.specs.Text.{issuedTo, mostBytes}
 use Rattle.formula.specs.Nodes.{listOf}
 use Rattle.formula.specs.Reader.{readText}
 
+-- document 01: accepted, misspelt, too wide, void
 pub data Outcome : Type 0 where
   accepted : Sum → Outcome
   malformed tooWide unsatisfiable : Outcome
@@ -35,14 +37,15 @@ judge (some t) = judgeList (listOf false t)
 unfoldable pub outcomeOf : Issued → List ℕ → Outcome
 outcomeOf i s = cond (leb (length s) mostBytes) (judge (readText (issuedTo i) s)) malformed
 
--- document 01's number of a refusal, misspelt, too wide or void; 0 of none
+-- document 01's number of a refusal; 0 of none
 abbrev pub refusalNumber : Verdict → ℕ
 refusalNumber Accepted = 0
 refusalNumber Malformed = 11
 refusalNumber TooWide = 12
 refusalNumber Unsatisfiable = 13
 
--- the answer in arrays, every place of it: the products' rows, and blank rows after them; of a refusal none but blank ones
+-- the answer in arrays, every place of it: the products' rows, and blank rows after them; of a refusal none but blank
+-- ones
 
 abbrev pub verdictOf : Outcome → Verdict
 verdictOf (accepted ps) = Accepted

@@ -1,5 +1,5 @@
--- The reader of formula texts, by document 01's 'Lock text'. There is nothing to believe here: it is proved to answer exactly the tree that a
--- text spells, and the theorems speak of texts and trees alone. Assumes nothing.
+-- The reader of formula texts, by document 01's 'Lock text'. There is nothing to believe here: it is proved to answer
+-- exactly the tree that a text spells, and the theorems speak of texts and trees alone. Assumes nothing.
 use mathlib.Core.Bool.{Bool, not, cond, _&&_}
 use mathlib.Core.List.{List, [], _∷_}
 use mathlib.Core.Option.{Option, none, some}
@@ -8,24 +8,26 @@ use lib.Dec.{leb, eqb}
 use lib.ListN.{length, getD, drop}
 use Rattle.product.specs.declared.literal.Key.the-variants.{User, Thread, Segment, Defined}
 use Rattle.product.specs.Atom.{Atom}
+use Rattle.formula.specs.Spelling.{digitZero, digitNine, letterU, letterR, letterS, letterD, notSign, andSign, orSign, opening, closing}
 use Rattle.formula.specs.Text.{mostDeep}
 use Rattle.formula.specs.Tree.{Level, nots, ands, ors, Tree, atom, negate, bracket, factor, and, term, or}
 
 -- numbers
 
 abbrev pub digit : ℕ → Bool
-digit b = leb 48 b && leb b 57
+digit b = leb digitZero b && leb b digitNine
 
 -- the digits in front, after those that make `sofar`, and what follows them
 unfoldable pub readDigits : ℕ → List ℕ → ℕ × List ℕ
 readDigits sofar [] = (sofar, [])
 readDigits sofar (b ∷ s) =
-    let more = readDigits (10 * sofar + (b - 48)) s in
+    let more = readDigits (10 * sofar + (b - digitZero)) s in
     cond (digit b) more (sofar, b ∷ s)
 
 -- a number in front: a digit, and no other after a 0
 unfoldable pub readNumber : List ℕ → Option (ℕ × List ℕ)
-readNumber s = cond (digit (getD s 0 0) && not (eqb (getD s 0 0) 48 && digit (getD s 1 0))) (some (readDigits 0 s)) none
+readNumber s =
+    cond (digit (getD s 0 0) && not (eqb (getD s 0 0) digitZero && digit (getD s 1 0))) (some (readDigits 0 s)) none
 
 -- trees
 
@@ -41,13 +43,14 @@ next none g = none
 next (some p) g = g (p .0) (p .1)
 
 abbrev pub close : Tree ors → List ℕ → Found nots
-close t r = cond (eqb (getD r 0 0) 41) (found (bracket t) (drop 1 r)) none
+close t r = cond (eqb (getD r 0 0) closing) (found (bracket t) (drop 1 r)) none
 
 -- the key of a letter and a number
 abbrev pub keyNamed : ℕ → ℕ → Option Atom
 keyNamed b n =
-    cond (eqb b 85) (some (User n))
-    (cond (eqb b 82) (some (Thread n)) (cond (eqb b 83) (some (Segment n)) (cond (eqb b 68) (some (Defined n)) none)))
+    cond (eqb b letterU) (some (User n))
+    (cond (eqb b letterR) (some (Thread n))
+    (cond (eqb b letterS) (some (Segment n)) (cond (eqb b letterD) (some (Defined n)) none)))
 
 -- the tree, where nothing is left of the text
 abbrev pub wholeOf : Found ors → Option (Tree ors)
@@ -74,7 +77,7 @@ module _ (known : Atom → Bool) where
     readNots (suc f) k s =
         let negated = next (readNots f k (drop 1 s)) (λ t r. found (negate t) r) in
         let bracketed = readBracket f k (drop 1 s) in
-        cond (eqb (getD s 0 0) 33) negated (cond (eqb (getD s 0 0) 40) bracketed (readAtom s))
+        cond (eqb (getD s 0 0) notSign) negated (cond (eqb (getD s 0 0) opening) bracketed (readAtom s))
 
     pub readBracket : ℕ → ℕ → List ℕ → Found nots
     readBracket zero k s = none
@@ -89,7 +92,7 @@ module _ (known : Atom → Bool) where
     moreAnds zero k t s = none
     moreAnds (suc f) k t s =
         let longer = next (readNots f k (drop 1 s)) (λ u r. moreAnds f k (and t u) r) in
-        cond (eqb (getD s 0 0) 38) longer (found t s)
+        cond (eqb (getD s 0 0) andSign) longer (found t s)
 
     pub readOrs : ℕ → ℕ → List ℕ → Found ors
     readOrs zero k s = none
@@ -99,7 +102,7 @@ module _ (known : Atom → Bool) where
     moreOrs zero k t s = none
     moreOrs (suc f) k t s =
         let longer = next (readAnds f k (drop 1 s)) (λ u r. moreOrs f k (or t u) r) in
-        cond (eqb (getD s 0 0) 124) longer (found t s)
+        cond (eqb (getD s 0 0) orSign) longer (found t s)
 
   -- the whole text, of which each byte costs at most four calls, with all its brackets to be opened
   unfoldable pub readText : List ℕ → Option (Tree ors)

@@ -1,5 +1,6 @@
--- What the crate's private functions promise each other. Nothing here is part of what a reader must believe.
--- The readers' promise: their answer is that of the reader of lists, with the tree's products in the rows in place of the tree.
+-- What the crate's private functions promise each other. Nothing here is part of what a reader must believe. The
+-- readers' promise: their answer is that of the reader of lists, with the tree's products in the rows in place of the
+-- tree.
 use mathlib.Core.Path.{_≡_}
 use mathlib.Core.Bool.{Bool, _&&_}
 use mathlib.Core.List.{List, [], _∷_, map}
@@ -8,6 +9,7 @@ use Prim.Native.Nat.{ℕ, _+_, _*_, _-_, _≤_, _<_}
 use lib.Dec.{ltb}
 use lib.ListN.{length, getD, drop}
 use Rattle.product.specs.Atom.{Atom}
+use Rattle.product.specs.Code.{numberLimit}
 use Rattle.product.specs.Cells.{rowsOf, Written}
 use Rattle.formula.specs.declared.text.Issued.{Issued}
 use Rattle.formula.specs.declared.text.Row.{Row}
@@ -25,15 +27,19 @@ use Rattle.formula.specs.Nodes.{listOf}
 use Rattle.formula.specs.Reader.{Found, readAtom, readNots, readBracket, readAnds, moreAnds, readOrs, moreOrs}
 use Rattle.formula.specs.Outcome.{rowWith}
 
+-- the largest number of 16 bits
+abbrev pub mostNumber : ℕ
+mostNumber = 65535
+
 -- a number, of what was read: nothing, one of more than 16 bits, or one and the place after it
 pub data NumberReads (s : List ℕ) : Numeral → Option (ℕ × List ℕ) → Type 0 where
   no-digits : NumberReads s Missing none
-  too-large : {p : ℕ × List ℕ} → 65535 < p .0 → NumberReads s Missing (some p)
+  too-large : {p : ℕ × List ℕ} → mostNumber < p .0 → NumberReads s Missing (some p)
   number : {n at : ℕ} → NumberReads s (Value n at) (some (n, drop at s))
 
 -- a key's number is one of 16 bits, and handed out
 abbrev pub below : ℕ → ℕ → Bool
-below n count = ltb n 65536 && ltb n count
+below n count = ltb n numberLimit && ltb n count
 
 -- an optional key as the code answers it
 abbrev pub lookupOf : Option Atom → Lookup
@@ -43,7 +49,8 @@ lookupOf (some a) = Named a
 -- an answer and rows, of what was read: nothing, or a tree's products and the place after it
 pub data Reads (odd : Bool) (s : List ℕ) {l : Level} (rows : List (List ℕ)) : Read → Found l → Type 0 where
   failed : Reads odd s rows Malformed none
-  parsed : {t : Tree l} {rest : List ℕ} {at n : ℕ} → rest ≡ drop at s → Written (listOf odd t) rows n → Reads odd s rows (Node at n) (some (t, rest))
+  parsed : {t : Tree l} {rest : List ℕ} {at n : ℕ} → rest ≡ drop at s → Written (listOf odd t) rows n
+      → Reads odd s rows (Node at n) (some (t, rest))
 
 -- Each promise holds at any fuel that is enough for the bytes that remain.
 module _ (i : Issued) (s : List ℕ) (level : ℕ) (odd : Bool) (r : Read) (rows : List (List ℕ)) where
@@ -51,7 +58,8 @@ module _ (i : Issued) (s : List ℕ) (level : ℕ) (odd : Bool) (r : Read) (rows
   NotAt at = (f : ℕ) → 4 * (length s - at) + 1 ≤ f → Reads odd s rows r (readNots (issuedTo i) f level (drop at s))
 
   abbrev pub BracketAt : ℕ → Type 0
-  BracketAt at = (f : ℕ) → 4 * (length s - at) + 4 ≤ f → Reads odd s rows r (readBracket (issuedTo i) f level (drop at s))
+  BracketAt at =
+      (f : ℕ) → 4 * (length s - at) + 4 ≤ f → Reads odd s rows r (readBracket (issuedTo i) f level (drop at s))
 
   abbrev pub AndAt : ℕ → Type 0
   AndAt at = (f : ℕ) → 4 * (length s - at) + 2 ≤ f → Reads odd s rows r (readAnds (issuedTo i) f level (drop at s))

@@ -1,4 +1,5 @@
--- Which texts are in the grammar, and as which formula. Document 01, 'Keys', 'Lock text' and refusal 11. Assumes nothing.
+-- Which texts are in the grammar, and as which formula. Document 01, 'Keys', 'Lock text' and refusal 11. Assumes
+-- nothing.
 use mathlib.Core.Path.{_≡_}
 use mathlib.Core.Bool.{Bool, true, _&&_}
 use mathlib.Core.List.{List}
@@ -43,7 +44,7 @@ mostBytes = 96
 abbrev pub mostDeep : ℕ
 mostDeep = 8
 
--- s is in the grammar, as the formula t, and every key in it was handed out
+-- Document 01: lock text. s is in the grammar, as the formula t, and every key in it was handed out
 pub record Text (i : Issued) (s : List ℕ) (t : Tree ors) : Type 0 where
   pub spelt : s ≡ spell t
   pub size : 1 ≤ length s

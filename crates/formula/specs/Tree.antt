@@ -3,12 +3,13 @@ use mathlib.Core.Bool.{Bool, not, _&&_, _||_}
 use Prim.Native.Nat.{ℕ, suc, max}
 use Rattle.product.specs.Atom.{Atom}
 
--- How tightly a formula binds: `nots` a key, a bracket or a NOT; `ands` such, joined by AND; `ors` a whole formula, those joined by OR.
+-- How tightly a formula binds: `nots` a key, a bracket or a NOT; `ands` such, joined by AND; `ors` a whole formula,
+-- those joined by OR.
 pub data Level : Type 0 where
   nots ands ors : Level
 
--- NOT stands before a key, a bracket or another NOT, and binds tightest; then AND, then OR, both grouping to the left. A bracket holds a
--- whole formula again.
+-- Document 01: formula. NOT stands before a key, a bracket or another NOT, and binds tightest; then AND, then OR, both
+-- grouping to the left. A bracket holds a whole formula again.
 pub data Tree : Level → Type 0 where
   atom : Atom → Tree nots
   negate : Tree nots → Tree nots

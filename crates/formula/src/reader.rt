@@ -1,5 +1,6 @@
-// The readers of formula texts: OR, AND, NOT and bracket call each other, and each leaves the node's list of products in rows that the
-// caller lends. `odd` says that the node stands under an odd number of NOTs; `level` is how many brackets may still be opened.
+// The readers of formula texts: OR, AND, NOT and bracket call each other, and each leaves the node's list of products
+// in rows that the caller lends. `odd` says that the node stands under an odd number of NOTs; `level` is how many
+// brackets may still be opened.
 ghost use mathlib.Core.Path.{_≡_};
 ghost use Rattle.product.specs.Sum.{joined};
 ghost use Rattle.product.specs.Cells.{sumOf, Written};
@@ -16,7 +17,7 @@ use product::literal::Literal;
 use product::sum;
 use product::sum::Rows;
 
-// A formula that was read, by the place after it and how many products it has; or nothing.
+// Document 01: node. A formula that was read, by the place after it and how many products its list has; or nothing.
 pub(crate) enum Read {
     Malformed,
     Node(usize, usize),
@@ -227,7 +228,8 @@ fn is_issued(k: Key, issued: Issued) -> bool
 
 // The left sum, which is the first n rows, joined with the right one: as an OR's or as an AND's.
 fn join(or: bool, rows: &mut Rows, n: usize, right: &Rows, m: usize) -> usize
-    ensures { λ r. ⌜ Written (joined (joinAnd or) (sumOf n (now (rows .entry))) (sumOf m (now (right .entry)))) (now (rows .exit)) r ⌝ }
+    ensures { λ r. ⌜ Written
+        (joined (joinAnd or) (sumOf n (now (rows .entry))) (sumOf m (now (right .entry)))) (now (rows .exit)) r ⌝ }
 {
     let left = *rows;
     if or {

@@ -1,4 +1,4 @@
-// From a formula text to its products.
+// From a formula text (document 01: lock text) to its products.
 ghost use mathlib.Core.Path.{_≡_};
 ghost use Rattle.formula.specs.Outcome.{refusalNumber, compiledOf};
 ghost use Rattle.formula.specs.Steps.{refusedOf, eightRows};
@@ -7,7 +7,7 @@ use crate::reader::read_or;
 use product::sum::MOST_PRODUCTS;
 use product::sum::Rows;
 
-// How many keys of each kind were handed out.
+// How many keys of each kind were handed out: users, runs, segments and D keys.
 pub struct Issued {
     pub users: u32,
     pub threads: u32,
@@ -23,19 +23,19 @@ pub enum Verdict {
     Unsatisfiable,
 }
 
-// A product: a row of 8 cells, as `product` lays them out.
+// Document 01: product. A row of 8 cells, as `product` lays them out.
 pub struct Row {
     pub cells: [u32; 8],
 }
 
-// The products' rows and how many they are; of a refusal none, and blank rows.
+// Document 01: the whole formula's list of products, as rows, and how many they are; of a refusal none, and blank rows.
 pub struct Compiled {
     pub verdict: Verdict,
     pub count: usize,
     pub rows: [Row; 8],
 }
 
-// The most bytes of a text, and the most brackets within brackets.
+// Document 01: 1 to 96 bytes, brackets at most 8 deep.
 const MOST_BYTES: usize = 96;
 
 const MOST_DEEP: usize = 8;

@@ -50,13 +50,13 @@ issued-is d = issued-made (d .registry) (d .makers) (length-each (segmentIn d) 0
 pub record Judged (o : Outcome) (n : ℕ) : Type 0 where
   pub malformed : isMalformed o ≡ eqb n 11
   pub wide : isTooWide o ≡ eqb n 12
-  pub void : isUnsatisfiable o ≡ eqb n 13
+  pub unsatisfiable : isUnsatisfiable o ≡ eqb n 13
 
 judged-so : (o : Outcome) → Judged o (refusalNumber (verdictOf o))
-judged-so (accepted ps) = record { malformed = refl; wide = refl; void = refl }
-judged-so malformed = record { malformed = refl; wide = refl; void = refl }
-judged-so tooWide = record { malformed = refl; wide = refl; void = refl }
-judged-so unsatisfiable = record { malformed = refl; wide = refl; void = refl }
+judged-so (accepted ps) = record { malformed = refl; wide = refl; unsatisfiable = refl }
+judged-so malformed = record { malformed = refl; wide = refl; unsatisfiable = refl }
+judged-so tooWide = record { malformed = refl; wide = refl; unsatisfiable = refl }
+judged-so unsatisfiable = record { malformed = refl; wide = refl; unsatisfiable = refl }
 
 pub judged : (o : Outcome) {v : Verdict} → verdictOf o ≡ v → Judged o (refusalNumber v)
 judged o e = subst (λ (v : Verdict). Judged o (refusalNumber v)) e (judged-so o)

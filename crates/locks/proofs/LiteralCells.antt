@@ -18,7 +18,7 @@ use Rattle.formula.specs.Compiler.{Kept}
 use Rattle.model.specs.Lists.{each}
 use Rattle.model.specs.Cells.{Row, cell, keyCell, barredBy, literalCell, head, productRow}
 use Rattle.model.proofs.Lists.{caseBool, each-suc, each-same}
-use Rattle.locks.specs.Steps.{Below, SizeOf, codeIn, rowFrom}
+use Rattle.locks.specs.Steps.{Below, SizeOf, cellIn, rowFrom}
 
 -- ---- what the code makes
 
@@ -29,16 +29,16 @@ pub barred-cell : {k : Key} {l : Literal} {a b : ℕ} → l ≡ Barred k → Bel
 barred-cell e a b = ap₂ (λ (x y : ℕ). x + y) (a .is) (b .is) ∙ ap literalCell (sym e)
 
 module _ (w : Row) (n : ℕ) where
-  pub no-code : (i : ℕ) → n ≤ i → 0 ≡ codeIn n w i
-  unfolding codeIn
-  no-code i h = simp (le-ltb i n h)
+  pub no-cell : (i : ℕ) → n ≤ i → 0 ≡ cellIn n w i
+  unfolding cellIn
+  no-cell i h = simp (le-ltb i n h)
 
-  pub a-code : (i : ℕ) {l : Literal} {r : ℕ} → i < n → l ≡ literalOf (cell w i) → r ≡ literalCell l → r ≡ codeIn n w i
-  unfolding codeIn
-  a-code i h e q = q ∙ ap literalCell e ∙ simp (lt-ltb i n h)
+  pub a-cell : (i : ℕ) {l : Literal} {r : ℕ} → i < n → l ≡ literalOf (cell w i) → r ≡ literalCell l → r ≡ cellIn n w i
+  unfolding cellIn
+  a-cell i h e q = q ∙ ap literalCell e ∙ simp (lt-ltb i n h)
 
-  pub row-made : (lock operations : ℕ) {a b c d e f : ℕ} → SizeOf (cell w 7) n → a ≡ codeIn n w 0 → b ≡ codeIn n w 1 → c ≡ codeIn n w 2
-      → d ≡ codeIn n w 3 → e ≡ codeIn n w 4 → f ≡ codeIn n w 5
+  pub row-made : (lock operations : ℕ) {a b c d e f : ℕ} → SizeOf (cell w 7) n → a ≡ cellIn n w 0 → b ≡ cellIn n w 1 → c ≡ cellIn n w 2
+      → d ≡ cellIn n w 3 → e ≡ cellIn n w 4 → f ≡ cellIn n w 5
       → (lock * 65536 + n * 16 + operations) ∷ a ∷ b ∷ c ∷ d ∷ e ∷ f ∷ 0 ∷ [] ≡ rowFrom lock operations w
   unfolding rowFrom
   row-made lock operations z p q r s t u = rw (p, q, r, s, t, u, z .size)
@@ -62,29 +62,29 @@ ltb-suc i n =
     (λ e. let l = ltb-true i n e in lt-ltb (suc i) (suc n) (omega arith) ∙ sym e)
     (λ e. let l = ltb-false i n e in le-ltb (suc i) (suc n) (omega arith) ∙ sym e)
 
-codes-stored : (p : Product) (rest : Row) (k : ℕ) → All Numbered p → length p ≤ k
-    → each (codeIn (length p) (map codeOf p ++ rest)) 0 k ≡ map literalCell p ++ replicate (k - length p) 0
-unfolding codeIn
-codes-stored [] rest k no-more h = let e : k - 0 ≡ k = omega arith in blanks (codeIn 0 rest) (λ i. simp (le-ltb i 0 (omega arith))) 0 k ∙ rw e
-codes-stored (x ∷ p) rest zero (and-more y all) h = absurd (omega arith)
-codes-stored (x ∷ p) rest (suc k) (and-more y all) h =
+literals-stored : (p : Product) (rest : Row) (k : ℕ) → All Numbered p → length p ≤ k
+    → each (cellIn (length p) (map codeOf p ++ rest)) 0 k ≡ map literalCell p ++ replicate (k - length p) 0
+unfolding cellIn
+literals-stored [] rest k no-more h = let e : k - 0 ≡ k = omega arith in blanks (cellIn 0 rest) (λ i. simp (le-ltb i 0 (omega arith))) 0 k ∙ rw e
+literals-stored (x ∷ p) rest zero (and-more y all) h = absurd (omega arith)
+literals-stored (x ∷ p) rest (suc k) (and-more y all) h =
     let n : ℕ = length p in
     let w : Row = map codeOf p ++ rest in
-    let here : codeIn (suc n) (codeOf x ∷ w) 0 ≡ literalCell x = simp (lt-ltb 0 (suc n) (omega arith)) (ap literalCell (literal-back x y)) in
-    let shift : each (codeIn (suc n) (codeOf x ∷ w)) 1 k ≡ each (codeIn n w) 0 k =
-    each-suc (codeIn (suc n) (codeOf x ∷ w)) 0 k
-    ∙ each-same (λ j. codeIn (suc n) (codeOf x ∷ w) (suc j)) (codeIn n w) 0 k (λ j low high. rw (ltb-suc j n)) in
+    let here : cellIn (suc n) (codeOf x ∷ w) 0 ≡ literalCell x = simp (lt-ltb 0 (suc n) (omega arith)) (ap literalCell (literal-back x y)) in
+    let shift : each (cellIn (suc n) (codeOf x ∷ w)) 1 k ≡ each (cellIn n w) 0 k =
+    each-suc (cellIn (suc n) (codeOf x ∷ w)) 0 k
+    ∙ each-same (λ j. cellIn (suc n) (codeOf x ∷ w) (suc j)) (cellIn n w) 0 k (λ j low high. rw (ltb-suc j n)) in
     let left : suc k - suc n ≡ k - n = omega arith in
-    ap₂ (λ (c : ℕ) (cs : Row). c ∷ cs) here (shift ∙ codes-stored p rest k all (omega arith) ∙ rw left)
+    ap₂ (λ (c : ℕ) (cs : Row). c ∷ cs) here (shift ∙ literals-stored p rest k all (omega arith) ∙ rw left)
 
 -- six cells of literals, and one that is always 0
 cells-stored : (p : Product) (rest : Row) → All Numbered p → length p ≤ 6
-    → each (codeIn (length p) (map codeOf p ++ rest)) 0 6 ++ 0 ∷ [] ≡ map literalCell p ++ replicate (7 - length p) 0
+    → each (cellIn (length p) (map codeOf p ++ rest)) 0 6 ++ 0 ∷ [] ≡ map literalCell p ++ replicate (7 - length p) 0
 cells-stored p rest all short =
     let one : 6 - length p + 1 ≡ 7 - length p = omega arith in
     let zeros : _≡_ {A = Row} (replicate (6 - length p) 0 ++ 0 ∷ []) (replicate (7 - length p) 0) =
     replicate-append-replicate (6 - length p) 1 0 ∙ ap (λ (k : ℕ). replicate k 0) one in
-    ap (λ (cs : Row). cs ++ 0 ∷ []) (codes-stored p rest 6 all short)
+    ap (λ (cs : Row). cs ++ 0 ∷ []) (literals-stored p rest 6 all short)
     ∙ append-assoc (map literalCell p) (replicate (6 - length p) 0) (0 ∷ [])
     ∙ ap (λ (cs : Row). map literalCell p ++ cs) zeros
 

@@ -10,7 +10,7 @@ use Rattle.product.specs.Sum.{mostLiterals}
 use Rattle.product.specs.Code.{literalOf}
 use Rattle.product.specs.Cells.{sizeOf}
 use Rattle.formula.specs.declared.text.Issued.{Issued}
-use Rattle.formula.specs.declared.text.Verdict.the-variants.{Accepted as Fine, Malformed as Misspelt, TooWide as Wide, Unsatisfiable as Void}
+use Rattle.formula.specs.declared.text.Verdict.the-variants.{Accepted as AcceptedText, Malformed as MalformedText, TooWide as TooWideText, Unsatisfiable as UnsatisfiableText}
 use Rattle.formula.specs.declared.text.Row.{Row as Compiled·Row}
 use Rattle.formula.specs.declared.text.Compiled.{Compiled}
 use Rattle.formula.specs.Outcome.{rowWith}
@@ -76,11 +76,11 @@ pub record SizeOf (count r : ℕ) : Type 0 where
   pub low : r ≤ mostLiterals
 
 -- cell i of n literals, of the compiler's cells
-unfoldable pub codeIn : ℕ → Row → ℕ → ℕ
-codeIn n w i = cond (ltb i n) (literalCell (literalOf (cell w i))) 0
+unfoldable pub cellIn : ℕ → Row → ℕ → ℕ
+cellIn n w i = cond (ltb i n) (literalCell (literalOf (cell w i))) 0
 
 unfoldable pub rowFrom : ℕ → ℕ → Row → Row
-rowFrom lock operations w = let n = sizeOf w in head lock n operations ∷ each (codeIn n w) 0 6 ++ 0 ∷ []
+rowFrom lock operations w = let n = sizeOf w in head lock n operations ∷ each (cellIn n w) 0 6 ++ 0 ∷ []
 
 -- ---- the rows of a lock
 
@@ -100,7 +100,8 @@ issuedIn w makers =
     }
 
 unfoldable pub isFull : Row → Table → ℕ → Bool
-isFull registry t count = passes mostStanding (length (usedRows t) + count) || passes mostNumbers (suc (cell registry lockCount))
+isFull registry t count =
+    passes mostStanding (length (usedRows t) + count) || passes mostNumbers (suc (cell registry lockCount))
 
 -- a compiled lock is stored, or would pass a limit
 pub data LockStored (registry : Row) (t : Table) (operations : ℕ) (x : Compiled) : Answer → Row → Table → Type 0 where
@@ -111,8 +112,10 @@ pub data LockStored (registry : Row) (t : Table) (operations : ℕ) (x : Compile
 
 -- the refusal of a text, or its lock is stored
 pub data LockJudged (registry : Row) (t : Table) (operations : ℕ) (x : Compiled) : Answer → Row → Table → Type 0 where
-  misspelt : x .verdict ≡ Misspelt → LockJudged registry t operations x (Refused Malformed) registry t
-  wide : x .verdict ≡ Wide → LockJudged registry t operations x (Refused TooWide) registry t
-  void : x .verdict ≡ Void → LockJudged registry t operations x (Refused Unsatisfiable) registry t
-  fine : {r : Answer} {registry′ : Row} {t′ : Table} → x .verdict ≡ Fine → LockStored registry t operations x r registry′ t′
+  malformed-text : x .verdict ≡ MalformedText → LockJudged registry t operations x (Refused Malformed) registry t
+  wide-text : x .verdict ≡ TooWideText → LockJudged registry t operations x (Refused TooWide) registry t
+  unsatisfiable-text : x .verdict ≡ UnsatisfiableText
+      → LockJudged registry t operations x (Refused Unsatisfiable) registry t
+  accepted-text : {r : Answer} {registry′ : Row} {t′ : Table} → x .verdict ≡ AcceptedText
+      → LockStored registry t operations x r registry′ t′
       → LockJudged registry t operations x r registry′ t′

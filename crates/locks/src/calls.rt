@@ -36,7 +36,7 @@ const MOST_STANDING: usize = 8;
 // Lock numbers that are handed out.
 const MOST_NUMBERS: u32 = 65536;
 
-// L, add lock.
+// L, add lock. The answer is the lock number.
 pub fn add_lock(
     registry: &mut Registry,
     makers: &Makers,
@@ -75,7 +75,7 @@ pub fn add_lock(
     judge_lock(registry, &mut locks[s], operations, compiled)
 }
 
-// The keys that a text may name.
+// The keys that a text may name: those handed out.
 fn issued(registry: &Registry, makers: &[u16]) -> Issued
     ensures { λ r. ⌜ r ≡ issuedIn (now (registry .entry)) (now (makers .entry)) ⌝ }
 {
@@ -99,7 +99,8 @@ fn judge_lock(
     compiled: Compiled,
 ) -> Answer
     requires { ⌜ operations < 16 ⌝ }
-    ensures { λ r. ⌜ LockJudged (now (registry .entry)) (now (products .entry)) operations compiled r (now (registry .exit)) (now (products .exit)) ⌝ }
+    ensures { λ r. ⌜ LockJudged (now (registry .entry)) (now (products .entry)) operations compiled r
+        (now (registry .exit)) (now (products .exit)) ⌝ }
 {
     let verdict = compiled.verdict;
     match verdict {
@@ -118,7 +119,8 @@ fn store_lock(
     compiled: Compiled,
 ) -> Answer
     requires { ⌜ operations < 16 ⌝ }
-    ensures { λ r. ⌜ LockStored (now (registry .entry)) (now (products .entry)) operations compiled r (now (registry .exit)) (now (products .exit)) ⌝ }
+    ensures { λ r. ⌜ LockStored (now (registry .entry)) (now (products .entry)) operations compiled r
+        (now (registry .exit)) (now (products .exit)) ⌝ }
 {
     let from = used(products);
     let count = compiled.count;
@@ -134,7 +136,7 @@ fn store_lock(
     Answer::Accepted(lock as u16)
 }
 
-// D, drop lock.
+// D, drop lock. The answer is how many products were removed.
 pub fn drop_lock(
     registry: &Registry,
     segments: &Segments,

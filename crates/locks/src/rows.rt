@@ -1,10 +1,11 @@
-// The product rows of one segment: the used ones are those before the first that begins with 0.
+// The product rows of one segment's standing locks, each with its lock number: the used ones are those before the first
+// that begins with 0.
 ghost use mathlib.Core.Path.{_≡_};
 ghost use Prim.Native.Nat.{_+_, _≤_, _<_};
 ghost use lib.ListN.{length};
 ghost use Rattle.model.specs.Cells.{endRows, storeRows};
 ghost use Rattle.locks.specs.Steps.{UsedCount, hasRow, HomeFound, ClosedUp, Dropped, rowsFrom};
-use crate::codes::product_row;
+use crate::cells::product_row;
 use formula::text::Compiled;
 use model::arrays::LOCK_UNIT;
 use model::arrays::Locks;
@@ -85,7 +86,8 @@ pub(crate) fn add_rows(
     compiled: Compiled,
 )
     requires { ⌜ (from + compiled .count ≤ 8) × (operations < 16) ⌝ }
-    ensures { λ _. ⌜ now (products .exit) ≡ storeRows from (rowsFrom lock operations compiled) (now (products .entry)) ⌝ }
+    ensures { λ _. ⌜ now (products .exit)
+        ≡ storeRows from (rowsFrom lock operations compiled) (now (products .entry)) ⌝ }
 {
     let count = compiled.count;
     let rows = compiled.rows;

@@ -16,11 +16,11 @@ use Rattle.formula.specs.Text.{Text}
 use Rattle.formula.specs.Nodes.{products, fits}
 use Rattle.formula.specs.Outcome.{Outcome, accepted, malformed, tooWide, unsatisfiable, outcomeOf, sumIn}
 use Rattle.formula.specs.Opening.{textHolds}
-use Rattle.formula.specs.Void.{Never}
+use Rattle.formula.specs.Unsatisfiable.{Never}
 use Rattle.formula.proofs.Grammar.{malformed-exactly, unambiguous}
 use Rattle.formula.proofs.Width.{too-wide-exactly}
 use Rattle.formula.proofs.Opening.{opening-law, accepted-where}
-use Rattle.formula.proofs.Void.{unsatisfiable-exactly}
+use Rattle.formula.proofs.Unsatisfiable.{unsatisfiable-exactly}
 use Rattle.call.specs.declared.request.Request.the-variants.{AddLock}
 use Rattle.call.specs.declared.request.Decoded.the-variants.{WellFormed}
 use Rattle.call.specs.Calls.{Call, decoded}

@@ -14,7 +14,7 @@ use Rattle.formula.specs.Text.{Text}
 use Rattle.formula.specs.Nodes.{products, fits}
 use Rattle.formula.specs.Outcome.{outcomeOf}
 use Rattle.formula.specs.Width.{Wide}
-use Rattle.formula.specs.Void.{Never}
+use Rattle.formula.specs.Unsatisfiable.{Never}
 use Rattle.call.specs.declared.request.Request.the-variants.{AddLock}
 use Rattle.call.specs.declared.request.Decoded.the-variants.{WellFormed}
 use Rattle.call.specs.Calls.{Call, decoded}

@@ -119,13 +119,13 @@ module _ {rows : List (List ℕ)} {n : ℕ} (h : n ≤ 8) (c : Clean rows n) whe
   pub clean-count : length (productsOf n rows) ≡ n
   clean-count = length-part productOf rows n (omega (arith, clean-length))
 
--- a loop that looks for a row among clean ones: what is left at i, and at the end
-module _ {rows : List (List ℕ)} {n : ℕ} {row : List ℕ} (c : (n ≤ 8) × (Clean rows n) × (row ≡ rowOf (productOf row))) (i : ℕ) where
+-- a loop that looks for a product among the first n rows: what is left at i, and at the end
+module _ (rows : List (List ℕ)) (n : ℕ) (c : n ≤ length rows) (i : ℕ) where
   pub present-next : i < n → drop i (productsOf n rows) ≡ productOf (getD rows i []) ∷ drop (i + 1) (productsOf n rows)
-  present-next h = part-cons productOf rows n (omega (arith, c .0, clean-length (c .0) (c .1))) i [] h
+  present-next h = part-cons productOf rows n c i [] h
 
   pub present-past : n ≤ i → drop i (productsOf n rows) ≡ []
-  present-past h = part-past productOf rows n (omega (arith, c .0, clean-length (c .0) (c .1))) i h
+  present-past h = part-past productOf rows n c i h
 
 -- adding one product: the ways that `add` returns
 
@@ -190,10 +190,6 @@ module _ {rows : List (List ℕ)} {n : ℕ} (h : n ≤ 8) (c : Clean rows n) (p 
         };
         reads = sum-few {n = n + 1} (set rows n row) (omega arith) ∙ rw t (sym (grown a b ∙ rw (le-leb (n + 1) 8 (omega arith), le-leb (length p) 6 s)));
       }
-
--- the row of a product is the cells of its product
-pub row-clean : {p : Product} {row : List ℕ} → Row p row → row ≡ rowOf (productOf row)
-row-clean r = r .cells ∙ ap rowOf (sym (r .product))
 
 -- a finished sum
 pub finished : {rows : List (List ℕ)} {n : ℕ} → Clean rows n → n ≤ 8 → Written (sumOf n rows) rows n

@@ -11,3 +11,4 @@ pub mod Widening
 pub mod Filling
 pub mod Storing
 pub mod Asking
+pub mod Examples

@@ -1,6 +1,6 @@
--- Atoms, which are the keys, their order, and literals. Document 01, 'Keys' and 'Lock text'. Assumes nothing.
--- Products, sums, trees and nodes use only how two atoms compare, and that only equal ones compare as Equal, so that an atom can become
--- something else than a key; how it is spelt, numbered and handed out is said elsewhere.
+-- Atoms, which are the keys, their order, and literals. Document 01, 'Keys' and 'Lock text'. Assumes nothing. Products,
+-- sums, trees and nodes use only how two atoms compare, and that only equal ones compare as Equal, so that an atom can
+-- become something else than a key; how it is spelt, numbered and handed out is said elsewhere.
 use mathlib.Core.Bool.{Bool, true, false, not}
 use Prim.Native.Nat.{ℕ}
 use lib.Dec.{ltb, eqb}
@@ -9,6 +9,7 @@ use Rattle.product.specs.declared.literal.Key.the-variants.{User, Thread
 use Rattle.product.specs.declared.literal.Literal.{Literal}
 use Rattle.product.specs.declared.literal.Literal.the-variants.{Plain, Barred}
 
+-- document 01: key
 abbrev pub Atom : Type 0
 Atom = Key
 

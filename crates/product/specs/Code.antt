@@ -1,5 +1,6 @@
--- A literal as one number: twice the key's number, and 1 where it is barred. A key's number is 65,536 for each kind before its own, and
--- its own number. So literals compare as their numbers do. Assumes nothing.
+-- The number that a cell of a row holds of a literal: twice the key's, and 1 more where it is barred. The key's is
+-- 65,536 for each kind before its own, and its own number. Literals are compared, joined and asked as literals; a row
+-- alone has numbers. Assumes nothing.
 use mathlib.Core.Path.{_≡_}
 use mathlib.Core.Bool.{cond}
 use Prim.Native.Nat.{ℕ, _+_, _*_, _-_, _/_, _%_, _<_}
@@ -13,6 +14,10 @@ use Rattle.product.specs.Atom.{kindOf, numberOf, atomOf, signOf}
 -- document 01: a 16-bit number
 abbrev pub numberLimit : ℕ
 numberLimit = 65536
+
+-- how many keys there are, of four kinds
+abbrev pub keyLimit : ℕ
+keyLimit = 262144
 
 unfoldable pub keyCode : Key → ℕ
 keyCode k = numberLimit * kindOf k + numberOf k
@@ -30,8 +35,9 @@ keyAt c =
 unfoldable pub literalAt : ℕ → Literal
 literalAt x = cond (eqb (x % 2) 0) (Plain (keyAt (x / 2))) (Barred (keyAt (x / 2)))
 
--- The literals of 16-bit keys have the numbers below this. The code reads any number as one of these; `literalAt` differs from that only
--- beyond the limit, where it gives keys of more than 16 bits, so that different numbers stand for different literals.
+-- The literals of 16-bit keys have the numbers below this. The code reads any number as one of these; `literalAt`
+-- differs from that only beyond the limit, where it gives keys of more than 16 bits, so that different numbers stand
+-- for different literals.
 abbrev pub codeLimit : ℕ
 codeLimit = 524288
 

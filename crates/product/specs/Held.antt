@@ -1,5 +1,5 @@
--- A key set as the numbers of its keys, and whether it opens a sum. Document 01, 'Lock text': a key set opens a product where every plain
--- key is in it and every barred one is not. Assumes nothing.
+-- A key set as the numbers of its keys, and whether it opens a sum. Document 01, 'Lock text': a key set opens a product
+-- where every plain key is in it and every barred one is not. Assumes nothing.
 use mathlib.Core.Bool.{Bool, false, _||_}
 use mathlib.Core.List.{List, [], _∷_}
 use mathlib.Core.Option.{none, some}
@@ -13,7 +13,7 @@ unfoldable pub member : ℕ → List ℕ → Bool
 member k [] = false
 member k (x ∷ l) = eqb k x || member k l
 
--- the key set that has exactly the keys with these numbers
+-- document 01: key set. The one that has exactly the keys with these numbers.
 abbrev pub heldBy : List ℕ → Atom → Bool
 heldBy keys a = member (keyCode a) keys
 

@@ -6,3 +6,4 @@ pub mod Cells
 pub mod Storing
 pub mod Steps
 pub mod Held
+pub mod Examples

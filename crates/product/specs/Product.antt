@@ -4,10 +4,11 @@ use mathlib.Core.List.{List, [], _∷_}
 use Rattle.product.specs.declared.literal.Literal.{Literal}
 use Rattle.product.specs.Atom.{Atom, atomOf, agrees, isLess, isEqual, compareAtoms, compareLiterals}
 
+-- document 01: product, a set of signed keys
 abbrev pub Product : Type 0
 Product = List Literal
 
--- every plain key is held and every barred one is not
+-- document 01: a key set opens a product when every plain key is in it and every barred one is not
 unfoldable pub opens : (Atom → Bool) → Product → Bool
 opens ρ [] = true
 opens ρ (x ∷ p) = agrees ρ x && opens ρ p

@@ -8,21 +8,28 @@ use lib.ListN.{length, getD, take, drop, replicate}
 use Rattle.product.specs.declared.literal.Key.{Key}
 use Rattle.product.specs.declared.literal.Literal.{Literal}
 use Rattle.product.specs.Product.{Product, insert, contradictory}
-use Rattle.product.specs.Sum.{Sum, Sum?, cap, present}
-use Rattle.product.specs.Code.{keyCode, keyAt, literalOf, codeLimit}
-use Rattle.product.specs.Cells.{sizeOf, productOf, productsOf, sumOf, rowOf, rowsOf}
+use Rattle.product.specs.Sum.{Sum, Sum?, mostProducts, mostLiterals, cap, present}
+use Rattle.product.specs.Code.{keyCode, keyAt, keyLimit, literalOf, codeLimit}
+use Rattle.product.specs.Cells.{rowCells, tooWideCount, sizeOf, productOf, productsOf, sumOf, rowOf, rowsOf}
 
 -- a count that is clamped, of a row of 8 cells
 pub record Size (row : List ℕ) (n : ℕ) : Type 0 where
   pub size : n ≡ sizeOf row
-  pub small : n ≤ 6
-  pub cells : length row ≡ 8
+  pub small : n ≤ mostLiterals
+  pub cells : length row ≡ rowCells
 
 -- a key's number, which stands for it
 pub record EncodedKey (k : Key) (c : ℕ) : Type 0 where
   pub code : c ≡ keyCode k
   pub back : keyAt c ≡ k
-  pub small : c < 262144
+  pub small : c < keyLimit
+
+-- two products are joined in sixteen cells, which have the literals of both
+abbrev pub wideCells : ℕ
+wideCells = 16
+
+abbrev pub mostJoined : ℕ
+mostJoined = 12
 
 -- the product that the first n of sixteen cells hold
 abbrev pub wideOf : ℕ → List ℕ → Product
@@ -42,8 +49,8 @@ addEach x (p ∷ ps) = addEach (addTo x p) ps
 
 -- rows being filled: n products, or 9 where they are too wide; up to 8 they are the cells of the sum that they read as
 pub record Clean (rows : List (List ℕ)) (n : ℕ) : Type 0 where
-  pub bound : n ≤ 9
-  pub cells : n ≤ 8 → rows ≡ rowsOf (productsOf n rows)
+  pub bound : n ≤ tooWideCount
+  pub cells : n ≤ mostProducts → rows ≡ rowsOf (productsOf n rows)
 
 -- rows after a step that should make them the sum x
 pub record Filled (x : Sum?) (rows : List (List ℕ)) (n : ℕ) : Type 0 where
@@ -52,8 +59,8 @@ pub record Filled (x : Sum?) (rows : List (List ℕ)) (n : ℕ) : Type 0 where
 
 -- sixteen cells that hold the numbers of n literals, and 0 elsewhere
 pub record Blank (cells : List ℕ) (n : ℕ) : Type 0 where
-  pub most : n ≤ 12
-  pub rest : drop n cells ≡ replicate (16 - n) 0
+  pub most : n ≤ mostJoined
+  pub rest : drop n cells ≡ replicate (wideCells - n) 0
   pub coded : (j : ℕ) → j < n → getD cells j 0 < codeLimit
 
 -- x put among n literals of sixteen cells
@@ -68,7 +75,7 @@ pub record Joined (most : ℕ) (p : Product) (cells : List ℕ) (n : ℕ) : Type
   pub blank : Blank cells n
   pub few : n ≤ most
 
--- a row of the product p, of at most 6 literals
+-- a row of the product p
 pub record Row (p : Product) (row : List ℕ) : Type 0 where
   pub cells : row ≡ rowOf p
   pub product : productOf row ≡ p

@@ -8,6 +8,7 @@ use lib.ListN.{length}
 use Rattle.product.specs.Atom.{Atom}
 use Rattle.product.specs.Product.{Product, opens, union, contradictory, sameProduct}
 
+-- document 01: a node's list of products
 abbrev pub Sum : Type 0
 Sum = List Product
 
@@ -63,6 +64,7 @@ unfoldable pub narrow : Sum → Bool
 narrow [] = true
 narrow (p ∷ ps) = leb (length p) mostLiterals && narrow ps
 
+-- document 01: the node fits
 unfoldable pub fitsNode : Sum → Bool
 fitsNode ps = leb (length ps) mostProducts && narrow ps
 

@@ -1,4 +1,4 @@
-// Key sets, given by their keys' numbers, and whether one opens a sum.
+// Document 01: key sets, here given by their keys' numbers, and whether one opens a sum.
 ghost use mathlib.Core.Path.{_≡_};
 ghost use Prim.Native.Nat.{_≤_};
 ghost use lib.ListN.{length};
@@ -71,12 +71,12 @@ fn agrees(l: Literal, keys: &[u32]) -> bool
 fn holds(keys: &[u32], key: Key) -> bool
     ensures { λ r. ⌜ r ≡ heldBy (now (keys .entry)) key ⌝ }
 {
-    let code = encode_key(key);
+    let number = encode_key(key);
     let n = keys.len();
     let mut i = 0;
     while i < n {
         let x = keys[i];
-        if code == x {
+        if number == x {
             return true;
         }
         i += 1;

@@ -1,9 +1,10 @@
-// Keys and literals, and a literal as one number.
+// Keys and literals, how literals compare, and the one number that a cell of a row holds of a literal. Only `encode`
+// and `decode` know it.
 ghost use mathlib.Core.Path.{_≡_};
 ghost use Prim.Native.Nat.{_<_};
 ghost use Rattle.product.specs.Atom.{kindOf, numberOf, isLess, isEqual, compareAtoms};
 ghost use Rattle.product.specs.Product.{same, before, opposed};
-ghost use Rattle.product.specs.Code.{keyAt, literalOf, Encoded};
+ghost use Rattle.product.specs.Code.{keyAt, keyLimit, literalOf, Encoded};
 ghost use Rattle.product.specs.Steps.{EncodedKey};
 
 // Document 01: a key is a kind with a 16-bit number: U user, R run, S segment, D defined by a user.
@@ -20,7 +21,20 @@ pub enum Literal {
     Barred(Key),
 }
 
-// The literal as one number.
+// How many numbers the keys of a kind have, and where the cells' numbers of each kind begin; those of U keys begin at
+// 0.
+const KEY_NUMBERS: u32 = 65536;
+
+const THREAD_KEYS: u32 = 65536;
+
+const SEGMENT_KEYS: u32 = 131072;
+
+const DEFINED_KEYS: u32 = 196608;
+
+// How many literals there are.
+const LITERALS: u32 = 524288;
+
+// The number that a cell holds of the literal.
 pub fn encode(l: Literal) -> u32
     ensures { λ r. ⌜ Encoded l r ⌝ }
 {
@@ -30,13 +44,13 @@ pub fn encode(l: Literal) -> u32
     }
 }
 
-// The literal of a number.
+// The literal of a cell's number, whatever it is.
 pub fn decode(x: u32) -> Literal
     ensures { λ r. ⌜ r ≡ literalOf x ⌝ }
 {
-    let code = x % 524288;
-    let key = decode_key(code / 2);
-    if code % 2 == 0 {
+    let number = x % LITERALS;
+    let key = decode_key(number / 2);
+    if number % 2 == 0 {
         Literal::Plain(key)
     } else {
         Literal::Barred(key)
@@ -48,18 +62,18 @@ pub(crate) fn encode_key(k: Key) -> u32
 {
     match k {
         Key::User(n) => n as u32,
-        Key::Thread(n) => n as u32 + 65536,
-        Key::Segment(n) => n as u32 + 131072,
-        Key::Defined(n) => n as u32 + 196608,
+        Key::Thread(n) => n as u32 + THREAD_KEYS,
+        Key::Segment(n) => n as u32 + SEGMENT_KEYS,
+        Key::Defined(n) => n as u32 + DEFINED_KEYS,
     }
 }
 
 fn decode_key(c: u32) -> Key
-    requires { ⌜ c < 262144 ⌝ }
+    requires { ⌜ c < keyLimit ⌝ }
     ensures { λ r. ⌜ r ≡ keyAt c ⌝ }
 {
-    let number = (c % 65536) as u16;
-    match c / 65536 {
+    let number = (c % KEY_NUMBERS) as u16;
+    match c / KEY_NUMBERS {
         0 => Key::User(number),
         1 => Key::Thread(number),
         2 => Key::Segment(number),

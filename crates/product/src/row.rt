@@ -1,11 +1,12 @@
-// Products: rows of 8 cells, and sixteen cells while two are being joined, since two products of 6 literals are joined before their
-// contradictions and their width are judged.
+// Products: rows of 8 cells, and sixteen cells while two are being joined, since two products of 6 literals are joined
+// before their contradictions and their width are judged.
 ghost use mathlib.Core.Path.{_≡_};
 ghost use Prim.Native.Nat.{_+_, _≤_, _<_};
 ghost use lib.ListN.{getD, drop};
 ghost use Rattle.product.specs.Product.{union, clashes, contradictory, sameProduct};
-ghost use Rattle.product.specs.Cells.{productOf};
-ghost use Rattle.product.specs.Steps.{Size, Blank, Row, Inserted, Joined, wideOf};
+ghost use Rattle.product.specs.Sum.{mostLiterals};
+ghost use Rattle.product.specs.Cells.{countCell, productOf};
+ghost use Rattle.product.specs.Steps.{Size, Blank, Row, Inserted, Joined, mostJoined, wideOf};
 use crate::literal;
 use crate::literal::Literal;
 use crate::literal::decode;
@@ -13,14 +14,14 @@ use crate::literal::encode;
 use crate::sum::COUNT_CELL;
 use crate::sum::MOST_LITERALS;
 
-// The cells of a product, and those in which two are joined.
+// Document 01: product. Its cells, and those in which two are joined.
 pub(crate) type Cells = [u32; 8];
 
 pub(crate) type Wide = [u32; 16];
 
 // The row's product, in sixteen cells.
 pub(crate) fn widen(row: &Cells, cells: &mut Wide) -> usize
-    ensures { λ r. ⌜ Joined 6 (productOf (now (row .entry))) (now (cells .exit)) r ⌝ }
+    ensures { λ r. ⌜ Joined mostLiterals (productOf (now (row .entry))) (now (cells .exit)) r ⌝ }
 {
     let n = size(row);
     *cells = [0u32; 16];
@@ -35,7 +36,8 @@ pub(crate) fn widen(row: &Cells, cells: &mut Wide) -> usize
 
 // The literals of both rows, in sixteen cells.
 pub(crate) fn join(p: &Cells, q: &Cells, cells: &mut Wide) -> usize
-    ensures { λ r. ⌜ Joined 12 (union (productOf (now (p .entry))) (productOf (now (q .entry)))) (now (cells .exit)) r ⌝ }
+    ensures { λ r. ⌜ Joined mostJoined
+        (union (productOf (now (p .entry))) (productOf (now (q .entry)))) (now (cells .exit)) r ⌝ }
 {
     let m = size(q);
     let mut n = widen(p, cells);
@@ -66,7 +68,7 @@ pub(crate) fn contradictory(cells: &Wide, n: usize) -> bool
 
 // The row of a product that has at most 6 literals.
 pub(crate) fn narrow(cells: &Wide, n: usize) -> Cells
-    requires { ⌜ (n ≤ 6) × (Blank (now cells) n) ⌝ }
+    requires { ⌜ (n ≤ mostLiterals) × (Blank (now cells) n) ⌝ }
     ensures { λ r. ⌜ Row (wideOf n (now (cells .entry))) r ⌝ }
 {
     [
@@ -104,7 +106,7 @@ pub(crate) fn same(p: &Cells, q: &Cells) -> bool
 
 // Puts x in its place among the first n literals, unless it is there. Answers how many they are then.
 fn insert(cells: &mut Wide, n: usize, x: Literal) -> usize
-    requires { ⌜ (n < 12) × (Blank (now cells) n) ⌝ }
+    requires { ⌜ (n < mostJoined) × (Blank (now cells) n) ⌝ }
     ensures { λ r. ⌜ Inserted x n (now (cells .entry)) (now (cells .exit)) r ⌝ }
 {
     let mut carried = x;
@@ -149,7 +151,7 @@ pub(crate) fn size(row: &Cells) -> usize
 }
 
 fn last_cell(row: &[u32]) -> usize
-    ensures { λ r. ⌜ r ≡ getD (now (row .entry)) 7 0 ⌝ }
+    ensures { λ r. ⌜ r ≡ getD (now (row .entry)) countCell 0 ⌝ }
 {
     if COUNT_CELL < row.len() {
         row[COUNT_CELL] as usize

@@ -5,7 +5,7 @@ ghost use mathlib.Core.Option.{some};
 ghost use Prim.Native.Nat.{_≤_};
 ghost use lib.ListN.{length};
 ghost use Rattle.product.specs.Sum.{conjoin, disjoin, joined, present, joinEach, joinAll};
-ghost use Rattle.product.specs.Cells.{productOf, productsOf, sumOf, rowOf, Written};
+ghost use Rattle.product.specs.Cells.{productOf, productsOf, sumOf, Written};
 ghost use Rattle.product.specs.Steps.{Blank, Clean, Filled, wideOf, addTo, addEach};
 use crate::literal::Literal;
 use crate::literal::encode;
@@ -13,12 +13,13 @@ use crate::row;
 use crate::row::Cells;
 use crate::row::Wide;
 
-// A sum's rows, each of them a product: its literals from cell 0 on, and how many they are.
+// Document 01: list of products. A sum's rows, each of them a product: its literals from cell 0 on, and how many they
+// are.
 pub type Rows = [[u32; 8]; 8];
 
 pub const COUNT_CELL: usize = 7;
 
-// The most literals of a product that fits, the most products of a sum that does, and the count of a sum that is too wide.
+// Document 01: a node fits with at most 8 products of at most 6 signed keys. Then the count of a sum that is too wide.
 pub const MOST_LITERALS: usize = 6;
 
 pub const MOST_PRODUCTS: usize = 8;
@@ -30,14 +31,15 @@ pub fn single(l: Literal, rows: &mut Rows) -> usize
     ensures { λ r. ⌜ Written (some ((l ∷ []) ∷ [])) (now (rows .exit)) r ⌝ }
 {
     *rows = [[0u32; 8]; 8];
-    let code = encode(l);
-    rows[0] = [code, 0, 0, 0, 0, 0, 0, 1];
+    let cell = encode(l);
+    rows[0] = [cell, 0, 0, 0, 0, 0, 0, 1];
     1
 }
 
 // The list of an AND node: the left sum joined with the right one.
 pub fn conjoin(left: &Rows, n: usize, right: &Rows, m: usize, rows: &mut Rows) -> usize
-    ensures { λ r. ⌜ Written (joined conjoin (sumOf n (now (left .entry))) (sumOf m (now (right .entry)))) (now (rows .exit)) r ⌝ }
+    ensures { λ r. ⌜ Written
+        (joined conjoin (sumOf n (now (left .entry))) (sumOf m (now (right .entry)))) (now (rows .exit)) r ⌝ }
 {
     *rows = [[0u32; 8]; 8];
     if MOST_PRODUCTS < n {
@@ -52,7 +54,8 @@ pub fn conjoin(left: &Rows, n: usize, right: &Rows, m: usize, rows: &mut Rows) -
 
 // The list of an OR node, in the same way.
 pub fn disjoin(left: &Rows, n: usize, right: &Rows, m: usize, rows: &mut Rows) -> usize
-    ensures { λ r. ⌜ Written (joined disjoin (sumOf n (now (left .entry))) (sumOf m (now (right .entry)))) (now (rows .exit)) r ⌝ }
+    ensures { λ r. ⌜ Written
+        (joined disjoin (sumOf n (now (left .entry))) (sumOf m (now (right .entry)))) (now (rows .exit)) r ⌝ }
 {
     *rows = [[0u32; 8]; 8];
     if MOST_PRODUCTS < n {
@@ -69,7 +72,9 @@ pub fn disjoin(left: &Rows, n: usize, right: &Rows, m: usize, rows: &mut Rows) -
 // Adds each of the first n left products, in order, joined with each of the first m right ones.
 fn add_all_joined(rows: &mut Rows, left: &[Cells], n: usize, right: &[Cells], m: usize) -> usize
     requires { ⌜ (Clean (now rows) 0) × (n ≤ length (now left)) × (m ≤ length (now right)) ⌝ }
-    ensures { λ r. ⌜ Filled (addEach (some []) (joinAll (productsOf n (now (left .entry))) (productsOf m (now (right .entry))))) (now (rows .exit)) r ⌝ }
+    ensures { λ r. ⌜ Filled
+        (addEach (some []) (joinAll (productsOf n (now (left .entry))) (productsOf m (now (right .entry)))))
+        (now (rows .exit)) r ⌝ }
 {
     let mut count = 0;
     let mut i = 0;
@@ -83,7 +88,10 @@ fn add_all_joined(rows: &mut Rows, left: &[Cells], n: usize, right: &[Cells], m:
 // Adds p joined with each of the first m products of another sum.
 fn add_joined(rows: &mut Rows, n: usize, p: &Cells, more: &[Cells], m: usize) -> usize
     requires { ⌜ (Clean (now rows) n) × (m ≤ length (now more)) ⌝ }
-    ensures { λ r. ⌜ Filled (addEach (sumOf n (now (rows .entry))) (joinEach (productOf (now (p .entry))) (productsOf m (now (more .entry))))) (now (rows .exit)) r ⌝ }
+    ensures { λ r. ⌜ Filled
+        (addEach (sumOf n (now (rows .entry)))
+        (joinEach (productOf (now (p .entry))) (productsOf m (now (more .entry)))))
+        (now (rows .exit)) r ⌝ }
 {
     let mut cells = [0u32; 16];
     let mut count = n;
@@ -99,7 +107,8 @@ fn add_joined(rows: &mut Rows, n: usize, p: &Cells, more: &[Cells], m: usize) ->
 // Adds the first m products of another sum.
 fn add_each(rows: &mut Rows, n: usize, more: &[Cells], m: usize) -> usize
     requires { ⌜ (Clean (now rows) n) × (m ≤ length (now more)) ⌝ }
-    ensures { λ r. ⌜ Filled (addEach (sumOf n (now (rows .entry))) (productsOf m (now (more .entry)))) (now (rows .exit)) r ⌝ }
+    ensures { λ r. ⌜ Filled
+        (addEach (sumOf n (now (rows .entry))) (productsOf m (now (more .entry)))) (now (rows .exit)) r ⌝ }
 {
     let mut cells = [0u32; 16];
     let mut count = n;
@@ -115,7 +124,8 @@ fn add_each(rows: &mut Rows, n: usize, more: &[Cells], m: usize) -> usize
 // Adds a product, unless it is contradictory or there already.
 fn add(rows: &mut Rows, n: usize, cells: &Wide, size: usize) -> usize
     requires { ⌜ (Clean (now rows) n) × (Blank (now cells) size) ⌝ }
-    ensures { λ r. ⌜ Filled (addTo (sumOf n (now (rows .entry))) (wideOf size (now (cells .entry)))) (now (rows .exit)) r ⌝ }
+    ensures { λ r. ⌜ Filled
+        (addTo (sumOf n (now (rows .entry))) (wideOf size (now (cells .entry)))) (now (rows .exit)) r ⌝ }
 {
     if MOST_PRODUCTS < n {
         return n;
@@ -137,9 +147,9 @@ fn add(rows: &mut Rows, n: usize, cells: &Wide, size: usize) -> usize
     n + 1
 }
 
-// The product is among the first n rows.
-fn present(rows: &Rows, n: usize, row: &Cells) -> bool
-    requires { ⌜ (n ≤ 8) × (Clean (now rows) n) × (now row ≡ rowOf (productOf (now row))) ⌝ }
+// The row's product is among those of the first n rows.
+fn present(rows: &[Cells], n: usize, row: &Cells) -> bool
+    requires { ⌜ n ≤ length (now rows) ⌝ }
     ensures { λ r. ⌜ r ≡ present (productOf (now (row .entry))) (productsOf n (now (rows .entry))) ⌝ }
 {
     let mut i = 0;

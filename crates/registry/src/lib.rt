@@ -1,4 +1,5 @@
-// The registry: how many users, threads, segments, defined keys and locks were handed out. U is the one call that touches nothing else.
+// The registry: how many users, threads (document 01: runs), segments, defined keys (D keys) and locks were handed out.
+// U is the one call that touches nothing else.
 ghost use mathlib.Core.Path.{_≡_};
 ghost use lib.Dec.{ltb};
 ghost use Rattle.call.specs.declared.request.Request.the-variants.{NewUser};
@@ -33,7 +34,7 @@ pub fn segments(registry: &Registry) -> usize
     clamp(registry[SEGMENTS], MOST_SEGMENTS)
 }
 
-// How many defined keys there are. Their makers are lent as a slice, which tells their number.
+// How many defined keys there are. Their makers are lent as a slice, whose length is known in the proofs.
 pub fn defined(registry: &Registry, makers: &[u16]) -> usize
     ensures { λ r. ⌜ Handed (cell (now (registry .entry)) definedCount) (now (makers .entry)) r ⌝ }
 {

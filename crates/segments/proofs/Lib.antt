@@ -1,3 +1,3 @@
 pub mod Judging
 pub mod Naming
-pub mod Striking
+pub mod Removal

@@ -49,14 +49,14 @@ named d u s k known user segments segment keys key =
 
 -- a call whose conditions begin with them is refused by the first that does not hold
 module _ (d : Cells) (q : Request) (text : List ℕ) (u s k : ℕ) (names : Names d q text u s k) {r : Bool} (known : r ≡ ltb u (cell (d .registry) userCount)) where
-  pub stranger : not r ≡ true → Serves d q text (Refused UnknownUser) d
-  stranger t = serves-refused d q text (ap firstRefusal (names .1) ∙ rw (user-test d u known t))
+  pub unknown-user : not r ≡ true → Serves d q text (Refused UnknownUser) d
+  unknown-user t = serves-refused d q text (ap firstRefusal (names .1) ∙ rw (user-test d u known t))
 
   module _ (user : not r ≡ false) {n : ℕ} (segments : Counted (cell (d .registry) segmentCount) mostSegments n) where
-    pub nowhere : n ≤ s → Serves d q text (Refused NoSegment) d
-    nowhere h = serves-refused d q text (ap firstRefusal (names .1) ∙ rw (user-test d u known user, no-segment d s segments h))
+    pub unknown-segment : n ≤ s → Serves d q text (Refused NoSegment) d
+    unknown-segment h = serves-refused d q text (ap firstRefusal (names .1) ∙ rw (user-test d u known user, no-segment d s segments h))
 
     module _ (segment : s < n) {m : ℕ} (keys : Handed (cell (d .registry) definedCount) (d .makers) m) where
-      pub unmade : m ≤ k → Serves d q text (Refused NoKey) d
-      unmade h =
+      pub unknown-key : m ≤ k → Serves d q text (Refused NoKey) d
+      unknown-key h =
           serves-refused d q text (ap firstRefusal (names .1) ∙ rw (user-test d u known user, a-segment d s segments segment, no-key d k keys h))

@@ -9,13 +9,13 @@ use Rattle.model.specs.Lists.{any, keep}
 use Rattle.model.specs.Limits.{mostListed}
 use Rattle.model.specs.Cells.{Row, hasKey, keyRow}
 
--- the cells of a list that have a key, but for those with that code
+-- the cells of a key list that have a key, but for those that are that cell
 abbrev pub without : ℕ → Row → List ℕ
 without code list = keep (λ y. not (eqb code y)) (keep hasKey list)
 
--- a list and a code: its other keys closed up, how many they are, and whether the code was in the list
-pub record Struck (list : Row) (code : ℕ) (cells : Row) (count : ℕ) (found : Bool) : Type 0 where
+-- a key list and a key's cell: its other keys closed up, how many they are, and whether the key was in the list
+pub record Removed (list : Row) (code : ℕ) (cells : Row) (count : ℕ) (found : Bool) : Type 0 where
   pub closed : cells ≡ keyRow (without code list)
   pub counted : count ≡ length (without code list)
-  pub told : found ≡ any (eqb code) (keep hasKey list)
+  pub present : found ≡ any (eqb code) (keep hasKey list)
   pub low : count ≤ mostListed

@@ -2,7 +2,7 @@
 ghost use Rattle.call.specs.declared.request.Request.the-variants.{NewSegment, NewKey, GiveKey, TakeKey};
 ghost use Rattle.model.specs.Cells.{registryIs, makersAre, segmentsAre, locksAre, _and_};
 ghost use Rattle.model.specs.Serving.{ServesLent};
-use crate::list::strike;
+use crate::list::remove;
 use model::answer::Answer;
 use model::answer::Refusal;
 use model::arrays::DEFINED;
@@ -27,7 +27,7 @@ const MOST_LISTED: usize = 8;
 // The greatest kind: 0 is code, 1 a sheet.
 const SHEET: u16 = 1;
 
-// K, new key.
+// K, new D key (document 01); the user is its maker.
 pub fn new_key(registry: &mut Registry, makers: &mut Makers, user: u16) -> Answer
     ensures { λ r. ⌜ ServesLent
         (registryIs (now (registry .entry)) and makersAre (now (makers .entry)))
@@ -46,7 +46,7 @@ pub fn new_key(registry: &mut Registry, makers: &mut Makers, user: u16) -> Answe
     Answer::Accepted(key as u16)
 }
 
-// N, new segment.
+// N, new segment; the user is its owner, and its key list starts with its own S key.
 pub fn new_segment(
     registry: &mut Registry,
     segments: &mut Segments,
@@ -80,7 +80,7 @@ pub fn new_segment(
     Answer::Accepted(own)
 }
 
-// G, give key.
+// G, give key: a D key that the owner made goes into the segment's key list.
 pub fn give_key(
     registry: &Registry,
     makers: &Makers,
@@ -110,7 +110,7 @@ pub fn give_key(
         return Answer::Refused(Refusal::NotOwner);
     }
     let list = segments[s][1];
-    let kept = strike(list, segment, DEFINED_CODES + key);
+    let kept = remove(list, segment, DEFINED_CODES + key);
     if kept.found {
         return Answer::Refused(Refusal::AlreadyPresent);
     }
@@ -124,7 +124,7 @@ pub fn give_key(
     Answer::Accepted(count as u16 + 1)
 }
 
-// T, take key.
+// T, take key: the owner takes a D key out of the list.
 pub fn take_key(
     registry: &Registry,
     makers: &Makers,
@@ -153,7 +153,7 @@ pub fn take_key(
         return Answer::Refused(Refusal::NotOwner);
     }
     let list = segments[s][1];
-    let kept = strike(list, segment, DEFINED_CODES + key);
+    let kept = remove(list, segment, DEFINED_CODES + key);
     if !kept.found {
         return Answer::Refused(Refusal::NotPresent);
     }

@@ -1,6 +1,6 @@
-// Key lists: rows of 8 cells, each a key or none.
+// Document 01: a segment's key list. A row of 8 cells, each a key or none.
 ghost use lib.ListN.{set};
-ghost use Rattle.segments.specs.Steps.{Struck};
+ghost use Rattle.segments.specs.Steps.{Removed};
 use model::arrays::NO_KEY;
 use model::arrays::Row;
 
@@ -12,8 +12,8 @@ pub(crate) struct Kept {
 }
 
 // Its own S key is the segment's number, whatever stands in the first cell.
-pub(crate) fn strike(mut list: Row, segment: u16, code: u16) -> Kept
-    ensures { λ r. ⌜ Struck (set list 0 segment) code (r .cells) (r .count) (r .found) ⌝ }
+pub(crate) fn remove(mut list: Row, segment: u16, code: u16) -> Kept
+    ensures { λ r. ⌜ Removed (set list 0 segment) code (r .cells) (r .count) (r .found) ⌝ }
 {
     list[0] = segment;
     let mut cells = [NO_KEY; 8];

@@ -73,6 +73,10 @@ module _ (d : Cells) (n i : ℕ) (size : length (d .threads) ≡ mostThreads) (i
         number = number;
       }
 
-  pub stands-nowhere : mostThreads ≤ i → isLive (stateOf d) n ≡ false
+  pub not-live : mostThreads ≤ i → isLive (stateOf d) n ≡ false
   unfolding stateOf
-  stands-nowhere high = ap (λ (x : Place). isSome (threadIn x)) (place-past n (isThread n) places sized (omega arith))
+  not-live high = ap (λ (x : Place). isSome (threadIn x)) (place-past n (isThread n) places sized (omega arith))
+
+  -- the name under which `route` uses it
+  pub stands-nowhere : mostThreads ≤ i → isLive (stateOf d) n ≡ false
+  stands-nowhere = not-live

@@ -15,9 +15,10 @@ use model::arrays::THREADS;
 use model::arrays::Threads;
 use registry::is_user;
 
+// Document 01: 65,536 run numbers are handed out.
 const MOST_NUMBERS: u32 = 65536;
 
-// S, start thread.
+// S, start thread (document 01: run).
 pub fn start_thread(registry: &mut Registry, threads: &mut Threads, user: u16) -> Answer
     ensures { λ r. ⌜ ServesLent
         (registryIs (now (registry .entry)) and threadsAre (now (threads .entry)))
@@ -41,7 +42,7 @@ pub fn start_thread(registry: &mut Registry, threads: &mut Threads, user: u16) -
     Answer::Accepted(number)
 }
 
-// E, end thread.
+// E, end thread. The answer is how many open calls were closed.
 pub fn end_thread(threads: &mut Threads, number: u16) -> Answer
     ensures { λ r. ⌜ ServesLent
         (threadsAre (now (threads .entry)))
@@ -57,7 +58,7 @@ pub fn end_thread(threads: &mut Threads, number: u16) -> Answer
     Answer::Accepted(frames as u16)
 }
 
-// R, return.
+// R, return from the newest open call. The answer is its segment.
 pub fn return_call(threads: &mut Threads, number: u16) -> Answer
     ensures { λ r. ⌜ ServesLent
         (threadsAre (now (threads .entry)))

@@ -1,4 +1,4 @@
-// A thread's frames.
+// Document 01: a run's open calls. Each keeps the key list that was handed over, until it returns.
 ghost use mathlib.Core.Path.{_≡_};
 ghost use mathlib.Core.Bool.{cond};
 ghost use lib.Dec.{ltb};
@@ -24,10 +24,13 @@ pub fn depth(thread: &Thread) -> usize
     }
 }
 
-// A new frame with that key list, the segment's own S key first, where there is room for one.
+// Document 01: a granted call hands the run the segment's key list as it then is. A new frame with that key list, the
+// segment's own S key first, where there is room for one.
 pub fn push(thread: &mut Thread, list: &Row, segment: u16) -> bool
     ensures room { λ r. ⌜ r ≡ ltb (depthOf (now (thread .entry))) mostFrames ⌝ }
-    ensures rows { λ _. ⌜ now (thread .exit) ≡ cond (ltb (depthOf (now (thread .entry))) mostFrames) (pushRow (set (now (list .entry)) 0 segment) (now (thread .entry))) (now (thread .entry)) ⌝ }
+    ensures rows { λ _. ⌜ now (thread .exit)
+        ≡ cond (ltb (depthOf (now (thread .entry))) mostFrames)
+        (pushRow (set (now (list .entry)) 0 segment) (now (thread .entry))) (now (thread .entry)) ⌝ }
 {
     let frames = depth(thread);
     if MOST_FRAMES as usize <= frames {

@@ -1,4 +1,4 @@
-// Live threads: where they stand, their frames, and the calls S, E and R.
+// Live threads (document 01: live runs): where they stand, their frames (open calls), and the calls S, E and R.
 pub mod calls;
 pub mod frames;
 pub mod place;

@@ -1,4 +1,5 @@
-// The place of a live thread, and a free place for a new one. A thread stands at its number's remainder by 64 if that was free when it started.
+// The place of a live thread (document 01: live run), and a free place for a new one. A thread stands at its number's
+// remainder by 64 if that was free when it started.
 ghost use mathlib.Core.Path.{_≡_};
 ghost use lib.ListN.{length};
 ghost use Rattle.model.specs.Model.{isFree, isThread};

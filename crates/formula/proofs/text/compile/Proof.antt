@@ -2,7 +2,7 @@
 use borrow.Author.Needs.{needs}
 use denote.Ref.{now}
 use mathlib.Core.Path.{_∙_}
-use Rattle.formula.proofs.Answering.{long-text, text-unread, text-longer, text-wide, text-void, text-accepted}
+use Rattle.formula.proofs.Answering.{long-text, text-unread, text-longer, text-wide, text-unsatisfiable, text-accepted}
 use Rattle.formula.proofs.text.compile.Statement.{statement}
 use Rattle.formula.proofs.text.compile.Tie as tie
 
@@ -37,7 +37,7 @@ returns-5 : tie.Need-returns-5
 returns-5 c =
     let a = c .before .before .before .before .before .before .before .before .before .before .before .args in
     let s = now (a .text) in
-    c .refused5 .ensures ∙ text-void (a .issued) s (c .before .before .before .before .before .before .before .before .before .if1 .left)
+    c .refused5 .ensures ∙ text-unsatisfiable (a .issued) s (c .before .before .before .before .before .before .before .before .before .if1 .left)
     (c .before .before .before .before .before .before .before .read-or .ensures) (c .before .before .before .before .before .node .given .1)
     (c .before .before .before .if2 .left) (c .before .if4 .taken)
 

@@ -23,7 +23,7 @@ use Rattle.model.specs.Model.{conditions, answer, isSegment, owns, segmentAt, i
 use Rattle.model.specs.Cells.{Row, Table, Cells, registryIs, locksAre, cell, rowAt, tableAt, userCount, lockCount, ownerCell, kindCell, usedRows, productIn, countUp, storeRows, productRow, stateOf, store}
 use Rattle.model.specs.Serving.{Serves}
 use Rattle.model.proofs.Serving.{serves-refused, serves-accepted, segmentsIn, is-segment, segment-at}
-use Rattle.locks.specs.Steps.{rowsFrom, issuedIn, isFull, LockJudged, full, stored, misspelt, wide, void, fine}
+use Rattle.locks.specs.Steps.{rowsFrom, issuedIn, isFull, LockJudged, full, stored, malformed-text, wide-text, unsatisfiable-text, accepted-text}
 use Rattle.locks.proofs.Tests.{test-fails, test-holds}
 use Rattle.locks.proofs.Compiling.{operations-low, issued-is, Judged, judged, sum-kept, rows-stored}
 use denote.Ref.{now}
@@ -41,14 +41,14 @@ module _ (d : Cells) (user s operations : ℕ) (text : List ℕ) where
   abbrev o : Outcome
   o = outcomeOf (issued (stateOf d)) text
 
-  stranger : ltb user (cell (d .registry) userCount) ≡ false → Serves d q text (Refused UnknownUser) d
+  unknown-user : ltb user (cell (d .registry) userCount) ≡ false → Serves d q text (Refused UnknownUser) d
   unfolding conditions stateOf
-  stranger u = serves-refused d q text (rw u)
+  unknown-user u = serves-refused d q text (rw u)
 
   module _ {n : ℕ} (u : ltb user (cell (d .registry) userCount) ≡ true) (count : n ≡ segmentsIn d) where
-    nowhere : n ≤ s → Serves d q text (Refused NoSegment) d
+    unknown-segment : n ≤ s → Serves d q text (Refused NoSegment) d
     unfolding conditions stateOf
-    nowhere h = let none = is-segment d s ∙ le-ltb s (segmentsIn d) (omega arith) in serves-refused d q text (rw (u, none))
+    unknown-segment h = let none = is-segment d s ∙ le-ltb s (segmentsIn d) (omega arith) in serves-refused d q text (rw (u, none))
 
     module _ (low : s < n) where
       here : s < segmentsIn d
@@ -107,26 +107,26 @@ module _ (d : Cells) (user s operations : ℕ) (text : List ℕ) where
           served : {r : Answer} {registry′ : Row} {t′ : Table} → LockJudged (d .registry) t operations x r registry′ t′
               → Serves d q text r (registryIs registry′ (locksAre (set (d .locks) s t′) d))
           unfolding conditions answer store stateOf
-          served (misspelt v) = let j = verdict v in rw same-locks (serves-refused d q text (rw (u, there, own, fit, j .malformed)))
-          served (wide v) = let j = verdict v in rw same-locks (serves-refused d q text (rw (u, there, own, fit, j .malformed, j .wide)))
-          served (void v) = let j = verdict v in rw same-locks (serves-refused d q text (rw (u, there, own, fit, j .malformed, j .wide, j .void)))
-          served (fine v (full h)) =
+          served (malformed-text v) = let j = verdict v in rw same-locks (serves-refused d q text (rw (u, there, own, fit, j .malformed)))
+          served (wide-text v) = let j = verdict v in rw same-locks (serves-refused d q text (rw (u, there, own, fit, j .malformed, j .wide)))
+          served (unsatisfiable-text v) = let j = verdict v in rw same-locks (serves-refused d q text (rw (u, there, own, fit, j .malformed, j .wide, j .unsatisfiable)))
+          served (accepted-text v (full h)) =
               let j = verdict v in
               let most = full-is ∙ h in
-              rw same-locks (serves-refused d q text (rw (u, there, own, fit, j .malformed, j .wide, j .void, most)))
-          served (fine v (stored h)) =
+              rw same-locks (serves-refused d q text (rw (u, there, own, fit, j .malformed, j .wide, j .unsatisfiable, most)))
+          served (accepted-text v (stored h)) =
               let j = verdict v in
               let room = full-is ∙ h in
-              serves-accepted d q text (rw (u, there, own, fit, j .malformed, j .wide, j .void, room)) refl
+              serves-accepted d q text (rw (u, there, own, fit, j .malformed, j .wide, j .unsatisfiable, room)) refl
               (ap (λ (ws : Table). registryIs (countUp (d .registry) lockCount) (locksAre (set (d .locks) s (storeRows (length (usedRows t)) ws t)) d)) rows-are)
 
 returns : tie.Need-returns
-returns c = λ d. stranger _ _ _ _ _ (test-fails (c .before .is-user .ensures) (c .if1 .taken))
+returns c = λ d. unknown-user _ _ _ _ _ (test-fails (c .before .is-user .ensures) (c .if1 .taken))
 
 returns-2 : tie.Need-returns-2
 returns-2 c =
     let b = c .before .before .before in
-    λ d. nowhere _ _ _ _ _ (test-holds (b .before .is-user .ensures) (b .if1 .left)) (c .before .segments .ensures .count) (c .if2 .taken)
+    λ d. unknown-segment _ _ _ _ _ (test-holds (b .before .is-user .ensures) (b .if1 .left)) (c .before .segments .ensures .count) (c .if2 .taken)
 
 returns-3 : tie.Need-returns-3
 returns-3 c =

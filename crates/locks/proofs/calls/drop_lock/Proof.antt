@@ -27,17 +27,17 @@ module _ (d : Cells) (user lock : ℕ) (text : List ℕ) where
   abbrev q : Request
   q = DropLock user lock
 
-  stranger : ltb user (cell (d .registry) userCount) ≡ false → Serves d q text (Refused UnknownUser) d
+  unknown-user : ltb user (cell (d .registry) userCount) ≡ false → Serves d q text (Refused UnknownUser) d
   unfolding conditions stateOf
-  stranger u = serves-refused d q text (rw u)
+  unknown-user u = serves-refused d q text (rw u)
 
   module _ (n s : ℕ) (u : ltb user (cell (d .registry) userCount) ≡ true) (count : n ≡ segmentsIn d) (found : HomeFound lock n (d .locks) s) where
     place : homeOf (stateOf d) lock ≡ s
     place = home-is d lock ∙ sym (found .place ∙ ap (λ (k : ℕ). homeIn lock k (d .locks)) count)
 
-    nowhere : n ≤ s → Serves d q text (Refused NoLock) d
+    unknown-lock : n ≤ s → Serves d q text (Refused NoLock) d
     unfolding conditions stateOf
-    nowhere h = let none = no-home d lock (omega (arith, place)) in serves-refused d q text (rw (u, none))
+    unknown-lock h = let none = no-home d lock (omega (arith, place)) in serves-refused d q text (rw (u, none))
 
     module _ (here : s < n) where
       owner-is : owns (stateOf d) user (homeOf (stateOf d) lock) ≡ eqb (cell (rowAt (tableAt (d .segments) s) 0) ownerCell) user
@@ -60,12 +60,12 @@ module _ (d : Cells) (user lock : ℕ) (text : List ℕ) where
           ∙ sym (ap (λ (k : ℕ). locksAre (onTable (d .locks) k (dropRows lock)) d) place))
 
 returns : tie.Need-returns
-returns c = λ text d. stranger _ _ _ text (test-fails (c .before .is-user .ensures) (c .if1 .taken))
+returns c = λ text d. unknown-user _ _ _ text (test-fails (c .before .is-user .ensures) (c .if1 .taken))
 
 returns-2 : tie.Need-returns-2
 returns-2 c =
     let b = c .before .before .before .before in
-    λ text d. nowhere _ _ _ text _ _ (test-holds (b .before .is-user .ensures) (b .if1 .left)) (c .before .before .before .segments .ensures .count) (c .before .home .ensures) (c .if2 .taken)
+    λ text d. unknown-lock _ _ _ text _ _ (test-holds (b .before .is-user .ensures) (b .if1 .left)) (c .before .before .before .segments .ensures .count) (c .before .home .ensures) (c .if2 .taken)
 
 returns-3 : tie.Need-returns-3
 returns-3 c =

@@ -1,20 +1,20 @@
 -- By the verdict. Assumes nothing.
-use Rattle.locks.specs.Steps.{misspelt, wide, void, fine}
+use Rattle.locks.specs.Steps.{malformed-text, wide-text, unsatisfiable-text, accepted-text}
 use borrow.Author.Needs.{needs}
 use Rattle.locks.proofs.calls.judge_lock.Statement.{statement}
 use Rattle.locks.proofs.calls.judge_lock.Tie as tie
 
 returns : tie.Need-returns
-returns c = fine (c .before .before .before .enum-told .given .1) (c .store-lock .ensures)
+returns c = accepted-text (c .before .before .before .enum-told .given .1) (c .store-lock .ensures)
 
 returns-2 : tie.Need-returns-2
-returns-2 c = misspelt (c .enum-told2 .given .1)
+returns-2 c = malformed-text (c .enum-told2 .given .1)
 
 returns-3 : tie.Need-returns-3
-returns-3 c = wide (c .enum-told3 .given .1)
+returns-3 c = wide-text (c .enum-told3 .given .1)
 
 returns-4 : tie.Need-returns-4
-returns-4 c = void (c .enum-told4 .given .1)
+returns-4 c = unsatisfiable-text (c .enum-told4 .given .1)
 
 pub judge-lock-spec : {M : Type 1} → statement M
 judge-lock-spec =

@@ -1,11 +1,12 @@
 -- A law for each way out: `filled-wide`, `filled-skip`, `filled-long`, `filled-full`, `filled-last`. Assumes nothing.
 use borrow.Author.Needs.{needs}
+use native.Mathlib.Omega.{arith}
 use mathlib.Core.Path.{_≡_}
 use mathlib.Core.Bool.{true, false}
 use denote.Ref.{now}
 use Rattle.product.specs.Cells.{productOf, productsOf}
 use Rattle.product.specs.Sum.{present}
-use Rattle.product.proofs.Filling.{filled-wide, filled-skip, filled-long, filled-full, filled-last, row-clean}
+use Rattle.product.proofs.Filling.{filled-wide, filled-skip, filled-long, filled-full, filled-last, clean-length}
 use Rattle.product.proofs.Placing.{wide-length}
 use Rattle.product.specs.Steps.{wideOf}
 use Rattle.product.specs.Product.{contradictory}
@@ -34,13 +35,14 @@ narrow-requires : tie.Need-narrow-requires
 narrow-requires c κs = (search needs, c .before .before .before .before .pre .1)
 
 present-requires : tie.Need-present-requires
-present-requires c κs = (search needs, c .before .before .before .before .before .before .before .pre .0, row-clean (c .before .before .narrow .ensures))
+present-requires c κs =
+    omega (arith, clean-length (search needs) (c .before .before .before .before .before .before .before .before .pre .0))
 
 returns-4 : tie.Need-returns-4
 returns-4 c =
-    let b = c .before .before .before .before .before .before .before .before .before in
+    let b = c .before .before .before .before .before .before .before .before .before .before in
     let p = wideOf (b .args .size) (now (b .args .cells)) in
-    let row = c .before .before .before .before .narrow in
+    let row = c .before .before .before .before .before .narrow in
     let e : contradictory p ≡ false = cc in
     let q : present (productOf (row .result)) (productsOf (b .args .n) (now (b .args .rows))) ≡ true = cc in
     let d : present p (productsOf (b .args .n) (now (b .args .rows))) ≡ true = rw (row .ensures .product) at q in
@@ -48,9 +50,9 @@ returns-4 c =
 
 returns-5 : tie.Need-returns-5
 returns-5 c =
-    let b = c .before .before .before .before .before .before .before .before .before .before in
+    let b = c .before .before .before .before .before .before .before .before .before .before .before in
     let p = wideOf (b .args .size) (now (b .args .cells)) in
-    let row = c .before .before .before .before .before .narrow in
+    let row = c .before .before .before .before .before .before .narrow in
     let e : contradictory p ≡ false = cc in
     let q : present (productOf (row .result)) (productsOf (b .args .n) (now (b .args .rows))) ≡ false = cc in
     let d : present p (productsOf (b .args .n) (now (b .args .rows))) ≡ false = rw (row .ensures .product) at q in
@@ -58,9 +60,9 @@ returns-5 c =
 
 returns-6 : tie.Need-returns-6
 returns-6 c =
-    let b = c .before .before .before .before .before .before .before .before .before .before in
+    let b = c .before .before .before .before .before .before .before .before .before .before .before in
     let p = wideOf (b .args .size) (now (b .args .cells)) in
-    let row = c .before .before .before .before .before .narrow in
+    let row = c .before .before .before .before .before .before .narrow in
     let e : contradictory p ≡ false = cc in
     let q : present (productOf (row .result)) (productsOf (b .args .n) (now (b .args .rows))) ≡ false = cc in
     let d : present p (productsOf (b .args .n) (now (b .args .rows))) ≡ false = rw (row .ensures .product) at q in

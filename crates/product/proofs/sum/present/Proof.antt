@@ -4,6 +4,7 @@ use mathlib.Core.Path.{_≡_, refl, sym, _∙_}
 use Prim.Native.Nat.{_-_}
 use native.Mathlib.Omega.{arith}
 use lib.ListN.{drop}
+use denote.Ref.{now}
 use Rattle.product.proofs.Filling.{present-next, present-past}
 use Rattle.product.specs.Cells.{productOf, productsOf}
 use Rattle.product.specs.Sum.{present}
@@ -20,28 +21,28 @@ loop-holds : tie.Need-loop-holds Inv-loop μ-loop
 loop-holds c = refl
 
 mul-same : tie.Need-mul-same Inv-loop μ-loop
-mul-same c = omega (arith, c .before .before .pre .0)
+mul-same c = omega (arith, c .before .before .pre)
 
-index-1-same : tie.Need-index-1-same Inv-loop μ-loop
-index-1-same c = omega (arith, c .before .before .pre .0)
+shared-slice-element-same : tie.Need-shared-slice-element-same Inv-loop μ-loop
+shared-slice-element-same c = omega (arith, c .before .before .pre)
 
 returns : tie.Need-returns Inv-loop μ-loop
 unfolding present
 returns c =
     let b = c .before .before .before .before .before in
     let v = c .before .before .before .before .loop in
-    sym (v .inv ∙ rw (present-next (b .pre) (v .i) (search needs), ← c .before .same .ensures, c .if1 .taken))
+    sym (v .inv ∙ rw (present-next (now (b .args .rows)) (b .args .n) (b .pre) (v .i) (search needs), ← c .before .same .ensures, c .if1 .taken))
 
 loop-again : tie.Need-loop-again Inv-loop μ-loop
 unfolding present
 loop-again c =
     let b = c .before .before .before .before .before in
     let v = c .before .before .before .before .loop in
-    v .inv ∙ rw (present-next (b .pre) (v .i) (search needs), ← c .before .same .ensures, c .if1 .left)
+    v .inv ∙ rw (present-next (now (b .args .rows)) (b .args .n) (b .pre) (v .i) (search needs), ← c .before .same .ensures, c .if1 .left)
 
 returns-2 : tie.Need-returns-2 Inv-loop μ-loop
 unfolding present
-returns-2 c = let b = c .before .before in let v = c .before .loop in sym (v .inv ∙ rw (present-past (b .pre) (v .i) (search needs)))
+returns-2 c = let b = c .before .before in let v = c .before .loop in sym (v .inv ∙ rw (present-past (now (b .args .rows)) (b .args .n) (b .pre) (v .i) (search needs)))
 
 pub present-spec : {M : Type 1} → statement M
 present-spec =
@@ -51,7 +52,7 @@ present-spec =
     μ-loop
     loop-holds
     mul-same
-    index-1-same
+    shared-slice-element-same
     (λ c κs. search needs)  -- same-requires
     returns
     (λ c. search needs)  -- add-i

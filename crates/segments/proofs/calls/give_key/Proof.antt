@@ -22,10 +22,10 @@ use Rattle.model.specs.Cells.{Row, Table, Cells, registryIs, makersAre, segment
 use Rattle.model.specs.Serving.{Serves}
 use Rattle.model.proofs.Lists.{length-append-one}
 use Rattle.model.proofs.Serving.{serves-refused, serves-accepted}
-use Rattle.segments.specs.Steps.{Struck}
+use Rattle.segments.specs.Steps.{Removed}
 use Rattle.segments.proofs.Judging.{owned-by, in-list, list-length, all-stay}
-use Rattle.segments.proofs.Naming.{Names, Named, stranger, nowhere, unmade, named}
-use Rattle.segments.proofs.Striking.{keyRow-snoc}
+use Rattle.segments.proofs.Naming.{Names, Named, unknown-user, unknown-segment, unknown-key, named}
+use Rattle.segments.proofs.Removal.{keyRow-snoc}
 use Rattle.segments.proofs.calls.give_key.Statement.{statement}
 use Rattle.segments.proofs.calls.give_key.Tie as tie
 
@@ -53,18 +53,18 @@ module _ (d : Cells) (text : List ℕ) (u s k : ℕ) where
     not-owner e = serves-refused d call text (rw (z .user, z .segment, z .key, rights, e))
 
     module _ (may : not (eqb (cell (rowAt table 0) ownerCell) u && eqb (cell (d .makers) k) u) ≡ false) {cells : Row} {count : ℕ} {found : Bool}
-        (v : Struck (listRow s table) (definedCell k) cells count found) where
-      told : isIn (Defined k) (segmentAt (stateOf d) s .keys) ≡ found
-      told = in-list d s (z .there) k ∙ sym (v .told)
+        (v : Removed (listRow s table) (definedCell k) cells count found) where
+      listed : isIn (Defined k) (segmentAt (stateOf d) s .keys) ≡ found
+      listed = in-list d s (z .there) k ∙ sym (v .present)
 
       present : found ≡ true → Serves d call text (Refused AlreadyPresent) d
       unfolding conditions
-      present e = serves-refused d call text (rw (z .user, z .segment, z .key, rights, may, told, e))
+      present e = serves-refused d call text (rw (z .user, z .segment, z .key, rights, may, listed, e))
 
       module _ (absent : found ≡ false) where
         -- without the key they are all
         all : keep (λ y. not (eqb (definedCell k) y)) codes ≡ codes
-        all = all-stay (definedCell k) codes (sym (v .told) ∙ absent)
+        all = all-stay (definedCell k) codes (sym (v .present) ∙ absent)
 
         many : count ≡ length codes
         many = v .counted ∙ ap length all
@@ -76,7 +76,7 @@ module _ (d : Cells) (text : List ℕ) (u s k : ℕ) where
         unfolding conditions
         full h =
             serves-refused d call text
-            (rw (z .user, z .segment, z .key, rights, may, told, absent, counted, lt-ltb mostListed (suc count) (omega arith)))
+            (rw (z .user, z .segment, z .key, rights, may, listed, absent, counted, lt-ltb mostListed (suc count) (omega arith)))
 
         given : count < mostListed
             → Serves d call text (Accepted (count + 1)) (segmentsAre (set (d .segments) s (set table 1 (set cells count (definedCell k)))) d)
@@ -86,7 +86,7 @@ module _ (d : Cells) (text : List ℕ) (u s k : ℕ) where
             let l = length-append-one (segmentAt (stateOf d) s .keys) (Defined k) in
             let c = counted in
             serves-accepted d call text
-            (rw (z .user, z .segment, z .key, rights, may, told, absent, counted, le-ltb mostListed (suc count) (omega arith)))
+            (rw (z .user, z .segment, z .key, rights, may, listed, absent, counted, le-ltb mostListed (suc count) (omega arith)))
             (omega arith)
             (ap (λ (w : Row). segmentsAre (set (d .segments) s (set table 1 w)) d)
             (ap₂ (λ (w : Row) (i : ℕ). set w i (definedCell k)) (v .closed ∙ ap keyRow all) e ∙ keyRow-snoc codes (definedCell k) (omega arith)))
@@ -103,20 +103,20 @@ named-at b d =
 returns : tie.Need-returns
 returns c =
     λ text d.
-    stranger _ (GiveKey _ _ _) text _ _ _ (names _ text _ _ _)
+    unknown-user _ (GiveKey _ _ _) text _ _ _ (names _ text _ _ _)
     (c .before .is-user .ensures) (c .if1 .taken)
 
 returns-2 : tie.Need-returns-2
 returns-2 c =
     λ text d.
-    nowhere _ (GiveKey _ _ _) text _ _ _ (names _ text _ _ _)
+    unknown-segment _ (GiveKey _ _ _) text _ _ _ (names _ text _ _ _)
     (c .before .before .before .is-user .ensures) (c .before .before .if1 .left) (c .before .segments .ensures) (c .if2 .taken)
 
 returns-3 : tie.Need-returns-3
 returns-3 c =
     let b = c .before .before .before .before .before in
     λ text d.
-    unmade _ (GiveKey _ _ _) text _ _ _ (names _ text _ _ _)
+    unknown-key _ (GiveKey _ _ _) text _ _ _ (names _ text _ _ _)
     (b .before .is-user .ensures) (b .if1 .left) (c .before .before .before .before .segments .ensures) (c .before .before .before .if2 .left)
     (c .before .defined .ensures) (c .if3 .taken)
 
@@ -127,20 +127,20 @@ returns-4 c =
 returns-5 : tie.Need-returns-5
 returns-5 c =
     let e = c .before .before .before in
-    λ text d. present _ text _ _ _ (named-at (e .before .before .before) d) (e .if4 .left) (c .before .strike .ensures) (c .if5 .taken)
+    λ text d. present _ text _ _ _ (named-at (e .before .before .before) d) (e .if4 .left) (c .before .remove .ensures) (c .if5 .taken)
 
 returns-6 : tie.Need-returns-6
 returns-6 c =
     let e = c .before .before .before .before in
     λ text d.
-    full _ text _ _ _ (named-at (e .before .before .before) d) (e .if4 .left) (c .before .before .strike .ensures)
+    full _ text _ _ _ (named-at (e .before .before .before) d) (e .if4 .left) (c .before .before .remove .ensures)
     (c .before .if5 .left) (c .if6 .taken)
 
 returns-7 : tie.Need-returns-7
 returns-7 c =
     let e = c .before .before .before .before .before in
     λ text d.
-    given _ text _ _ _ (named-at (e .before .before .before) d) (e .if4 .left) (c .before .before .before .strike .ensures)
+    given _ text _ _ _ (named-at (e .before .before .before) d) (e .if4 .left) (c .before .before .before .remove .ensures)
     (c .before .before .if5 .left) (c .before .if6 .left)
 
 pub give-key-spec : {M : Type 1} → statement M
@@ -163,8 +163,8 @@ give-key-spec =
     (λ c. search needs)  -- mul-list
     (λ c. search needs)  -- index-1-list
     (λ c. search needs)  -- index-2-list
-    (λ c. search needs)  -- add-strike
-    (λ c κs. search needs)  -- strike-requires
+    (λ c. search needs)  -- add-remove
+    (λ c κs. search needs)  -- remove-requires
     returns-5
     returns-6
     (λ c. search needs)  -- add-cells

@@ -1,4 +1,4 @@
--- Refused to a stranger and where 1,024 keys are there, else the next number is handed out. Assumes nothing.
+-- Refused to a unknown-user and where 1,024 keys are there, else the next number is handed out. Assumes nothing.
 use mathlib.Core.Path.{_≡_, ap, ap₂, _∙_}
 use mathlib.Core.Bool.{Bool, true, false, not}
 use mathlib.Core.List.{List}
@@ -23,9 +23,9 @@ use Rattle.segments.proofs.calls.new_key.Statement.{statement}
 use Rattle.segments.proofs.calls.new_key.Tie as tie
 
 module _ (d : Cells) (text : List ℕ) (u : ℕ) where
-  stranger : {r : Bool} → r ≡ ltb u (cell (d .registry) userCount) → not r ≡ true → Serves d (NewKey u) text (Refused UnknownUser) d
+  unknown-user : {r : Bool} → r ≡ ltb u (cell (d .registry) userCount) → not r ≡ true → Serves d (NewKey u) text (Refused UnknownUser) d
   unfolding conditions
-  stranger known t = serves-refused d (NewKey u) text (rw (user-test d u known t))
+  unknown-user known t = serves-refused d (NewKey u) text (rw (user-test d u known t))
 
   module _ {r : Bool} (known : r ≡ ltb u (cell (d .registry) userCount)) (f : not r ≡ false) {n : ℕ} (c : Handed (cell (d .registry) definedCount) (d .makers) n) where
     full : mostDefined ≤ n → Serves d (NewKey u) text (Refused Full) d
@@ -45,7 +45,7 @@ module _ (d : Cells) (text : List ℕ) (u : ℕ) where
         (ap₂ (λ (k m : ℕ). registryIs (set (d .registry) definedCount k) (makersAre (set (d .makers) m u) d)) (add-one n ∙ ap suc same) same)
 
 returns : tie.Need-returns
-returns c = λ text d. stranger _ text _ (c .before .is-user .ensures) (c .if1 .taken)
+returns c = λ text d. unknown-user _ text _ (c .before .is-user .ensures) (c .if1 .taken)
 
 returns-2 : tie.Need-returns-2
 returns-2 c =

@@ -1,4 +1,4 @@
--- Refused to a stranger, for a third kind and where 64 segments are there, else the next number is handed out. Assumes nothing.
+-- Refused to a unknown-user, for a third kind and where 64 segments are there, else the next number is handed out. Assumes nothing.
 use mathlib.Core.Path.{_≡_, ap}
 use mathlib.Core.Bool.{Bool, true, false, not}
 use mathlib.Core.List.{List}
@@ -23,9 +23,9 @@ use Rattle.segments.proofs.calls.new_segment.Statement.{statement}
 use Rattle.segments.proofs.calls.new_segment.Tie as tie
 
 module _ (d : Cells) (text : List ℕ) (u kind : ℕ) where
-  stranger : {r : Bool} → r ≡ ltb u (cell (d .registry) userCount) → not r ≡ true → Serves d (NewSegment u kind) text (Refused UnknownUser) d
+  unknown-user : {r : Bool} → r ≡ ltb u (cell (d .registry) userCount) → not r ≡ true → Serves d (NewSegment u kind) text (Refused UnknownUser) d
   unfolding conditions
-  stranger known t = serves-refused d (NewSegment u kind) text (rw (user-test d u known t))
+  unknown-user known t = serves-refused d (NewSegment u kind) text (rw (user-test d u known t))
 
   module _ {r : Bool} (known : r ≡ ltb u (cell (d .registry) userCount)) (f : not r ≡ false) where
     unfit : sheet < kind → Serves d (NewSegment u kind) text (Refused Unfit) d
@@ -56,7 +56,7 @@ module _ (d : Cells) (text : List ℕ) (u kind : ℕ) where
           (ap (λ (n : ℕ). registryIs (set (d .registry) segmentCount n) (segmentsAre (set (d .segments) s (newSegment s u kind)) (locksAre (onTable (d .locks) s (λ t. endRows t 0)) d))) (add-one s))
 
 returns : tie.Need-returns
-returns c = λ text d. stranger _ text _ _ (c .before .is-user .ensures) (c .if1 .taken)
+returns c = λ text d. unknown-user _ text _ _ (c .before .is-user .ensures) (c .if1 .taken)
 
 returns-2 : tie.Need-returns-2
 returns-2 c =

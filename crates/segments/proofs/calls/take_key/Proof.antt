@@ -15,9 +15,9 @@ use Rattle.model.specs.Model.{conditions, answer, owns}
 use Rattle.model.specs.Cells.{Row, Table, Cells, registryIs, makersAre, segmentsAre, _and_, cell, rowAt, tableAt, ownerCell, definedCell, listRow, stateOf, store}
 use Rattle.model.specs.Serving.{Serves}
 use Rattle.model.proofs.Serving.{serves-refused, serves-accepted}
-use Rattle.segments.specs.Steps.{Struck}
+use Rattle.segments.specs.Steps.{Removed}
 use Rattle.segments.proofs.Judging.{owned-by, in-list, left-length}
-use Rattle.segments.proofs.Naming.{Names, Named, stranger, nowhere, unmade, named}
+use Rattle.segments.proofs.Naming.{Names, Named, unknown-user, unknown-segment, unknown-key, named}
 use Rattle.segments.proofs.calls.take_key.Statement.{statement}
 use Rattle.segments.proofs.calls.take_key.Tie as tie
 
@@ -37,19 +37,19 @@ module _ (d : Cells) (text : List ℕ) (u s k : ℕ) where
     unfolding conditions
     not-owner o = serves-refused d call text (rw (z .user, z .segment, z .key, owned-by d s (z .there) u ∙ ne-eqb (cell (rowAt table 0) ownerCell) u o))
 
-    module _ (own : cell (rowAt table 0) ownerCell ≡ u) {cells : Row} {count : ℕ} {found : Bool} (v : Struck (listRow s table) (definedCell k) cells count found) where
+    module _ (own : cell (rowAt table 0) ownerCell ≡ u) {cells : Row} {count : ℕ} {found : Bool} (v : Removed (listRow s table) (definedCell k) cells count found) where
       owner : owns (stateOf d) u s ≡ true
       owner = owned-by d s (z .there) u ∙ eq-eqb (cell (rowAt table 0) ownerCell) u own
 
       absent : not found ≡ true → Serves d call text (Refused NotPresent) d
       unfolding conditions
-      absent e = serves-refused d call text (rw (z .user, z .segment, z .key, owner, in-list d s (z .there) k, ← v .told, e))
+      absent e = serves-refused d call text (rw (z .user, z .segment, z .key, owner, in-list d s (z .there) k, ← v .present, e))
 
       taken : not found ≡ false → Serves d call text (Accepted count) (segmentsAre (set (d .segments) s (set table 1 cells)) d)
       unfolding conditions answer store
       taken e =
           serves-accepted d call text
-          (rw (z .user, z .segment, z .key, owner, in-list d s (z .there) k, ← v .told, e))
+          (rw (z .user, z .segment, z .key, owner, in-list d s (z .there) k, ← v .present, e))
           (v .counted ∙ sym (left-length d s (z .there) k))
           (ap (λ (w : Row). segmentsAre (set (d .segments) s (set table 1 w)) d) (v .closed))
 
@@ -65,20 +65,20 @@ named-at b d =
 returns : tie.Need-returns
 returns c =
     λ text d.
-    stranger _ (TakeKey _ _ _) text _ _ _ (names _ text _ _ _)
+    unknown-user _ (TakeKey _ _ _) text _ _ _ (names _ text _ _ _)
     (c .before .is-user .ensures) (c .if1 .taken)
 
 returns-2 : tie.Need-returns-2
 returns-2 c =
     λ text d.
-    nowhere _ (TakeKey _ _ _) text _ _ _ (names _ text _ _ _)
+    unknown-segment _ (TakeKey _ _ _) text _ _ _ (names _ text _ _ _)
     (c .before .before .before .is-user .ensures) (c .before .before .if1 .left) (c .before .segments .ensures) (c .if2 .taken)
 
 returns-3 : tie.Need-returns-3
 returns-3 c =
     let b = c .before .before .before .before .before in
     λ text d.
-    unmade _ (TakeKey _ _ _) text _ _ _ (names _ text _ _ _)
+    unknown-key _ (TakeKey _ _ _) text _ _ _ (names _ text _ _ _)
     (b .before .is-user .ensures) (b .if1 .left) (c .before .before .before .before .segments .ensures) (c .before .before .before .if2 .left)
     (c .before .defined .ensures) (c .if3 .taken)
 
@@ -88,13 +88,13 @@ returns-4 c = λ text d. not-owner _ text _ _ _ (named-at (c .before .before) d)
 returns-5 : tie.Need-returns-5
 returns-5 c =
     let e = c .before .before .before .before in
-    λ text d. absent _ text _ _ _ (named-at (e .before .before) d) (e .if4 .left) (c .before .before .strike .ensures) (c .if5 .taken)
+    λ text d. absent _ text _ _ _ (named-at (e .before .before) d) (e .if4 .left) (c .before .before .remove .ensures) (c .if5 .taken)
 
 returns-6 : tie.Need-returns-6
 returns-6 c =
     let e = c .before .before .before .before .before in
     λ text d.
-    taken _ text _ _ _ (named-at (e .before .before) d) (e .if4 .left) (c .before .before .before .strike .ensures) (c .before .if5 .left)
+    taken _ text _ _ _ (named-at (e .before .before) d) (e .if4 .left) (c .before .before .before .remove .ensures) (c .before .if5 .left)
 
 pub take-key-spec : {M : Type 1} → statement M
 take-key-spec =
@@ -114,8 +114,8 @@ take-key-spec =
     (λ c. search needs)  -- mul-list
     (λ c. search needs)  -- index-1-list
     (λ c. search needs)  -- index-2-list
-    (λ c. search needs)  -- add-strike
-    (λ c κs. search needs)  -- strike-requires
+    (λ c. search needs)  -- add-remove
+    (λ c κs. search needs)  -- remove-requires
     returns-5
     (λ c. search needs)  -- mul-cells
     (λ c. search needs)  -- index-1-cells

@@ -12,14 +12,14 @@ use Rattle.model.specs.Cells.{Cells, threadsAre, tableAt, depthOf, stateOf, onT
 use Rattle.model.specs.Serving.{Serves}
 use Rattle.model.proofs.Serving.{serves-refused, serves-accepted}
 use Rattle.threads.specs.Steps.{Placed}
-use Rattle.threads.proofs.Finding.{stands, stands-nowhere}
+use Rattle.threads.proofs.Finding.{stands, not-live}
 use Rattle.threads.proofs.calls.end_thread.Statement.{statement}
 use Rattle.threads.proofs.calls.end_thread.Tie as tie
 
 module _ (d : Cells) (text : List ℕ) (n i : ℕ) (found : Placed (d .threads) n (isThread n) i) where
   no-thread : mostThreads ≤ i → Serves d (EndThread n) text (Refused NoThread) d
   unfolding conditions
-  no-thread high = let dead = stands-nowhere d n i (found .count) (found .place) high in serves-refused d (EndThread n) text (rw dead)
+  no-thread high = let dead = not-live d n i (found .count) (found .place) high in serves-refused d (EndThread n) text (rw dead)
 
   ended : (k : ℕ) → i < mostThreads → k ≡ depthOf (tableAt (d .threads) i)
       → Serves d (EndThread n) text (Accepted k) (threadsAre (onTable (d .threads) i endThread) d)

@@ -15,7 +15,7 @@ use Rattle.model.specs.Cells.{Table, Cells, threadsAre, cell, rowAt, tableAt, f
 use Rattle.model.specs.Serving.{Serves}
 use Rattle.model.proofs.Serving.{serves-refused, serves-accepted}
 use Rattle.threads.specs.Steps.{Placed}
-use Rattle.threads.proofs.Finding.{stands, stands-nowhere}
+use Rattle.threads.proofs.Finding.{stands, not-live}
 use Rattle.threads.proofs.calls.return_call.Statement.{statement}
 use Rattle.threads.proofs.calls.return_call.Tie as tie
 
@@ -26,7 +26,7 @@ newest-row t (suc k) some = refl
 module _ (d : Cells) (text : List ℕ) (n i : ℕ) (found : Placed (d .threads) n (isThread n) i) where
   no-thread : mostThreads ≤ i → Serves d (ReturnCall n) text (Refused NoThread) d
   unfolding conditions
-  no-thread high = let dead = stands-nowhere d n i (found .count) (found .place) high in serves-refused d (ReturnCall n) text (rw dead)
+  no-thread high = let dead = not-live d n i (found .count) (found .place) high in serves-refused d (ReturnCall n) text (rw dead)
 
   module _ (low : i < mostThreads) (k : ℕ) (depth : k ≡ depthOf (tableAt (d .threads) i)) where
     abbrev t : Table

@@ -1,4 +1,5 @@
--- Unsatisfiable texts: document 01, refusal 13, void: the whole formula's list is empty. Proved in `proofs/Void.antt`. Assumes nothing.
+-- Unsatisfiable texts: document 01, refusal 13, void: the whole formula's list is empty. Proved in
+-- `proofs/Unsatisfiable.antt`. Assumes nothing.
 use mathlib.Core.Path.{_≡_}
 use mathlib.Core.Bool.{Bool, true, false}
 use mathlib.Core.List.{List}

@@ -13,7 +13,7 @@ use Rattle.model.specs.Lists.{any, keep}
 use Rattle.model.specs.Limits.{mostListed}
 use Rattle.model.specs.Cells.{Row, noKey, hasKey, keyRow}
 use Rattle.model.proofs.Lists.{keep-append, any-append, length-append-one, length-keep}
-use Rattle.segments.specs.Steps.{without, Struck}
+use Rattle.segments.specs.Steps.{without, Removed}
 
 set-append : (xs ys : List ℕ) (y x : ℕ) → set (xs ++ y ∷ ys) (length xs) x ≡ (xs ++ x ∷ []) ++ ys
 set-append [] ys y x = refl
@@ -41,18 +41,18 @@ or-true : (b : Bool) → (b || true) ≡ true
 or-true true = refl
 or-true false = refl
 
-pub record Striking (list : Row) (code : ℕ) (cells : Row) (count : ℕ) (found : Bool) (i : ℕ) : Type 0 where
+pub record Removing (list : Row) (code : ℕ) (cells : Row) (count : ℕ) (found : Bool) (i : ℕ) : Type 0 where
   pub eight : length list ≡ mostListed
   pub few : count ≤ i
   pub closed : cells ≡ keyRow (without code (take i list))
   pub counted : count ≡ length (without code (take i list))
-  pub told : found ≡ any (eqb code) (keep hasKey (take i list))
+  pub present : found ≡ any (eqb code) (keep hasKey (take i list))
 
-pub striking-start : {list : Row} {code : ℕ} → length list ≡ mostListed → Striking list code (replicate 8 noKey) 0 false 0
-striking-start e = record { eight = e; few = omega arith; closed = refl; counted = refl; told = refl }
+pub removing-start : {list : Row} {code : ℕ} → length list ≡ mostListed → Removing list code (replicate 8 noKey) 0 false 0
+removing-start e = record { eight = e; few = omega arith; closed = refl; counted = refl; present = refl }
 
 -- one cell more, with the keys, those but for the code and the answer that it adds
-module _ {list : Row} {code : ℕ} {cells : Row} {count : ℕ} {found : Bool} {i : ℕ} (v : Striking list code cells count found i) (low : i < mostListed) where
+module _ {list : Row} {code : ℕ} {cells : Row} {count : ℕ} {found : Bool} {i : ℕ} (v : Removing list code cells count found i) (low : i < mostListed) where
   more : take (i + 1) list ≡ take i list ++ getD list i 0 ∷ []
   more = ap (λ (n : ℕ). take n list) (add-one i) ∙ take-suc list i 0 (let e = v .eight in omega arith)
 
@@ -62,31 +62,31 @@ module _ {list : Row} {code : ℕ} {cells : Row} {count : ℕ} {found : Bool} {i
   kept : without code (take (i + 1) list) ≡ without code (take i list) ++ without code (getD list i 0 ∷ [])
   kept = ap (keep (λ y. not (eqb code y))) keys ∙ keep-append (λ y. not (eqb code y)) (keep hasKey (take i list)) (keep hasKey (getD list i 0 ∷ []))
 
-  tells : any (eqb code) (keep hasKey (take (i + 1) list)) ≡ (found || any (eqb code) (keep hasKey (getD list i 0 ∷ [])))
-  tells =
+  finds : any (eqb code) (keep hasKey (take (i + 1) list)) ≡ (found || any (eqb code) (keep hasKey (getD list i 0 ∷ [])))
+  finds =
       ap (any (eqb code)) keys ∙ any-append (eqb code) (keep hasKey (take i list)) (keep hasKey (getD list i 0 ∷ []))
-      ∙ ap (λ (b : Bool). b || any (eqb code) (keep hasKey (getD list i 0 ∷ []))) (sym (v .told))
+      ∙ ap (λ (b : Bool). b || any (eqb code) (keep hasKey (getD list i 0 ∷ []))) (sym (v .present))
 
   -- nothing is kept
   skip : {b : Bool} → without code (getD list i 0 ∷ []) ≡ [] → (found || any (eqb code) (keep hasKey (getD list i 0 ∷ []))) ≡ b
-      → Striking list code cells count b (i + 1)
+      → Removing list code cells count b (i + 1)
   skip w t =
       let same : without code (take (i + 1) list) ≡ without code (take i list) =
       kept ∙ ap (λ (r : List ℕ). without code (take i list) ++ r) w ∙ append-nil (without code (take i list)) in
       let few = v .few in
-      record { eight = v .eight; few = omega arith; closed = v .closed ∙ sym (ap keyRow same); counted = v .counted ∙ sym (ap length same); told = sym (tells ∙ t) }
+      record { eight = v .eight; few = omega arith; closed = v .closed ∙ sym (ap keyRow same); counted = v .counted ∙ sym (ap length same); present = sym (finds ∙ t) }
 
-  pub striking-none : getD list i 0 ≡ noKey → Striking list code cells count found (i + 1)
-  striking-none e = let n = eq-eqb (getD list i 0) noKey e in skip (simp n) (simp n (or-false found))
+  pub removing-none : getD list i 0 ≡ noKey → Removing list code cells count found (i + 1)
+  removing-none e = let n = eq-eqb (getD list i 0) noKey e in skip (simp n) (simp n (or-false found))
 
-  pub striking-hit : (getD list i 0 ≡ noKey → ⊥) → getD list i 0 ≡ code → Striking list code cells count true (i + 1)
-  striking-hit f e =
+  pub removing-hit : (getD list i 0 ≡ noKey → ⊥) → getD list i 0 ≡ code → Removing list code cells count true (i + 1)
+  removing-hit f e =
       let n = ne-eqb (getD list i 0) noKey f in
       let h = eq-eqb code (getD list i 0) (sym e) in
       skip (simp (n, h)) (simp (n, h) (or-true found))
 
-  pub striking-miss : (getD list i 0 ≡ noKey → ⊥) → (getD list i 0 ≡ code → ⊥) → Striking list code (set cells count (getD list i 0)) (count + 1) found (i + 1)
-  striking-miss f e =
+  pub removing-miss : (getD list i 0 ≡ noKey → ⊥) → (getD list i 0 ≡ code → ⊥) → Removing list code (set cells count (getD list i 0)) (count + 1) found (i + 1)
+  removing-miss f e =
       let n = ne-eqb (getD list i 0) noKey f in
       let h = ne-eqb code (getD list i 0) (λ q. e (sym q)) in
       let one : without code (getD list i 0 ∷ []) ≡ getD list i 0 ∷ [] = simp (n, h) in
@@ -104,12 +104,12 @@ module _ {list : Row} {code : ℕ} {cells : Row} {count : ℕ} {found : Bool} {i
             ap₂ (λ (w : Row) (k : ℕ). set w k (getD list i 0)) (v .closed) counted
             ∙ keyRow-snoc (without code (take i list)) (getD list i 0) (omega arith) ∙ sym (ap keyRow grown);
         counted = longer ∙ sym (ap length grown);
-        told = sym (tells ∙ none);
+        present = sym (finds ∙ none);
       }
 
-pub striking-end : {list : Row} {code : ℕ} {cells : Row} {count : ℕ} {found : Bool} {i : ℕ} → Striking list code cells count found i → mostListed ≤ i
-    → Struck list code cells count found
-striking-end {list} {code} {count = count} {i = i} v h =
+pub removing-end : {list : Row} {code : ℕ} {cells : Row} {count : ℕ} {found : Bool} {i : ℕ} → Removing list code cells count found i → mostListed ≤ i
+    → Removed list code cells count found
+removing-end {list} {code} {count = count} {i = i} v h =
     let eight = v .eight in
     let fewer : length (without code list) ≤ length (keep hasKey list) = length-keep (λ y. not (eqb code y)) (keep hasKey list) in
     let few : length (keep hasKey list) ≤ length list = length-keep hasKey list in
@@ -118,6 +118,6 @@ striking-end {list} {code} {count = count} {i = i} v h =
     record {
       closed = v .closed ∙ ap (λ (w : Row). keyRow (without code w)) whole;
       counted = counted;
-      told = v .told ∙ ap (λ (w : Row). any (eqb code) (keep hasKey w)) whole;
+      present = v .present ∙ ap (λ (w : Row). any (eqb code) (keep hasKey w)) whole;
       low = omega arith;
     }

@@ -1,8 +1,8 @@
 -- Cell by cell. Assumes nothing.
 use Rattle.locks.proofs.LiteralCells.{row-made}
 use borrow.Author.Needs.{needs}
-use Rattle.locks.proofs.codes.product_row.Statement.{statement}
-use Rattle.locks.proofs.codes.product_row.Tie as tie
+use Rattle.locks.proofs.cells.product_row.Statement.{statement}
+use Rattle.locks.proofs.cells.product_row.Tie as tie
 
 returns : tie.Need-returns
 returns c =
@@ -11,7 +11,7 @@ returns c =
     let b = d .before in
     let a = b .before in
     let o = a .before in
-    row-made _ _ _ _ (o .before .size .ensures) (o .code-at .ensures) (a .code-at2 .ensures) (b .code-at3 .ensures) (d .code-at4 .ensures) (e .code-at5 .ensures) (c .code-at6 .ensures)
+    row-made _ _ _ _ (o .before .size .ensures) (o .cell-at .ensures) (a .cell-at2 .ensures) (b .cell-at3 .ensures) (d .cell-at4 .ensures) (e .cell-at5 .ensures) (c .cell-at6 .ensures)
 
 pub product-row-spec : {M : Type 1} → statement M
 product-row-spec =
@@ -24,10 +24,10 @@ product-row-spec =
     (λ c. search needs)  -- mul-head-2
     (λ c. search needs)  -- add-head
     (λ c. search needs)  -- add-head-2
-    (λ c κs. search needs)  -- code-at-requires
-    (λ c κs. search needs)  -- code-at-requires-2
-    (λ c κs. search needs)  -- code-at-requires-3
-    (λ c κs. search needs)  -- code-at-requires-4
-    (λ c κs. search needs)  -- code-at-requires-5
-    (λ c κs. search needs)  -- code-at-requires-6
+    (λ c κs. search needs)  -- cell-at-requires
+    (λ c κs. search needs)  -- cell-at-requires-2
+    (λ c κs. search needs)  -- cell-at-requires-3
+    (λ c κs. search needs)  -- cell-at-requires-4
+    (λ c κs. search needs)  -- cell-at-requires-5
+    (λ c κs. search needs)  -- cell-at-requires-6
     returns)

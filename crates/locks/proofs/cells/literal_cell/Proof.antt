@@ -1,8 +1,8 @@
 -- The key's cell, and more where the literal is barred. Assumes nothing.
 use Rattle.locks.proofs.LiteralCells.{barred-cell}
 use borrow.Author.Needs.{needs}
-use Rattle.locks.proofs.codes.literal_cell.Statement.{statement}
-use Rattle.locks.proofs.codes.literal_cell.Tie as tie
+use Rattle.locks.proofs.cells.literal_cell.Statement.{statement}
+use Rattle.locks.proofs.cells.literal_cell.Tie as tie
 
 returns-2 : tie.Need-returns-2
 returns-2 c = barred-cell (c .before .before .before .l2 .given .1) (c .before .key-cell2 .ensures) (c .barred-by .ensures)

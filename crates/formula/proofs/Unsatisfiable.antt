@@ -4,9 +4,9 @@ use mathlib.Core.Path.{_≡_, _∙_}
 use Prim.Native.Nat.{ℕ}
 use native.Mathlib.Omega.{arith}
 use Rattle.formula.specs.Outcome.{Outcome, tooWide, unsatisfiable}
-use Rattle.formula.specs.Void.{Never, UnsatisfiableExactly}
+use Rattle.formula.specs.Unsatisfiable.{Never, UnsatisfiableExactly}
 use Rattle.formula.proofs.Nodes.{products-empty}
-use Rattle.formula.proofs.Judging.{outcome-text, Judged, formula, none-such, judged, list-fits, judged-fits, judged-void}
+use Rattle.formula.proofs.Judging.{outcome-text, Judged, formula, none-such, judged, list-fits, judged-fits, judged-unsatisfiable}
 
 pub unsatisfiable-exactly : UnsatisfiableExactly
 unsatisfiable-exactly i s =
@@ -18,5 +18,5 @@ unsatisfiable-exactly i s =
     go : {o : Outcome} → Judged i s o → o ≡ unsatisfiable → Never i s
     go (formula t h) e =
         let f = judged-fits t unsatisfiable e other in
-        record { tree = t; text = h; fit = f; never = products-empty t .0 (judged-void t e f) }
+        record { tree = t; text = h; fit = f; never = products-empty t .0 (judged-unsatisfiable t e f) }
     go (none-such n) e = let z : _≡_ {A = ℕ} 0 1 = cc in absurd (omega arith)

@@ -1,8 +1,8 @@
-// A compiled product as a product row: its literals' numbers become cells that the check compares.
+// A compiled product as a product row: each literal becomes the cell that the check compares.
 ghost use mathlib.Core.Path.{_≡_};
 ghost use Prim.Native.Nat.{_<_};
 ghost use Rattle.model.specs.Cells.{keyCell, barredBy, literalCell};
-ghost use Rattle.locks.specs.Steps.{Below, codeIn, SizeOf, rowFrom};
+ghost use Rattle.locks.specs.Steps.{Below, cellIn, SizeOf, rowFrom};
 use model::arrays::BARRED_LISTED;
 use model::arrays::BARRED_OWN;
 use model::arrays::DEFINED_CODES;
@@ -28,12 +28,12 @@ pub(crate) fn product_row(cells: &[u32; 8], lock: u16, operations: u16) -> [u32;
     let head = lock as u32 * LOCK_UNIT + n as u32 * LITERAL_UNIT + operations as u32;
     [
         head,
-        code_at(cells, n, 0),
-        code_at(cells, n, 1),
-        code_at(cells, n, 2),
-        code_at(cells, n, 3),
-        code_at(cells, n, 4),
-        code_at(cells, n, 5),
+        cell_at(cells, n, 0),
+        cell_at(cells, n, 1),
+        cell_at(cells, n, 2),
+        cell_at(cells, n, 3),
+        cell_at(cells, n, 4),
+        cell_at(cells, n, 5),
         0,
     ]
 }
@@ -47,9 +47,9 @@ fn size(count: u32) -> usize
 }
 
 // The cell of literal i of n, and 0 where there is none.
-fn code_at(cells: &[u32; 8], n: usize, i: usize) -> u32
+fn cell_at(cells: &[u32; 8], n: usize, i: usize) -> u32
     requires { ⌜ i < 8 ⌝ }
-    ensures { λ r. ⌜ r ≡ codeIn n (now (cells .entry)) i ⌝ }
+    ensures { λ r. ⌜ r ≡ cellIn n (now (cells .entry)) i ⌝ }
 {
     if n <= i {
         return 0;

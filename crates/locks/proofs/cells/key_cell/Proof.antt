@@ -2,8 +2,8 @@
 use mathlib.Core.Path.{refl}
 use Rattle.locks.proofs.LiteralCells.{key-below}
 use borrow.Author.Needs.{needs}
-use Rattle.locks.proofs.codes.key_cell.Statement.{statement}
-use Rattle.locks.proofs.codes.key_cell.Tie as tie
+use Rattle.locks.proofs.cells.key_cell.Statement.{statement}
+use Rattle.locks.proofs.cells.key_cell.Tie as tie
 
 returns : tie.Need-returns
 returns c = key-below (c .before .k .given .1) refl (search needs)
