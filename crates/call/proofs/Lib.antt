@@ -3,3 +3,4 @@ pub mod Lines
 pub mod Requests
 pub mod Truth
 pub mod Conditions
+pub mod Examples

@@ -107,3 +107,9 @@ verdict (some f) = Refused f
 
 unfoldable pub verdictOf : List ℕ → Verdict
 verdictOf s = verdict (firstRefusal (fileConditions s))
+
+-- ---- a reader: the cursor after the file's check, at the first record of a readable file, else where it was
+
+abbrev pub cursorOpened : Verdict → ℕ → ℕ
+cursorOpened Readable at = fileHeadSize
+cursorOpened (Refused f) at = at

@@ -1,4 +1,4 @@
-// A whole file: whether it is readable.
+// A whole file (document 01: desk file): whether it is readable.
 ghost use mathlib.Core.Path.{_≡_};
 ghost use Prim.Native.Nat.{_≤_};
 ghost use lib.ListN.{length};
@@ -17,13 +17,14 @@ pub enum Refusal {
     Corrupt,
 }
 
+// The verdict on a file. Its number is `verdictNumber`, and its values are `verdictValues`.
 pub enum Verdict {
     Readable,
     Refused(Refusal),
 }
 
-// The bytes before the first record: the mark `KLD`, the version and the count.
-pub(crate) const FILE_HEAD: usize = 7;
+// The bytes before the first record: the mark `KLD`, the version and the count. The first record's cursor.
+pub const FILE_HEAD: usize = 7;
 
 // Where the version and the count stand in it, right after the mark and each other.
 const VERSION_AT: usize = 3;

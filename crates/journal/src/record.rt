@@ -15,7 +15,8 @@ pub struct Entry {
     pub next: usize,
 }
 
-// What stands at a cursor. Damaged, document 01's 18: no whole record, and not the end either.
+// What stands at a cursor. Damaged, document 01's 18: no whole record, and not the end either. Its number is `foundNumber`, and its values are
+// `foundValues`.
 pub enum Found {
     Record(Entry),
     End,
@@ -25,7 +26,7 @@ pub enum Found {
 // The bytes of a record before its text.
 pub(crate) const RECORD_HEAD: usize = 9;
 
-// What stands at a cursor of a file, for any bytes and any cursor. The first record of a file is at 7.
+// What stands at a cursor of a file, for any bytes and any cursor.
 pub fn record_at(file: &[u8], at: usize) -> Found
     ensures { λ r. ⌜ r ≡ foundAt (now (file .entry)) at ⌝ }
 {
