@@ -4,3 +4,4 @@ pub mod Requests
 pub mod Truth
 pub mod Conditions
 pub mod Examples
+pub mod Numbers

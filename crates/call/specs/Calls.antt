@@ -103,7 +103,9 @@ textNamed letter n = eqb letter letterL || eqb n 0
 abbrev pub decodedIn : List Row → ℕ → ℕ → ℕ → ℕ → ℕ → Decoded
 decodedIn [] letter a b c n = Corrupt
 decodedIn (r ∷ rs) letter a b c n =
-    cond (eqb letter (r .letter)) (cond (unnamedZero (r .named) a b c && textNamed letter n) (WellFormed (r .request)) Corrupt) (decodedIn rs letter a b c n)
+    cond (eqb letter (r .letter))
+    (cond (unnamedZero (r .named) a b c && textNamed letter n) (WellFormed (r .request)) Corrupt)
+    (decodedIn rs letter a b c n)
 
 -- a call handed straight to the guard
 unfoldable pub decodedOf : ℕ → ℕ → ℕ → ℕ → ℕ → Decoded

@@ -7,7 +7,8 @@ use Prim.Native.Nat.{ℕ}
 use Rattle.call.specs.declared.request.Request.{Request}
 use Rattle.call.specs.declared.request.Request.the-variants.{NewUser, StartThread, EndThread, NewSegment, NewKey, GiveKey, TakeKey, AddLock, DropLock, CallSegment, ReturnCall, Access}
 use Rattle.call.specs.declared.request.Decoded.the-variants.{WellFormed}
-use Rattle.call.specs.Calls.{Call, callWith, decoded, letterU, letterS, letterE, letterN, letterK, letterG, letterT, letterL, letterD, letterC, letterR, letterA}
+use Rattle.call.specs.Calls.{Call, callWith, decoded}
+use Rattle.call.specs.Calls.{letterU, letterS, letterE, letterN, letterK, letterG, letterT, letterL, letterD, letterC, letterR, letterA}
 
 -- the call of a request; t is the text of a lock
 abbrev pub callOf : Request → List ℕ → Call

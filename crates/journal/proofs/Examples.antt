@@ -69,7 +69,7 @@ longest-full =
     let d : List ℕ = fileBytes longest ++ replicate 9 0 in
     let inside : 65535 ≤ length d = omega (arith, length-append (fileBytes longest) (replicate 9 0), longest-is) in
     let file : take 65535 d ≡ fileBytes longest =
-          subst (λ (n : ℕ). take n d ≡ fileBytes longest) longest-is (take-append-seam (fileBytes longest) (replicate 9 0)) in
+    subst (λ (n : ℕ). take n d ≡ fileBytes longest) longest-is (take-append-seam (fileBytes longest) (replicate 9 0)) in
     declined-exactly d 65535 callU Full .1 (full inside (ap verdictOf file ∙ longest-reads) user-fit (inr (lit< tt)))
 
 pub examples : Examples

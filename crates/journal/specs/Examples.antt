@@ -11,7 +11,8 @@ use Rattle.journal.specs.declared.file.Refusal.the-variants.{Full, NotJo
 use Rattle.journal.specs.declared.file.Verdict.the-variants.{Readable, Refused}
 use Rattle.journal.specs.declared.append.Appended.the-variants.{Length, Declined}
 use Rattle.journal.specs.Format.{fileBytes}
-use Rattle.journal.specs.Verdicts.{refusalNumber, verdictNumber, verdictValues, foundNumber, foundValues, appendedNumber, appendedValues}
+use Rattle.journal.specs.Verdicts.{refusalNumber, verdictNumber, verdictValues}
+use Rattle.journal.specs.Verdicts.{foundNumber, foundValues, appendedNumber, appendedValues}
 use Rattle.journal.specs.Reading.{foundAt, recordsOf, verdictOf, cursorOpened}
 use Rattle.journal.specs.Appending.{appendAnswer, bufferAfter, emptyAnswer, emptyAfter}
 
@@ -57,21 +58,17 @@ pub record Examples : Type 0 where
   -- 'A wrong field value or formula is no fault of the file': N 0 9, and L 0 0 0 `x`
   pub wrong-value : verdictOf (counted 1 (78 ∷ 0 ∷ 0 ∷ 9 ∷ 0 ∷ 0 ∷ 0 ∷ 0 ∷ 0 ∷ [])) ≡ Readable
   pub wrong-formula : verdictOf (counted 1 (76 ∷ 0 ∷ 0 ∷ 0 ∷ 0 ∷ 0 ∷ 0 ∷ 1 ∷ 0 ∷ 120 ∷ [])) ≡ Readable
-
   -- ---- 16: 'under three bytes', and a wrong mark at any length and with any version
   pub no-bytes : verdictOf [] ≡ Refused NotJournal
   pub two-bytes : verdictOf (75 ∷ 76 ∷ []) ≡ Refused NotJournal
   pub wrong-mark : (t : List ℕ) → verdictOf (75 ∷ 76 ∷ 69 ∷ t) ≡ Refused NotJournal
-
   -- ---- 18 if under 7 bytes, of version 1 and of version 2
   pub mark-alone : verdictOf (75 ∷ 76 ∷ 68 ∷ []) ≡ Refused Corrupt
   pub six-bytes : verdictOf (75 ∷ 76 ∷ 68 ∷ 1 ∷ 0 ∷ 0 ∷ []) ≡ Refused Corrupt
   pub version-cut : verdictOf (75 ∷ 76 ∷ 68 ∷ 2 ∷ 0 ∷ []) ≡ Refused Corrupt
-
   -- ---- 17: seven bytes or more of version 2, however long or broken; version 257
   pub version-two : (x y : ℕ) (t : List ℕ) → verdictOf (75 ∷ 76 ∷ 68 ∷ 2 ∷ 0 ∷ x ∷ y ∷ t) ≡ Refused OtherVersion
   pub version-257 : verdictOf (75 ∷ 76 ∷ 68 ∷ 1 ∷ 1 ∷ 0 ∷ 0 ∷ []) ≡ Refused OtherVersion
-
   -- ---- 18: 'length over the limit' of 65,535 bytes
   pub longest-length : length (fileBytes longest) ≡ 65535
   pub longest-readable : verdictOf (fileBytes longest) ≡ Readable
@@ -95,7 +92,6 @@ pub record Examples : Type 0 where
   -- 'bytes left over': one byte, and a whole record where the count is 0
   pub left-over : verdictOf (counted 1 (newUser ++ 0 ∷ [])) ≡ Refused Corrupt
   pub record-left-over : verdictOf (counted 0 newUser) ≡ Refused Corrupt
-
   -- ---- at a cursor: the L of 11 bytes above is at 7 with its text from 16 to 18, a file of 18 bytes ends there, and no record is at 8
   pub found-record : foundAt (counted 1 (76 ∷ 2 ∷ 1 ∷ 3 ∷ 0 ∷ 1 ∷ 0 ∷ 2 ∷ 0 ∷ 85 ∷ 48 ∷ [])) 7
       ≡ Record (record { letter = 76; a = 258; b = 3; c = 1; start = 16; next = 18 })
@@ -132,15 +128,14 @@ pub record AppendExamples : Type 0 where
   pub just-room : appendAnswer (emptyFile ++ replicate 9 0) 7 callU ≡ Length 16
   -- and where 65,535 bytes would be passed, though the buffer has room
   pub over-limit : appendAnswer (fileBytes longest ++ replicate 9 0) 65535 callU ≡ Declined Full
-
   -- ---- an accepted one: L 258 3 1 `U0` after a record U, in a buffer of 30 bytes; the last three stay
   pub accepted : appendAnswer (counted 1 newUser ++ replicate 14 9) 16 (callWith 76 258 3 1 (85 ∷ 48 ∷ [])) ≡ Length 27
-  pub accepted-buffer : bufferAfter (Length 27) (counted 1 newUser ++ replicate 14 9) 16 (callWith 76 258 3 1 (85 ∷ 48 ∷ []))
+  pub accepted-buffer :
+      bufferAfter (Length 27) (counted 1 newUser ++ replicate 14 9) 16 (callWith 76 258 3 1 (85 ∷ 48 ∷ []))
       ≡ 75 ∷ 76 ∷ 68 ∷ 1 ∷ 0 ∷ 2 ∷ 0 ∷ 85 ∷ 0 ∷ 0 ∷ 0 ∷ 0 ∷ 0 ∷ 0 ∷ 0 ∷ 0
       ∷ 76 ∷ 2 ∷ 1 ∷ 3 ∷ 0 ∷ 1 ∷ 0 ∷ 2 ∷ 0 ∷ 85 ∷ 48 ∷ 9 ∷ 9 ∷ 9 ∷ []
   -- a refused one
   pub refused-buffer : bufferAfter (Declined Full) emptyFile 7 callU ≡ emptyFile
-
   -- ---- the file with no record, in buffers of six and of eight bytes
   pub empty-no-room : emptyAnswer (replicate 6 9) ≡ Declined Full
   pub empty-kept : emptyAfter (Declined Full) (replicate 6 9) ≡ 9 ∷ 9 ∷ 9 ∷ 9 ∷ 9 ∷ 9 ∷ []

@@ -10,7 +10,8 @@ use Rattle.journal.specs.Format.{Bytes, AllRecordable, fileBytes, mostBy
 use Rattle.journal.specs.Reading.{recordsOf, verdictOf}
 
 abbrev pub WrittenReadable : Type 0
-WrittenReadable = (rs : List Call) → AllRecordable rs → length (fileBytes rs) ≤ mostBytes → verdictOf (fileBytes rs) ≡ Readable
+WrittenReadable =
+    (rs : List Call) → AllRecordable rs → length (fileBytes rs) ≤ mostBytes → verdictOf (fileBytes rs) ≡ Readable
 
 -- what is written is bytes
 abbrev pub WrittenBytes : Type 0

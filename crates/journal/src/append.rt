@@ -5,6 +5,7 @@ ghost use lib.ListN.{length};
 ghost use Rattle.call.specs.Calls.{callWith, mostText};
 ghost use Rattle.journal.specs.Format.{recordHeadSize, fileHeadSize, countAt};
 ghost use Rattle.journal.specs.Reading.{word};
+ghost use Rattle.journal.specs.Steps.{mostWord};
 ghost use Rattle.journal.specs.Appending.{appendAnswer, withRecord, bufferAfter, emptyAnswer, emptyAfter};
 use crate::bytes::store;
 use crate::bytes::word_at;
@@ -24,7 +25,7 @@ pub enum Appended {
     Declined(Refusal),
 }
 
-// Writes the file with no record to the buffer's start.
+// Writes the file with no record to the buffer's start; numbered by `appendedNumber`.
 pub fn empty(buffer: &mut [u8]) -> Appended
     ensures answer { λ r. ⌜ r ≡ emptyAnswer (now (buffer .entry)) ⌝ }
     ensures bytes { λ r. ⌜ now (buffer .exit) ≡ emptyAfter r (now (buffer .entry)) ⌝ }
@@ -45,7 +46,7 @@ pub fn empty(buffer: &mut [u8]) -> Appended
     Appended::Length(FILE_HEAD)
 }
 
-// Appends a record to the file in the buffer's first `len` bytes.
+// Appends a record to the file in the buffer's first `len` bytes; numbered by `appendedNumber`.
 pub fn append(
     buffer: &mut [u8],
     len: usize,
@@ -100,7 +101,7 @@ fn append_answer(
 // Raises the count, and stores the record after the file.
 fn store_record(d: &mut [u8], len: usize, letter: u8, a: u16, b: u16, c: u16, text: &[u8])
     requires { ⌜ (fileHeadSize ≤ len) × (len + recordHeadSize + length (now text) ≤ length (now d))
-        × (length (now text) ≤ mostText) × (word (now d) countAt < 65535) ⌝ }
+        × (length (now text) ≤ mostText) × (word (now d) countAt < mostWord) ⌝ }
     ensures { λ _. ⌜ now (d .exit) ≡ withRecord (now (d .entry)) len (callWith letter a b c (now (text .entry))) ⌝ }
 {
     let count = word_at(&d[..], COUNT_AT) + 1;

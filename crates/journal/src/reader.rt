@@ -23,6 +23,7 @@ pub fn new<'a>(src: &'a [u8]) -> Reader<'a>
 }
 
 // Checks the whole file. Where it is readable, the reader then stands at its first record; of a refused one the cursor stays.
+// Numbered by `verdictNumber`.
 pub fn open<'s, 'a>(r: &'s mut Reader<'a>) -> Verdict
     ensures { λ v. ⌜ (v ≡ verdictOf (now (now (r .entry) .src)))
         × (now (r .exit) .src ≡ now (r .entry) .src)
@@ -34,7 +35,7 @@ pub fn open<'s, 'a>(r: &'s mut Reader<'a>) -> Verdict
     verdict
 }
 
-// What stands at the reader's cursor, which moves past a record.
+// What stands at the reader's cursor, which moves past a record; numbered by `foundNumber`.
 pub fn next<'s, 'a>(r: &'s mut Reader<'a>) -> Found
     ensures { λ f. ⌜ (f ≡ foundAt (now (now (r .entry) .src)) (now (r .entry) .at))
         × (now (r .exit) .src ≡ now (r .entry) .src)
