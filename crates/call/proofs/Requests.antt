@@ -13,6 +13,7 @@ use Rattle.call.specs.declared.request.Request.the-variants.{NewUser, St
 use Rattle.call.specs.declared.request.Decoded.{Decoded}
 use Rattle.call.specs.declared.request.Decoded.the-variants.{WellFormed, Corrupt}
 use Rattle.call.proofs.Truth.{and-left, and-right}
+use Rattle.call.specs.Calls.{letterU, letterS, letterE, letterN, letterK, letterG, letterT, letterL, letterD, letterC, letterR, letterA}
 use Rattle.call.specs.Calls.{Call, callWith, Row, table, unnamedZero, textNamed, decodedIn, decodedOf}
 use Rattle.call.specs.Requests.{callOf, RequestsExactly}
 
@@ -31,7 +32,7 @@ module _ (x : Call) where
     pub a : leb 1 k ≡ false → x .a ≡ 0
     pub b : leb 2 k ≡ false → x .b ≡ 0
     pub c : leb 3 k ≡ false → x .c ≡ 0
-    pub text : eqb (x .letter) 76 ≡ false → x .text ≡ []
+    pub text : eqb (x .letter) letterL ≡ false → x .text ≡ []
 
   no-text : (t : List ℕ) → length t ≡ 0 → t ≡ []
   no-text [] h = refl
@@ -46,7 +47,7 @@ module _ (x : Call) where
         a = λ e. or-zero (leb 1 k) (x .a) e (and-left pa pb ab);
         b = λ e. or-zero (leb 2 k) (x .b) e (and-right pa pb ab);
         c = λ e. or-zero (leb 3 k) (x .c) e (and-right (pa && pb) pc fields);
-        text = λ e. no-text (x .text) (or-zero (eqb (x .letter) 76) (length (x .text)) e (and-right (pa && pb && pc) (textNamed (x .letter) (length (x .text))) h));
+        text = λ e. no-text (x .text) (or-zero (eqb (x .letter) letterL) (length (x .text)) e (and-right (pa && pb && pc) (textNamed (x .letter) (length (x .text))) h));
       }
 
   -- ---- what every row says, the row that was found says
@@ -77,27 +78,27 @@ module _ (x : Call) where
   is : {l a b c : ℕ} {t : List ℕ} → x .letter ≡ l → x .a ≡ a → x .b ≡ b → x .c ≡ c → x .text ≡ t → x ≡ callWith l a b c t
   is el ea eb ec et i = record { letter = el i; a = ea i; b = eb i; c = ec i; text = et i }
 
-  not-lock : (l : ℕ) → eqb l 76 ≡ false → x .letter ≡ l → eqb (x .letter) 76 ≡ false
+  not-lock : (l : ℕ) → eqb l letterL ≡ false → x .letter ≡ l → eqb (x .letter) letterL ≡ false
   not-lock l h e = rw e h
 
   rows : Each (table (x .a) (x .b) (x .c))
   rows = (
-    λ e z. is e (z .a refl) (z .b refl) (z .c refl) (z .text (not-lock 85 refl e)),
+    λ e z. is e (z .a refl) (z .b refl) (z .c refl) (z .text (not-lock letterU refl e)),
     (
-      one 83 refl,
+      one letterS refl,
       (
-        one 69 refl,
+        one letterE refl,
         (
-          two 78 refl,
+          two letterN refl,
           (
-            one 75 refl,
+            one letterK refl,
             (
-              three 71 refl,
+              three letterG refl,
               (
-                three 84 refl,
+                three letterT refl,
                 (
                   λ e z. is e refl refl refl refl,
-                  (two 68 refl, (two 67 refl, (one 82 refl, (three 65 refl, tt)))),
+                  (two letterD refl, (two letterC refl, (one letterR refl, (three letterA refl, tt)))),
                 ),
               ),
             ),
@@ -107,13 +108,13 @@ module _ (x : Call) where
     ),
   )
     where
-      one : (l : ℕ) → eqb l 76 ≡ false → x .letter ≡ l → Zero 1 → x ≡ callWith l (x .a) 0 0 []
+      one : (l : ℕ) → eqb l letterL ≡ false → x .letter ≡ l → Zero 1 → x ≡ callWith l (x .a) 0 0 []
       one l h e z = is e refl (z .b refl) (z .c refl) (z .text (not-lock l h e))
 
-      two : (l : ℕ) → eqb l 76 ≡ false → x .letter ≡ l → Zero 2 → x ≡ callWith l (x .a) (x .b) 0 []
+      two : (l : ℕ) → eqb l letterL ≡ false → x .letter ≡ l → Zero 2 → x ≡ callWith l (x .a) (x .b) 0 []
       two l h e z = is e refl refl (z .c refl) (z .text (not-lock l h e))
 
-      three : (l : ℕ) → eqb l 76 ≡ false → x .letter ≡ l → Zero 3 → x ≡ callWith l (x .a) (x .b) (x .c) []
+      three : (l : ℕ) → eqb l letterL ≡ false → x .letter ≡ l → Zero 3 → x ≡ callWith l (x .a) (x .b) (x .c) []
       three l h e z = is e refl refl refl (z .text (not-lock l h e))
 
 -- ---- the call of a request

@@ -10,6 +10,7 @@ use Rattle.call.specs.declared.request.Request.the-variants.{NewUser, St
 use Rattle.call.specs.declared.request.Decoded.{Decoded}
 use Rattle.call.specs.declared.request.Decoded.the-variants.{WellFormed, Corrupt}
 
+-- a call: its letter's byte, its fields and its text
 pub record Call : Type 0 where
   pub letter : ℕ
   pub a : ℕ
@@ -20,14 +21,51 @@ pub record Call : Type 0 where
 abbrev pub callWith : ℕ → ℕ → ℕ → ℕ → List ℕ → Call
 callWith l a b c t = record { letter = l; a = a; b = b; c = c; text = t }
 
--- the letter of the one call with a text, and the most bytes of it in a record
-abbrev pub lockLetter : ℕ
-lockLetter = 76
-
+-- the most bytes of an L's text, the lock text, in a record
 abbrev pub mostText : ℕ
 mostText = 96
 
--- a row of the table: the letter's byte, the request, and how many of a, b and c, in their order, it names
+-- ---- the letters' bytes, in ASCII
+
+abbrev pub letterU : ℕ
+letterU = 85
+
+abbrev pub letterS : ℕ
+letterS = 83
+
+abbrev pub letterE : ℕ
+letterE = 69
+
+abbrev pub letterN : ℕ
+letterN = 78
+
+abbrev pub letterK : ℕ
+letterK = 75
+
+abbrev pub letterG : ℕ
+letterG = 71
+
+abbrev pub letterT : ℕ
+letterT = 84
+
+abbrev pub letterL : ℕ
+letterL = 76
+
+abbrev pub letterD : ℕ
+letterD = 68
+
+abbrev pub letterC : ℕ
+letterC = 67
+
+abbrev pub letterR : ℕ
+letterR = 82
+
+abbrev pub letterA : ℕ
+letterA = 65
+
+-- ---- the table
+
+-- a row: the letter's byte, the request, and how many of a, b and c, in their order, it names
 pub record Row : Type 0 where
   pub letter : ℕ
   pub request : Request
@@ -36,36 +74,38 @@ pub record Row : Type 0 where
 abbrev pub row : ℕ → Request → ℕ → Row
 row l q k = record { letter = l; request = q; named = k }
 
--- the table, for the fields a, b and c: U, S, E, N, K, G, T, L, D, C, R, A
+-- for the fields a, b and c
 abbrev pub table : ℕ → ℕ → ℕ → List Row
 table a b c =
-    row 85 NewUser 0
-    ∷ row 83 (StartThread a) 1
-    ∷ row 69 (EndThread a) 1
-    ∷ row 78 (NewSegment a b) 2
-    ∷ row 75 (NewKey a) 1
-    ∷ row 71 (GiveKey a b c) 3
-    ∷ row 84 (TakeKey a b c) 3
-    ∷ row lockLetter (AddLock a b c) 3
-    ∷ row 68 (DropLock a b) 2
-    ∷ row 67 (CallSegment a b) 2
-    ∷ row 82 (ReturnCall a) 1
-    ∷ row 65 (Access a b c) 3
+    row letterU NewUser 0
+    ∷ row letterS (StartThread a) 1
+    ∷ row letterE (EndThread a) 1
+    ∷ row letterN (NewSegment a b) 2
+    ∷ row letterK (NewKey a) 1
+    ∷ row letterG (GiveKey a b c) 3
+    ∷ row letterT (TakeKey a b c) 3
+    ∷ row letterL (AddLock a b c) 3
+    ∷ row letterD (DropLock a b) 2
+    ∷ row letterC (CallSegment a b) 2
+    ∷ row letterR (ReturnCall a) 1
+    ∷ row letterA (Access a b c) 3
     ∷ []
 
--- 'those not named are 0': all but the first k
+-- unnamed fields: 'those not named are 0', all but the first k
 abbrev pub unnamedZero : ℕ → ℕ → ℕ → ℕ → Bool
 unnamedZero k a b c = (leb 1 k || eqb a 0) && (leb 2 k || eqb b 0) && (leb 3 k || eqb c 0)
 
 -- only L names a text, here of n bytes
 abbrev pub textNamed : ℕ → ℕ → Bool
-textNamed letter n = eqb letter lockLetter || eqb n 0
+textNamed letter n = eqb letter letterL || eqb n 0
 
 -- 18 for 'an unknown letter, an unnamed field not 0 or a text outside L', else the letter's request
 abbrev pub decodedIn : List Row → ℕ → ℕ → ℕ → ℕ → ℕ → Decoded
 decodedIn [] letter a b c n = Corrupt
 decodedIn (r ∷ rs) letter a b c n =
-    cond (eqb letter (r .letter)) (cond (unnamedZero (r .named) a b c && textNamed letter n) (WellFormed (r .request)) Corrupt) (decodedIn rs letter a b c n)
+    cond (eqb letter (r .letter))
+    (cond (unnamedZero (r .named) a b c && textNamed letter n) (WellFormed (r .request)) Corrupt)
+    (decodedIn rs letter a b c n)
 
 -- a call handed straight to the guard
 unfoldable pub decodedOf : ℕ → ℕ → ℕ → ℕ → ℕ → Decoded
@@ -80,7 +120,7 @@ isWellFormed Corrupt = false
 
 -- 'Only L has text, 1 to 96 bytes.'
 abbrev pub textFits : ℕ → ℕ → Bool
-textFits letter n = cond (eqb letter lockLetter) (leb 1 n && leb n mostText) (eqb n 0)
+textFits letter n = cond (eqb letter letterL) (leb 1 n && leb n mostText) (eqb n 0)
 
 -- a call that a record can hold: a well formed one, whose text has the right length
 unfoldable pub recordFits : ℕ → ℕ → ℕ → ℕ → ℕ → Bool

@@ -1,4 +1,6 @@
 pub mod Calls
 pub mod Steps
 pub mod Requests
+pub mod Numbers
+pub mod Examples
 pub mod Conditions

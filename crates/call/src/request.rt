@@ -37,7 +37,7 @@ pub enum Decoded {
     Corrupt,
 }
 
-// The request of a call whose text has `size` bytes.
+// The request of a call whose text has `size` bytes. The answer's number is `decodedNumber`, and its values are `decodedValues`.
 pub fn decode(letter: u8, a: u16, b: u16, c: u16, size: usize) -> Decoded
     ensures { λ r. ⌜ r ≡ decodedOf letter a b c size ⌝ }
 {

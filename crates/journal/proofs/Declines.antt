@@ -57,14 +57,14 @@ module _ (d : List ℕ) (len : ℕ) (r : Call) where
   by-length false e = by-file (ltb-false (length d) len e) (verdictOf (take len d)) refl
 
 pub declined-exactly : DeclinedExactly
-declined-exactly d len r f = (λ h. told (by-length d len r (ltb (length d) len) refl) h, declined d len r)
+declined-exactly d len r f = (λ h. by-answer (by-length d len r (ltb (length d) len) refl) h, declined d len r)
   where
     same : (g f : Refusal) → _≡_ (Declined g) (Declined f) → g ≡ f
     same g f e = cc
 
-    told : Case d len r → appendAnswer d len r ≡ Declined f → DeclinedBy d len r f
-    told (inl (g, by)) h = subst (λ (x : Refusal). DeclinedBy d len r x) (same g f (sym (declined d len r by) ∙ h)) by
-    told (inr e) h = let z : Length (lengthWith len r) ≡ Declined f = sym e ∙ h in let no : _≡_ {A = ℕ} 0 1 = cc in absurd (omega arith)
+    by-answer : Case d len r → appendAnswer d len r ≡ Declined f → DeclinedBy d len r f
+    by-answer (inl (g, by)) h = subst (λ (x : Refusal). DeclinedBy d len r x) (same g f (sym (declined d len r by) ∙ h)) by
+    by-answer (inr e) h = let z : Length (lengthWith len r) ≡ Declined f = sym e ∙ h in let no : _≡_ {A = ℕ} 0 1 = cc in absurd (omega arith)
 
 pub accepted-exactly : AcceptedExactly
 accepted-exactly d len r n = (

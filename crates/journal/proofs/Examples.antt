@@ -1,19 +1,26 @@
 -- Short files are computed. The long ones are not written out: their length is counted by induction, and the theorems on files do the rest. Assumes nothing.
-use Prim.Native.Nat.{ℕ, zero, suc, _+_, _*_, _<_}
-use mathlib.Core.Path.{_≡_, refl, ap, _∙_}
+use Prim.Native.Nat.{ℕ, zero, suc, _+_, _*_, _<_, _≤_}
+use mathlib.Core.Path.{_≡_, refl, ap, subst, _∙_}
+use mathlib.Core.Bool.{true}
+use mathlib.Core.Logic.{inr}
 use mathlib.Core.List.{List, [], _∷_, _++_}
 use native.Mathlib.Omega.{arith}
-use lib.ListN.{length}
+use lib.ListN.{length, take, replicate, length-append}
+use lib.Seq.{take-append-seam}
 use lib.Dec.{lit<}
 use borrow.Author.Tests.{le-leb, lt-ltb, le-ltb}
 use Rattle.call.specs.Calls.{Call, callWith, decodedOf, recordFits}
-use Rattle.journal.specs.declared.file.Refusal.the-variants.{Corrupt}
-use Rattle.journal.specs.declared.file.Verdict.the-variants.{Refused}
-use Rattle.journal.specs.Format.{allBytes, fileHead, fileBytes, mostBytes, Recordable, AllRecordable}
-use Rattle.journal.specs.Reading.{wholeAt, wholeFrom, recordsFrom, recordsOf, verdictOf}
-use Rattle.journal.specs.Examples.{usersThen, eightBytes, longest, oneMore, Examples}
+use Rattle.journal.specs.declared.file.Refusal.the-variants.{Full, Corrupt}
+use Rattle.journal.specs.declared.file.Verdict.the-variants.{Readable, Refused}
+use Rattle.journal.specs.declared.append.Appended.the-variants.{Declined}
+use Rattle.journal.specs.Format.{allBytes, fileHead, fileBytes, mostBytes, isFit, Recordable, AllRecordable}
+use Rattle.journal.specs.Reading.{wholeAt, foundAt, wholeFrom, recordsFrom, recordsOf, verdictOf}
+use Rattle.journal.specs.Appending.{appendAnswer, withRecord, emptyAnswer}
+use Rattle.journal.specs.Declines.{full}
+use Rattle.journal.specs.Examples.{usersThen, eightBytes, longest, oneMore, callU, Examples, AppendExamples, NumberExamples}
 use Rattle.journal.proofs.ByteLists.{all-are}
 use Rattle.journal.proofs.ReadsBack.{file-length, written-readable}
+use Rattle.journal.proofs.Declines.{declined-exactly}
 
 users-length : (n : ℕ) (rs : List Call) → length (allBytes (usersThen n rs)) ≡ 9 * n + length (allBytes rs)
 unfolding usersThen
@@ -44,28 +51,117 @@ lock-recordable =
       text-bytes = all-are eightBytes (lit< tt, (lit< tt, (lit< tt, (lit< tt, (lit< tt, (lit< tt, (lit< tt, (lit< tt, tt))))))));
     }
 
+user-fit : isFit callU ≡ true
+unfolding recordFits decodedOf
+user-fit = refl
+
 longest-is : length (fileBytes longest) ≡ 65535
 longest-is = file-length longest ∙ ap (λ (k : ℕ). 7 + k) (users-length 7279 _)
 
 one-more-is : length (fileBytes oneMore) ≡ 65536
 one-more-is = file-length oneMore ∙ ap (λ (k : ℕ). 7 + k) (users-length 7279 _)
 
+longest-reads : verdictOf (fileBytes longest) ≡ Readable
+longest-reads = written-readable longest (users-recordable 7279 _ (lock-recordable, tt)) (omega (arith, longest-is))
+
+longest-full : appendAnswer (fileBytes longest ++ replicate 9 0) 65535 callU ≡ Declined Full
+longest-full =
+    let d : List ℕ = fileBytes longest ++ replicate 9 0 in
+    let inside : 65535 ≤ length d = omega (arith, length-append (fileBytes longest) (replicate 9 0), longest-is) in
+    let file : take 65535 d ≡ fileBytes longest =
+    subst (λ (n : ℕ). take n d ≡ fileBytes longest) longest-is (take-append-seam (fileBytes longest) (replicate 9 0)) in
+    declined-exactly d 65535 callU Full .1 (full inside (ap verdictOf file ∙ longest-reads) user-fit (inr (lit< tt)))
+
 pub examples : Examples
-unfolding verdictOf recordsOf recordsFrom wholeFrom wholeAt fileBytes recordFits decodedOf
+unfolding verdictOf recordsOf recordsFrom wholeFrom wholeAt foundAt fileBytes recordFits decodedOf
 examples =
     record {
       empty-readable = refl;
       empty-has-none = refl;
       empty-written = refl;
-      two-bytes = refl;
-      version-cut = refl;
-      version-two = λ x y t. let s : List ℕ = 75 ∷ 76 ∷ 68 ∷ 2 ∷ 0 ∷ x ∷ y ∷ t in rw (le-leb 3 (length s) (omega arith), le-ltb (length s) 7 (omega arith));
-      wrong-mark = λ t. let s : List ℕ = 75 ∷ 76 ∷ 69 ∷ t in rw (le-leb 3 (length s) (omega arith));
       one-readable = refl;
       one-record = refl;
-      left-over = refl;
+      two-readable = refl;
+      two-records = refl;
+      wrong-value = refl;
+      wrong-formula = refl;
+      no-bytes = refl;
+      two-bytes = refl;
+      wrong-mark = λ t. let s : List ℕ = 75 ∷ 76 ∷ 69 ∷ t in rw (le-leb 3 (length s) (omega arith));
+      mark-alone = refl;
+      six-bytes = refl;
+      version-cut = refl;
+      version-two = λ x y t. let s : List ℕ = 75 ∷ 76 ∷ 68 ∷ 2 ∷ 0 ∷ x ∷ y ∷ t in rw (le-leb 3 (length s) (omega arith), le-ltb (length s) 7 (omega arith));
+      version-257 = refl;
       longest-length = longest-is;
-      longest-readable = written-readable longest (users-recordable 7279 _ (lock-recordable, tt)) (omega (arith, longest-is));
+      longest-readable = longest-reads;
       one-more-length = one-more-is;
       one-more-refused = long-refused oneMore (omega (arith, one-more-is));
+      unknown-letter = refl;
+      unnamed-a = refl;
+      unnamed-b = refl;
+      unnamed-c = refl;
+      text-of-none = refl;
+      text-of-96 = refl;
+      text-of-97 = refl;
+      text-outside-lock = refl;
+      head-cut = refl;
+      text-cut = refl;
+      record-missing = refl;
+      left-over = refl;
+      record-left-over = refl;
+      found-record = refl;
+      found-end = refl;
+      found-damaged = refl;
+      opened-readable = refl;
+      opened-refused = refl;
+    }
+
+pub append-examples : AppendExamples
+unfolding appendAnswer emptyAnswer withRecord wholeFrom wholeAt fileBytes recordFits decodedOf
+append-examples =
+    record {
+      beyond-buffer = refl;
+      not-journal = refl;
+      cut-short = refl;
+      other-version = refl;
+      broken = refl;
+      unfit-letter = refl;
+      unfit-field = refl;
+      unfit-no-text = refl;
+      unfit-text = refl;
+      no-room = refl;
+      no-room-by-one = refl;
+      just-room = refl;
+      over-limit = longest-full;
+      accepted = refl;
+      accepted-buffer = refl;
+      refused-buffer = refl;
+      empty-no-room = refl;
+      empty-kept = refl;
+      empty-accepted = refl;
+      empty-buffer = refl;
+    }
+
+pub number-examples : NumberExamples
+number-examples =
+    record {
+      full = refl;
+      not-journal = refl;
+      other-version = refl;
+      corrupt = refl;
+      readable = refl;
+      readable-values = refl;
+      refused = refl;
+      refused-values = refl;
+      found-record = λ e. refl;
+      found-record-values = refl;
+      found-end = refl;
+      found-end-values = refl;
+      found-damaged = refl;
+      found-damaged-values = refl;
+      appended = refl;
+      appended-values = refl;
+      declined = refl;
+      declined-values = refl;
     }

@@ -4,6 +4,7 @@ pub mod Judging
 pub mod Answering
 pub mod Files
 pub mod ReadsBack
+pub mod ReadsInOrder
 pub mod WritesBack
 pub mod Rebuilds
 pub mod Declines

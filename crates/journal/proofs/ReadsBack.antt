@@ -1,5 +1,4 @@
--- A record that stands in a file is read back where it stands; by induction so is a list of them. A cursor steps from whole record to whole record.
--- Assumes nothing.
+-- A record that stands in a file is read back where it stands; by induction so is a list of them. Assumes nothing.
 use Prim.Native.Nat.{ℕ, zero, suc, _+_, _-_, _*_, _<_, _≤_}
 use mathlib.Core.Path.{_≡_, refl, sym, ap, ap₂, subst₂, _∙_}
 use mathlib.Core.Bool.{true}
@@ -10,16 +9,14 @@ use lib.Seq.{take-append-seam, drop-append-add, getD-append-add, getD-append-sea
 use lib.Dec.{lit<}
 use borrow.Author.Tests.{eq-eqb, eqb-true, le-leb}
 use Rattle.call.specs.Calls.{Call}
-use Rattle.journal.specs.declared.record.Found.the-variants.{End}
 use Rattle.journal.specs.Format.{low, high, recordBytes, allBytes, fileHead, fileBytes, Recordable, AllRecordable, mostBytes, isFit}
 use Rattle.journal.specs.Reading.{word, recordOf, nextOf, wholeAt, wholeFrom, recordsFrom, recordsOf, verdictOf}
 use Rattle.journal.specs.declared.file.Verdict.the-variants.{Readable}
-use Rattle.journal.specs.ReadsBack.{WrittenReadable, WrittenBytes, RecordsBack, runFrom, ReadsInOrder}
+use Rattle.journal.specs.ReadsBack.{WrittenReadable, WrittenBytes, RecordsBack}
 use Rattle.call.proofs.Texts.{text-short}
 use Rattle.journal.proofs.ByteLists.{Each, each, all-are, each-append}
 use Rattle.call.proofs.Truth.{and-left, and-right}
-use Rattle.journal.proofs.Finding.{found-record, found-end}
-use Rattle.journal.proofs.Files.{open-file, shut-file}
+use Rattle.journal.proofs.Files.{shut-file}
 
 pub word-value : (w : ℕ) → low w + high w * 256 ≡ w
 word-value w = omega arith
@@ -157,25 +154,3 @@ written-bytes rs v h =
 pub records-back : RecordsBack
 unfolding fileBytes recordsOf
 records-back rs = rw (word-value (length rs)) (records-all rs (fileHead (length rs)))
-
--- ---- by the cursor
-
-runs : (n : ℕ) (s : List ℕ) (at : ℕ) → wholeFrom n s at ≡ true → runFrom n s at ≡ record { read = recordsFrom n s at; last = End }
-unfolding wholeFrom recordsFrom runFrom
-runs zero s at h = rw (← found-end s at (omega (arith, eqb-true at (length s) h)))
-runs (suc n) s at h =
-    let t : at + 9 + word s (at + 7) - (at + 9) ≡ word s (at + 7) = omega arith in
-    rw (
-      found-record s at (and-left (wholeAt s at) (wholeFrom n s (nextOf s at)) h),
-      runs n s (nextOf s at) (and-right (wholeAt s at) (wholeFrom n s (nextOf s at)) h),
-      t,
-    )
-
-pub records-length : (n : ℕ) (s : List ℕ) (at : ℕ) → length (recordsFrom n s at) ≡ n
-unfolding recordsFrom
-records-length zero s at = refl
-records-length (suc n) s at = ap suc (records-length n s (nextOf s at))
-
-pub reads-in-order : ReadsInOrder
-unfolding recordsOf
-reads-in-order s h = rw (records-length (word s 5) s 7) (runs (word s 5) s 7 (open-file s h .records))

@@ -85,11 +85,11 @@ module _ (s : List ℕ) (bytes : Bytes s) where
       clash h = let z : _≡_ {A = ℕ} 0 1 = cc in absurd (omega arith)
 
 pub refused-exactly : RefusedExactly
-refused-exactly s bytes f = (λ h. told (by-mark s bytes (marked s) refl) h, refused s bytes)
+refused-exactly s bytes f = (λ h. by-verdict (by-mark s bytes (marked s) refl) h, refused s bytes)
   where
     same : (g f : Refusal) → _≡_ (Refused g) (Refused f) → g ≡ f
     same g f e = cc
 
-    told : Case s bytes → verdictOf s ≡ Refused f → RefusedBy s f
-    told (inl (g, by)) h = subst (λ (x : Refusal). RefusedBy s x) (same g f (sym (refused s bytes by) ∙ h)) by
-    told (inr e) h = let z : Readable ≡ Refused f = sym e ∙ h in let no : _≡_ {A = ℕ} 0 1 = cc in absurd (omega arith)
+    by-verdict : Case s bytes → verdictOf s ≡ Refused f → RefusedBy s f
+    by-verdict (inl (g, by)) h = subst (λ (x : Refusal). RefusedBy s x) (same g f (sym (refused s bytes by) ∙ h)) by
+    by-verdict (inr e) h = let z : Readable ≡ Refused f = sym e ∙ h in let no : _≡_ {A = ℕ} 0 1 = cc in absurd (omega arith)

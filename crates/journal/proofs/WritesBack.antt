@@ -1,6 +1,6 @@
 -- The bytes of a word, of a record and of all records that were read are those that stood there; the head's seven bytes too. Assumes nothing.
 use Prim.Native.Nat.{ℕ, zero, suc, _+_, _<_, _≤_}
-use mathlib.Core.Path.{_≡_, sym, ap, subst, _∙_}
+use mathlib.Core.Path.{_≡_, refl, sym, ap, subst, _∙_}
 use mathlib.Core.Bool.{true}
 use mathlib.Core.List.{List, _∷_, _++_}
 use native.Mathlib.Omega.{arith}
@@ -14,7 +14,12 @@ use Rattle.journal.specs.WritesBack.{WritesBack, ReadableExactly}
 use Rattle.journal.proofs.ByteLists.{bytes-take, bytes-drop}
 use Rattle.call.proofs.Truth.{and-left, and-right}
 use Rattle.journal.proofs.Files.{Whole, whole, Mark, mark-of, File, open-file}
-use Rattle.journal.proofs.ReadsBack.{records-length, written-readable}
+use Rattle.journal.proofs.ReadsBack.{written-readable}
+
+records-length : (n : ℕ) (s : List ℕ) (at : ℕ) → length (recordsFrom n s at) ≡ n
+unfolding recordsFrom
+records-length zero s at = refl
+records-length (suc n) s at = ap suc (records-length n s (nextOf s at))
 
 module _ (s : List ℕ) (bytes : Bytes s) where
   -- the two bytes of the word at i

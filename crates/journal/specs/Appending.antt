@@ -1,4 +1,5 @@
--- Appending one record to a file in a buffer (document 01: 'Desk file'): the answer, and every byte of the buffer afterwards. Assumes nothing.
+-- Appending one record to a file (document 01: desk file) in a buffer (document 01: lent buffer): the answer, and every byte of the buffer afterwards.
+-- Document 01's section 'Desk file'. Assumes nothing.
 use mathlib.Core.Bool.{not, cond, _||_}
 use mathlib.Core.List.{List, [], _∷_, _++_}
 use mathlib.Core.Option.{Option, none, some}
@@ -12,7 +13,8 @@ use Rattle.journal.specs.declared.file.Refusal.{Refusal}
 use Rattle.journal.specs.declared.file.Refusal.the-variants.{Full, Corrupt}
 use Rattle.journal.specs.declared.append.Appended.{Appended}
 use Rattle.journal.specs.declared.append.Appended.the-variants.{Length, Declined}
-use Rattle.journal.specs.Format.{wordBytes, recordBytes, recordHeadSize, fileHeadSize, countAt, fileBytes, mostBytes, isFit}
+use Rattle.journal.specs.Format.{wordBytes, recordBytes, isFit}
+use Rattle.journal.specs.Format.{recordHeadSize, fileHeadSize, countAt, fileBytes, mostBytes}
 use Rattle.journal.specs.Reading.{word, fileConditions}
 
 -- the length of the file with the record
@@ -22,7 +24,9 @@ lengthWith len r = len + recordHeadSize + length (r .text)
 -- '18 for an unfit record .., and 10 when the buffer or 65,535 bytes would be passed'
 abbrev pub ownConditions : List ℕ → ℕ → Call → List (Condition Refusal)
 ownConditions d len r =
-    when (not (isFit r)) Corrupt ∷ when (ltb (length d) (lengthWith len r) || ltb mostBytes (lengthWith len r)) Full ∷ []
+    when (not (isFit r)) Corrupt
+    ∷ when (ltb (length d) (lengthWith len r) || ltb mostBytes (lengthWith len r)) Full
+    ∷ []
 
 -- a length beyond the buffer is 18, 'checked first. Then come these refusals for the file', and then those
 abbrev pub appendConditions : List ℕ → ℕ → Call → List (Condition Refusal)

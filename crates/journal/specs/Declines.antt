@@ -24,7 +24,8 @@ pub data DeclinedBy (d : List ℕ) (len : ℕ) (r : Call) : Refusal → Type 0 w
       → (length d < lengthWith len r) ⊎ (mostBytes < lengthWith len r) → DeclinedBy d len r Full
 
 abbrev pub DeclinedExactly : Type 0
-DeclinedExactly = (d : List ℕ) (len : ℕ) (r : Call) (f : Refusal) → (appendAnswer d len r ≡ Declined f) ↔ DeclinedBy d len r f
+DeclinedExactly =
+    (d : List ℕ) (len : ℕ) (r : Call) (f : Refusal) → (appendAnswer d len r ≡ Declined f) ↔ DeclinedBy d len r f
 
 -- none of them holds, and n is the new length
 pub record Takes (d : List ℕ) (len : ℕ) (r : Call) (n : ℕ) : Type 0 where

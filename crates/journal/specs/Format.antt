@@ -1,5 +1,5 @@
--- The journal, as it is written (document 01: 'Desk file'): the bytes of a record, and of a file with a list of records. A record is a call.
--- Assumes nothing.
+-- The journal (document 01: desk file), as it is written: the bytes of a record, and of a file with a list of records. A record is a call. Document 01's
+-- section 'Desk file'. Assumes nothing.
 use mathlib.Core.Path.{_≡_}
 use mathlib.Core.Bool.{Bool, true}
 use mathlib.Core.List.{List, [], _∷_, _++_}
@@ -21,11 +21,13 @@ high w = w / 256
 abbrev pub wordBytes : ℕ → List ℕ
 wordBytes w = low w ∷ high w ∷ []
 
--- the letter's byte, a, b, c and the text length
+-- ---- a record
+
+-- its head: the letter's byte, the fields a, b, c and the text length
 abbrev pub headBytes : ℕ → ℕ → ℕ → ℕ → ℕ → List ℕ
 headBytes l a b c n = l ∷ wordBytes a ++ wordBytes b ++ wordBytes c ++ wordBytes n
 
--- the text follows
+-- the record: the text follows its head
 abbrev pub recordBytes : Call → List ℕ
 recordBytes r = headBytes (r .letter) (r .a) (r .b) (r .c) (length (r .text)) ++ r .text
 
@@ -33,34 +35,61 @@ abbrev pub allBytes : List Call → List ℕ
 allBytes [] = []
 allBytes (r ∷ rs) = recordBytes r ++ allBytes rs
 
-abbrev pub fileVersion : ℕ
-fileVersion = 1
+-- where in it the fields a, b, c, the text length and the text stand
+abbrev pub aAt : ℕ
+aAt = 1
 
--- the bytes of a record before its text, and of a file before its first record; where version and count stand
+abbrev pub bAt : ℕ
+bAt = 3
+
+abbrev pub cAt : ℕ
+cAt = 5
+
+abbrev pub textLengthAt : ℕ
+textLengthAt = 7
+
 abbrev pub recordHeadSize : ℕ
 recordHeadSize = 9
 
-abbrev pub fileHeadSize : ℕ
-fileHeadSize = 7
+-- ---- a file
 
+-- the mark, `KLD`
+abbrev pub markK : ℕ
+markK = 75
+
+abbrev pub markL : ℕ
+markL = 76
+
+abbrev pub markD : ℕ
+markD = 68
+
+-- the version
+abbrev pub fileVersion : ℕ
+fileVersion = 1
+
+-- where the version, the record count and the first record stand
 abbrev pub versionAt : ℕ
 versionAt = 3
 
 abbrev pub countAt : ℕ
 countAt = 5
 
--- `KLD`, the version and the count
+abbrev pub fileHeadSize : ℕ
+fileHeadSize = 7
+
+-- its head: the mark, the version and the record count
 abbrev pub fileHead : ℕ → List ℕ
-fileHead n = 75 ∷ 76 ∷ 68 ∷ wordBytes fileVersion ++ wordBytes n
+fileHead n = markK ∷ markL ∷ markD ∷ wordBytes fileVersion ++ wordBytes n
 
 -- the file of a list of records
 unfoldable pub fileBytes : List Call → List ℕ
 fileBytes rs = fileHead (length rs) ++ allBytes rs
 
+-- 'At most 65,535 bytes'
 abbrev pub mostBytes : ℕ
 mostBytes = 65535
 
--- an unfit record has an unknown letter, an unnamed field that is not 0 or a wrong text length
+-- an unfit record has an 'unknown letter, an unnamed field not 0, text length wrong'
 abbrev pub isFit : Call → Bool
 isFit r = recordFits (r .letter) (r .a) (r .b) (r .c) (length (r .text))
 

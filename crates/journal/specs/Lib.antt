@@ -4,6 +4,7 @@ pub mod Reading
 pub mod Appending
 pub mod Steps
 pub mod ReadsBack
+pub mod ReadsInOrder
 pub mod WritesBack
 pub mod Rebuilds
 pub mod Declines

@@ -1,5 +1,5 @@
--- The journal, as it is read (document 01: 'Desk file'): a file is a list of bytes, and a cursor is a place in it. What stands at a cursor, the
--- records of a file, and the first refusal of a file. Assumes nothing.
+-- The journal (document 01: desk file), as it is read: a file is a list of bytes, and a cursor is a place in it. What stands at a cursor, the records of a
+-- file, and the first refusal of a file. Document 01's section 'Desk file'. Assumes nothing.
 use mathlib.Core.Bool.{Bool, cond, not, _&&_}
 use mathlib.Core.List.{List, [], _∷_}
 use mathlib.Core.Option.{Option, none, some}
@@ -15,7 +15,8 @@ use Rattle.journal.specs.declared.file.Refusal.{Refusal}
 use Rattle.journal.specs.declared.file.Refusal.the-variants.{NotJournal, OtherVersion, Corrupt}
 use Rattle.journal.specs.declared.file.Verdict.{Verdict}
 use Rattle.journal.specs.declared.file.Verdict.the-variants.{Readable, Refused}
-use Rattle.journal.specs.Format.{recordHeadSize, fileHeadSize, fileVersion, versionAt, countAt, mostBytes}
+use Rattle.journal.specs.Format.{aAt, bAt, cAt, textLengthAt, recordHeadSize, fileHeadSize}
+use Rattle.journal.specs.Format.{markK, markL, markD, fileVersion, versionAt, countAt, mostBytes}
 
 -- the 16 bits at i, low byte first
 abbrev pub word : List ℕ → ℕ → ℕ
@@ -23,26 +24,26 @@ word s i = getD s i 0 + getD s (i + 1) 0 * 256
 
 -- ---- one record
 
--- the record at a cursor
+-- the record at a cursor: letter, fields and text
 abbrev pub recordOf : List ℕ → ℕ → Call
 recordOf s at =
     record {
       letter = getD s at 0;
-      a = word s (at + 1);
-      b = word s (at + 3);
-      c = word s (at + 5);
-      text = take (word s (at + 7)) (drop (at + recordHeadSize) s);
+      a = word s (at + aAt);
+      b = word s (at + bAt);
+      c = word s (at + cAt);
+      text = take (word s (at + textLengthAt)) (drop (at + recordHeadSize) s);
     }
 
 -- the cursor after it
 abbrev pub nextOf : List ℕ → ℕ → ℕ
-nextOf s at = at + recordHeadSize + word s (at + 7)
+nextOf s at = at + recordHeadSize + word s (at + textLengthAt)
 
 -- the record is fit, and not cut short
 unfoldable pub wholeAt : List ℕ → ℕ → Bool
 wholeAt s at =
     leb (at + recordHeadSize) (length s)
-    && (recordFits (getD s at 0) (word s (at + 1)) (word s (at + 3)) (word s (at + 5)) (word s (at + 7))
+    && (recordFits (getD s at 0) (word s (at + aAt)) (word s (at + bAt)) (word s (at + cAt)) (word s (at + textLengthAt))
     && leb (nextOf s at) (length s))
 
 -- the letter and fields, where the text starts, and the cursor after the record
@@ -50,9 +51,9 @@ abbrev pub entryOf : List ℕ → ℕ → Entry
 entryOf s at =
     record {
       letter = getD s at 0;
-      a = word s (at + 1);
-      b = word s (at + 3);
-      c = word s (at + 5);
+      a = word s (at + aAt);
+      b = word s (at + bAt);
+      c = word s (at + cAt);
       start = at + recordHeadSize;
       next = nextOf s at;
     }
@@ -83,10 +84,12 @@ wholeFrom (suc n) s at = wholeAt s at && wholeFrom n s (nextOf s at)
 
 -- ---- a whole file
 
--- three bytes or more, and the first three are the mark `KLD`
+-- the mark: three bytes or more, and the first three are `KLD`
 abbrev pub marked : List ℕ → Bool
-marked s = leb 3 (length s) && (eqb (getD s 0 0) 75 && eqb (getD s 1 0) 76 && eqb (getD s 2 0) 68)
+marked s =
+    leb versionAt (length s) && (eqb (getD s 0 0) markK && eqb (getD s 1 0) markL && eqb (getD s 2 0) markD)
 
+-- the version is 1
 abbrev pub current : List ℕ → Bool
 current s = eqb (word s versionAt) fileVersion
 
@@ -107,3 +110,9 @@ verdict (some f) = Refused f
 
 unfoldable pub verdictOf : List ℕ → Verdict
 verdictOf s = verdict (firstRefusal (fileConditions s))
+
+-- ---- a reader: the cursor after the file's check, at the first record of a readable file, else where it was
+
+abbrev pub cursorOpened : Verdict → ℕ → ℕ
+cursorOpened Readable at = fileHeadSize
+cursorOpened (Refused f) at = at

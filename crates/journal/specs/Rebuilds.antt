@@ -51,8 +51,8 @@ holding d s = record { bytes = s ++ drop (length s) d; len = length s }
 -- any records that a file can hold, appended in order to the empty file, give their file
 abbrev pub AppendsAll : Type 0
 AppendsAll =
-    (rs : List Call) → AllRecordable rs → length (fileBytes rs) ≤ mostBytes → (d : List ℕ) → length (fileBytes rs) ≤ length d
-    → appendAll (emptied d) rs ≡ holding d (fileBytes rs)
+    (rs : List Call) → AllRecordable rs → length (fileBytes rs) ≤ mostBytes
+    → (d : List ℕ) → length (fileBytes rs) ≤ length d → appendAll (emptied d) rs ≡ holding d (fileBytes rs)
 
 -- so a readable file's records give that file again
 abbrev pub Rebuilds : Type 0

@@ -1,10 +1,11 @@
-// Appending a record to a file in the caller's buffer.
+// Appending a record to a file in the caller's buffer (document 01: lent buffer).
 ghost use mathlib.Core.Path.{_≡_};
 ghost use Prim.Native.Nat.{_+_, _<_, _≤_};
 ghost use lib.ListN.{length};
 ghost use Rattle.call.specs.Calls.{callWith, mostText};
 ghost use Rattle.journal.specs.Format.{recordHeadSize, fileHeadSize, countAt};
 ghost use Rattle.journal.specs.Reading.{word};
+ghost use Rattle.journal.specs.Steps.{mostWord};
 ghost use Rattle.journal.specs.Appending.{appendAnswer, withRecord, bufferAfter, emptyAnswer, emptyAfter};
 use crate::bytes::store;
 use crate::bytes::word_at;
@@ -18,13 +19,13 @@ use crate::file::check;
 use crate::record::RECORD_HEAD;
 use call::record::fits;
 
-// The file's new length, or why nothing was written.
+// The file's new length, or why nothing was written. The answer's number is `appendedNumber`, and its values are `appendedValues`.
 pub enum Appended {
     Length(usize),
     Declined(Refusal),
 }
 
-// Writes the file with no record to the buffer's start.
+// Writes the file with no record to the buffer's start; numbered by `appendedNumber`.
 pub fn empty(buffer: &mut [u8]) -> Appended
     ensures answer { λ r. ⌜ r ≡ emptyAnswer (now (buffer .entry)) ⌝ }
     ensures bytes { λ r. ⌜ now (buffer .exit) ≡ emptyAfter r (now (buffer .entry)) ⌝ }
@@ -45,7 +46,7 @@ pub fn empty(buffer: &mut [u8]) -> Appended
     Appended::Length(FILE_HEAD)
 }
 
-// Appends a record to the file in the buffer's first `len` bytes.
+// Appends a record to the file in the buffer's first `len` bytes; numbered by `appendedNumber`.
 pub fn append(
     buffer: &mut [u8],
     len: usize,
@@ -56,7 +57,8 @@ pub fn append(
     text: &[u8],
 ) -> Appended
     ensures answer { λ r. ⌜ r ≡ appendAnswer (now (buffer .entry)) len (callWith letter a b c (now (text .entry))) ⌝ }
-    ensures bytes { λ r. ⌜ now (buffer .exit) ≡ bufferAfter r (now (buffer .entry)) len (callWith letter a b c (now (text .entry))) ⌝ }
+    ensures bytes { λ r. ⌜ now (buffer .exit)
+        ≡ bufferAfter r (now (buffer .entry)) len (callWith letter a b c (now (text .entry))) ⌝ }
 {
     let answer = append_answer(&buffer[..], len, letter, a, b, c, text);
     let Appended::Length(_) = answer else {
@@ -98,7 +100,8 @@ fn append_answer(
 
 // Raises the count, and stores the record after the file.
 fn store_record(d: &mut [u8], len: usize, letter: u8, a: u16, b: u16, c: u16, text: &[u8])
-    requires { ⌜ (fileHeadSize ≤ len) × (len + recordHeadSize + length (now text) ≤ length (now d)) × (length (now text) ≤ mostText) × (word (now d) countAt < 65535) ⌝ }
+    requires { ⌜ (fileHeadSize ≤ len) × (len + recordHeadSize + length (now text) ≤ length (now d))
+        × (length (now text) ≤ mostText) × (word (now d) countAt < mostWord) ⌝ }
     ensures { λ _. ⌜ now (d .exit) ≡ withRecord (now (d .entry)) len (callWith letter a b c (now (text .entry))) ⌝ }
 {
     let count = word_at(&d[..], COUNT_AT) + 1;

@@ -1,4 +1,4 @@
-// A whole file: whether it is readable.
+// A whole file (document 01: desk file): whether it is readable.
 ghost use mathlib.Core.Path.{_≡_};
 ghost use Prim.Native.Nat.{_≤_};
 ghost use lib.ListN.{length};
@@ -17,15 +17,16 @@ pub enum Refusal {
     Corrupt,
 }
 
+// The verdict on a file. Its number is `verdictNumber`, and its values are `verdictValues`.
 pub enum Verdict {
     Readable,
     Refused(Refusal),
 }
 
-// The bytes before the first record: the mark `KLD`, the version and the count.
-pub(crate) const FILE_HEAD: usize = 7;
+// The bytes before the first record: the mark `KLD`, the version and the count. The first record's cursor.
+pub const FILE_HEAD: usize = 7;
 
-// Where the version and the count stand in it, right after the mark and each other.
+// Where the version and the record count stand in it, right after the mark and each other.
 const VERSION_AT: usize = 3;
 
 pub(crate) const COUNT_AT: usize = 5;
@@ -33,9 +34,10 @@ pub(crate) const COUNT_AT: usize = 5;
 // The most bytes of a file.
 pub(crate) const MOST_BYTES: usize = 65535;
 
+// The version.
 pub(crate) const VERSION: u16 = 1;
 
-// That a file is readable, or its first refusal.
+// That a file is readable, or its first refusal; numbered by `verdictNumber`.
 pub fn check(file: &[u8]) -> Verdict
     ensures { λ r. ⌜ r ≡ verdictOf (now (file .entry)) ⌝ }
 {
@@ -82,6 +84,7 @@ fn head_verdict(n: usize, marked: bool, current: bool) -> Verdict
     Verdict::Readable
 }
 
+// Whether the file starts with the mark.
 fn is_marked(file: &[u8]) -> bool
     ensures { λ r. ⌜ r ≡ marked (now (file .entry)) ⌝ }
 {
@@ -91,6 +94,7 @@ fn is_marked(file: &[u8]) -> bool
     (file[0] == b'K') & (file[1] == b'L') & (file[2] == b'D')
 }
 
+// Whether the file's version is 1.
 fn is_current(file: &[u8]) -> bool
     ensures { λ r. ⌜ r ≡ versionRead (now (file .entry)) ⌝ }
 {

@@ -1,4 +1,4 @@
-// The record at a cursor.
+// The record at a cursor (document 01: record): its letter, fields and text.
 ghost use mathlib.Core.Path.{_≡_};
 ghost use Rattle.journal.specs.Reading.{foundAt};
 ghost use Rattle.journal.specs.Steps.{sizeAt};
@@ -15,17 +15,26 @@ pub struct Entry {
     pub next: usize,
 }
 
-// What stands at a cursor. Damaged, document 01's 18: no whole record, and not the end either.
+// What stands at a cursor. Damaged, document 01's 18: no whole record, and not the end either. Its number is `foundNumber`, and its values are
+// `foundValues`.
 pub enum Found {
     Record(Entry),
     End,
     Damaged,
 }
 
-// The bytes of a record before its text.
+// Where the fields a, b, c, the text length and the text stand in a record.
+const A_AT: usize = 1;
+
+const B_AT: usize = 3;
+
+const C_AT: usize = 5;
+
+const TEXT_LENGTH_AT: usize = 7;
+
 pub(crate) const RECORD_HEAD: usize = 9;
 
-// What stands at a cursor of a file, for any bytes and any cursor. The first record of a file is at 7.
+// What stands at a cursor of a file, for any bytes and any cursor; numbered by `foundNumber`.
 pub fn record_at(file: &[u8], at: usize) -> Found
     ensures { λ r. ⌜ r ≡ foundAt (now (file .entry)) at ⌝ }
 {
@@ -36,9 +45,9 @@ pub fn record_at(file: &[u8], at: usize) -> Found
     if size == 0 {
         return Found::Damaged;
     }
-    let a = word_at(file, at + 1);
-    let b = word_at(file, at + 3);
-    let c = word_at(file, at + 5);
+    let a = word_at(file, at + A_AT);
+    let b = word_at(file, at + B_AT);
+    let c = word_at(file, at + C_AT);
     let start = at + RECORD_HEAD;
     let next = at + size;
     Found::Record(Entry {
@@ -62,10 +71,10 @@ pub(crate) fn record_size(file: &[u8], at: usize) -> usize
     if n - at < RECORD_HEAD {
         return 0;
     }
-    let a = word_at(file, at + 1);
-    let b = word_at(file, at + 3);
-    let c = word_at(file, at + 5);
-    let text = word_at(file, at + 7) as usize;
+    let a = word_at(file, at + A_AT);
+    let b = word_at(file, at + B_AT);
+    let c = word_at(file, at + C_AT);
+    let text = word_at(file, at + TEXT_LENGTH_AT) as usize;
     if !fits(file[at], a, b, c, text) {
         return 0;
     }

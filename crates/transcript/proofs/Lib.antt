@@ -1,3 +1,3 @@
 pub mod Answering
-pub mod Going
+pub mod ReplayLoop
 pub mod Printing

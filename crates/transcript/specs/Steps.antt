@@ -17,7 +17,8 @@ abbrev pub lineAt : List ℕ → ℕ → ℕ → Cells → List ℕ
 lineAt file at place d = line place (recordOf file at .letter) (stepCells outcomeOf d (recordOf file at) .answer)
 
 -- that record was answered, and its line put
-pub record Answered (file : List ℕ) (at place : ℕ) (d : Cells) (before : List ℕ) (used : ℕ) (d′ : Cells) (after : List ℕ) (r : After) : Type 0 where
+pub record Answered (file : List ℕ) (at place : ℕ) (d : Cells) (before : List ℕ) (used : ℕ) (d′ : Cells)
+    (after : List ℕ) (r : After) : Type 0 where
   pub cells : d′ ≡ stepCells outcomeOf d (recordOf file at) .cells
   pub stored : after ≡ sets before used (lineAt file at place d)
   pub ends : r .used ≡ used + length (lineAt file at place d)

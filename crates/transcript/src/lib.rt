@@ -11,10 +11,11 @@ ghost use Rattle.model.specs.Cells.{cellsWith};
 ghost use Rattle.transcript.specs.Printing.{mostPrinted, Prints};
 ghost use Rattle.transcript.specs.Steps.{Answered, Replayed};
 use guard::call;
+use journal::file::FILE_HEAD;
 use journal::file::Verdict;
 use journal::file::check;
-use journal::reader::read;
 use journal::record::Found;
+use journal::record::record_at;
 use lines::file_line;
 use lines::line;
 use model::arrays::Locks;
@@ -25,9 +26,6 @@ use model::arrays::Threads;
 
 // The most bytes that are printed: 7,280 records are the most of a file, and 20 bytes of a line.
 pub const MOST_PRINTED: usize = 145600;
-
-// Where a file's first record stands.
-const FIRST_RECORD: usize = 7;
 
 // Puts all that is printed for the file at the buffer's start, and answers how many bytes that is.
 pub fn transcript(file: &[u8], buffer: &mut [u8; MOST_PRINTED]) -> usize
@@ -70,7 +68,7 @@ fn replay(
         (now (threads .entry)))
         (now (buffer .entry)) (now (buffer .exit)) r ⌝ }
 {
-    let mut at = FIRST_RECORD;
+    let mut at = FILE_HEAD;
     let mut place = 0u16;
     let mut used = 0;
     while at < file.len() {
@@ -121,7 +119,7 @@ fn answer(
         (now (threads .exit)))
         (now (buffer .exit)) r ⌝ }
 {
-    match read(file, at) {
+    match record_at(file, at) {
         Found::Record(e) => {
             let letter = e.letter;
             let start = e.start;

@@ -8,19 +8,19 @@ use Rattle.transcript.proofs.transcript.Tie as tie
 
 replay-requires : tie.Need-replay-requires
 replay-requires c κs =
-    let told = c .before .before .before .before .before .before in
-    (sym (told .before .before .check .ensures) ∙ told .enum-told .given .1, omega arith)
+    let arm = c .before .before .before .before .before .before in
+    (sym (arm .before .before .check .ensures) ∙ arm .enum-told .given .1, omega arith)
 
 returns : tie.Need-returns
 returns c =
-    let told = c .before .before .before in
-    let check = told .before .before in
-    refused-prints (omega arith) _ (sym (check .check .ensures) ∙ told .refusal .given .1) (c .file-line .ensures)
+    let arm = c .before .before .before in
+    let check = arm .before .before in
+    refused-prints (omega arith) _ (sym (check .check .ensures) ∙ arm .refusal .given .1) (c .file-line .ensures)
 
 returns-2 : tie.Need-returns-2
 returns-2 c =
-    let told = c .before .before .before .before .before .before .before in
-    readable-prints (omega arith) (sym (told .before .before .check .ensures) ∙ told .enum-told .given .1) (c .replay .ensures)
+    let arm = c .before .before .before .before .before .before .before in
+    readable-prints (omega arith) (sym (arm .before .before .check .ensures) ∙ arm .enum-told .given .1) (c .replay .ensures)
 
 pub transcript-spec : {M : Type 1} → statement M
 transcript-spec =

@@ -10,8 +10,8 @@ returns c =
 
 returns-2 : tie.Need-returns-2
 returns-2 c =
-    let told = c .before .before in let made = told .before .before .before .before in
-    (rw (← made .empty .ensures .0, told .refusal .given .1) (c .refusal-number .ensures), rw (← made .empty .ensures .0) (made .empty .ensures .1))
+    let arm = c .before .before in let made = arm .before .before .before .before in
+    (rw (← made .empty .ensures .0, arm .refusal .given .1) (c .refusal-number .ensures), rw (← made .empty .ensures .0) (made .empty .ensures .1))
 
 pub rotundaaloe-journal-empty-spec : {M : Type 1} → statement M
 rotundaaloe-journal-empty-spec =

@@ -10,8 +10,8 @@ returns c = not-well _ _ _ _ _ (sym (c .enum-told .given .1) ∙ c .before .befo
 
 returns-2 : tie.Need-returns-2
 returns-2 c =
-    let told = c .before in
-    well _ _ _ _ _ _ (sym (told .enum-told2 .given .1) ∙ told .before .before .decode .ensures) _ (c .text-fits .ensures)
+    let arm = c .before in
+    well _ _ _ _ _ _ (sym (arm .enum-told2 .given .1) ∙ arm .before .before .decode .ensures) _ (c .text-fits .ensures)
 
 pub fits-spec : {M : Type 1} → statement M
 fits-spec =

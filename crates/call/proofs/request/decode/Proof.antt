@@ -10,13 +10,13 @@ returns c = unknown _ _ _ _ _ (sym (c .enum-told .given .1) ∙ c .before .befor
 
 returns-2 : tie.Need-returns-2
 returns-2 c =
-    let told = c .before .before .before in
-    known _ _ _ _ _ _ _ (sym (told .request .given .1) ∙ told .before .before .find-line .ensures) _ (c .before .unnamed-zero .ensures) (c .if1 .taken)
+    let arm = c .before .before .before in
+    known _ _ _ _ _ _ _ (sym (arm .request .given .1) ∙ arm .before .before .find-line .ensures) _ (c .before .unnamed-zero .ensures) (c .if1 .taken)
 
 returns-3 : tie.Need-returns-3
 returns-3 c =
-    let told = c .before .before .before in
-    unfit _ _ _ _ _ _ _ (sym (told .request .given .1) ∙ told .before .before .find-line .ensures) _ (c .before .unnamed-zero .ensures) (c .if1 .left)
+    let arm = c .before .before .before in
+    unfit _ _ _ _ _ _ _ (sym (arm .request .given .1) ∙ arm .before .before .find-line .ensures) _ (c .before .unnamed-zero .ensures) (c .if1 .left)
 
 pub decode-spec : {M : Type 1} → statement M
 decode-spec =

@@ -12,14 +12,14 @@ returns c = (c .before .before .append-answer .ensures, rw (c .enum-told2 .given
 
 store-record-requires : tie.Need-store-record-requires
 store-record-requires c κs =
-    let told = c .before in
-    let ok = accepted _ _ _ _ (sym (told .before .before .append-answer .ensures) ∙ told .enum-told .given .1) in
+    let arm = c .before in
+    let ok = accepted _ _ _ _ (sym (arm .before .before .append-answer .ensures) ∙ arm .enum-told .given .1) in
     (ok .least, ok .room, text-short _ _ _ _ _ (ok .fit), omega (arith, ok .count, count-small _ (ok .file)))
 
 returns-2 : tie.Need-returns-2
 returns-2 c =
-    let w = c .before .before in let told = w .before .before in
-    (told .before .before .append-answer .ensures, rw (told .enum-told .given .1) (w .store-record .ensures))
+    let w = c .before .before in let arm = w .before .before in
+    (arm .before .before .append-answer .ensures, rw (arm .enum-told .given .1) (w .store-record .ensures))
 
 pub append-spec : {M : Type 1} → statement M
 append-spec =

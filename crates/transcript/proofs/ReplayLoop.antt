@@ -25,7 +25,7 @@ use Rattle.transcript.specs.Steps.{lineAt, Answered, Replayed}
 abbrev pub linesOf : List ℕ → Cells → ℕ → ℕ → ℕ → List ℕ
 linesOf s d left i place = linesFrom place (eventsIn outcomeOf d (recordsFrom left s i))
 
-pub record Going (s : List ℕ) (d₀ : Cells) (b₀ : List ℕ) (d : Cells) (b : List ℕ) (i place used : ℕ) : Type 0 where
+pub record ReplayLoop (s : List ℕ) (d₀ : Cells) (b₀ : List ℕ) (d : Cells) (b : List ℕ) (i place used : ℕ) : Type 0 where
   pub left : ℕ
   pub done : List ℕ
   pub counted : place + left ≡ word s 5
@@ -36,9 +36,9 @@ pub record Going (s : List ℕ) (d₀ : Cells) (b₀ : List ℕ) (d : Cells) (b 
   pub rest : done ++ linesOf s d left i place ≡ linesFrom 0 (eventsIn outcomeOf d₀ (recordsOf s))
 
 module _ (s : List ℕ) (d₀ : Cells) (b₀ : List ℕ) where
-  pub going-start : verdictOf s ≡ Readable → Going s d₀ b₀ d₀ b₀ 7 0 0
+  pub loop-start : verdictOf s ≡ Readable → ReplayLoop s d₀ b₀ d₀ b₀ 7 0 0
   unfolding recordsOf
-  going-start h =
+  loop-start h =
       record {
         left = word s 5;
         done = [];
@@ -77,16 +77,16 @@ lines-none : (s : List ℕ) (d : Cells) (i place : ℕ) → linesOf s d 0 i plac
 unfolding recordsFrom
 lines-none s d i place = refl
 
-module _ {s : List ℕ} {d₀ : Cells} {b₀ : List ℕ} {d : Cells} {b : List ℕ} {i place used : ℕ} (g : Going s d₀ b₀ d b i place used) where
-  pub going-length : length b ≡ length b₀
-  going-length = ap length (g .stored) ∙ length-sets b₀ 0 (g .done)
+module _ {s : List ℕ} {d₀ : Cells} {b₀ : List ℕ} {d : Cells} {b : List ℕ} {i place used : ℕ} (g : ReplayLoop s d₀ b₀ d b i place used) where
+  pub loop-length : length b ≡ length b₀
+  loop-length = ap length (g .stored) ∙ length-sets b₀ 0 (g .done)
 
-  pub going-whole : i < length s → wholeAt s i ≡ true
-  going-whole k = more s (g .left) i (g .fill) k .first
+  pub loop-whole : i < length s → wholeAt s i ≡ true
+  loop-whole k = more s (g .left) i (g .fill) k .first
 
   -- no place is beyond a file's last, and there is room for one more line
-  pub going-room : verdictOf s ≡ Readable → i < length s → (place < 7280) × (used + mostLine ≤ mostPrinted)
-  going-room h k =
+  pub loop-room : verdictOf s ≡ Readable → i < length s → (place < 7280) × (used + mostLine ≤ mostPrinted)
+  loop-room h k =
       let m = more s (g .left) i (g .fill) k in
       let c = count-small s (open-file s h) in
       let e = m .one in
@@ -95,8 +95,8 @@ module _ {s : List ℕ} {d₀ : Cells} {b₀ : List ℕ} {d : Cells} {b : List �
       let p : place < 7280 = omega arith in
       (p, omega arith)
 
-  pub going-end : verdictOf s ≡ Readable → length s ≤ i → Replayed s d₀ b₀ b used
-  going-end h k =
+  pub loop-end : verdictOf s ≡ Readable → length s ≤ i → Replayed s d₀ b₀ b used
+  loop-end h k =
       let z = none-left s (g .left) i (g .fill) k in
       let c = count-small s (open-file s h) in
       let a = g .counted in
@@ -104,8 +104,8 @@ module _ {s : List ℕ} {d₀ : Cells} {b₀ : List ℕ} {d : Cells} {b : List �
       let e = sym (append-nil (g .done)) ∙ ap (λ (x : List ℕ). g .done ++ x) (sym (lines-none s d i place) ∙ ap (λ (n : ℕ). linesOf s d n i place) (sym z)) ∙ g .rest in
       record { stored = g .stored ∙ ap (λ (x : List ℕ). sets b₀ 0 x) e; ends = g .ends ∙ ap length e; short = omega arith }
 
-  pub going-step : {d′ : Cells} {b′ : List ℕ} {r : After} → i < length s → Answered s i place d b used d′ b′ r → Going s d₀ b₀ d′ b′ (r .next) (place + 1) (r .used)
-  going-step {d′} {b′} {r} k a =
+  pub loop-step : {d′ : Cells} {b′ : List ℕ} {r : After} → i < length s → Answered s i place d b used d′ b′ r → ReplayLoop s d₀ b₀ d′ b′ (r .next) (place + 1) (r .used)
+  loop-step {d′} {b′} {r} k a =
       let m = more s (g .left) i (g .fill) k in
       let one = m .one in
       let before = g .counted in
