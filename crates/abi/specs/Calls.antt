@@ -4,18 +4,16 @@ use mathlib.Core.List.{List}
 use Prim.Native.Nat.{ℕ, _+_, _*_}
 use Rattle.call.specs.declared.request.Request.{Request}
 use Rattle.model.specs.declared.answer.Answer.{Answer}
-use Rattle.model.specs.declared.answer.Answer.the-variants.{Accepted, Refused}
-use Rattle.model.specs.Answers.{refusalNumber, secondNumber}
+use Rattle.model.specs.Answers.{answerNumber, answerValue}
 use Rattle.model.specs.Cells.{Cells}
 use Rattle.model.specs.Serving.{served}
 
--- a refusal's numbers are above every answer
-abbrev pub answerNumber : Answer → ℕ
-answerNumber (Accepted n) = n
-answerNumber (Refused r) = refusalNumber r * 65536 + secondNumber r
+-- its number and its value in one: an accepted call's answer, and above every answer a refusal's two numbers
+abbrev pub answerCode : Answer → ℕ
+answerCode r = answerNumber r * 65536 + answerValue r
 
 pub record Tells (o : record { cells : Cells; answer : Answer }) (r : ℕ) (d : Cells) : Type 0 where
-  pub number : r ≡ answerNumber (o .answer)
+  pub number : r ≡ answerCode (o .answer)
   pub cells : d ≡ o .cells
 
 -- as `ServesLent` of the model's `Serving`

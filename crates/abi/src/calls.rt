@@ -4,7 +4,7 @@ ghost use Rattle.formula.specs.Outcome.{outcomeOf};
 ghost use Rattle.call.specs.declared.request.Request.the-variants.{CallSegment, ReturnCall, Access};
 ghost use Rattle.call.specs.Calls.{callWith};
 ghost use Rattle.model.specs.Cells.{cellsWith, registryIs, segmentsAre, locksAre, threadsAre, unchanged, _and_, emptyCells, stepCells};
-ghost use Rattle.abi.specs.Calls.{answerNumber, Tells, TellsLent};
+ghost use Rattle.abi.specs.Calls.{answerCode, Tells, TellsLent};
 use guard::call;
 use model::answer::Answer;
 use model::answer::number;
@@ -59,7 +59,7 @@ pub extern "C" fn rotundaaloe_call(
         (cellsWith (now (registry .exit)) (now (makers .exit)) (now (segments .exit)) (now (locks .exit))
         (now (threads .exit))) ⌝ }
 {
-    answer_number(call(
+    answer_code(call(
         registry,
         makers,
         segments,
@@ -89,7 +89,7 @@ pub extern "C" fn rotundaaloe_call_segment(
         (CallSegment a b) r
         (threadsAre (now (threads .exit))) ⌝ }
 {
-    answer_number(call_segment(registry, segments, locks, threads, a, b))
+    answer_code(call_segment(registry, segments, locks, threads, a, b))
 }
 
 #[no_mangle]
@@ -99,7 +99,7 @@ pub extern "C" fn rotundaaloe_return_call(threads: &mut Threads, a: u16) -> u32
         (ReturnCall a) r
         (threadsAre (now (threads .exit))) ⌝ }
 {
-    answer_number(return_call(threads, a))
+    answer_code(return_call(threads, a))
 }
 
 #[no_mangle]
@@ -118,11 +118,11 @@ pub extern "C" fn rotundaaloe_access(
         (Access a b c) r
         unchanged ⌝ }
 {
-    answer_number(access(registry, segments, locks, threads, a, b, c))
+    answer_code(access(registry, segments, locks, threads, a, b, c))
 }
 
-fn answer_number(answer: Answer) -> u32
-    ensures { λ r. ⌜ r ≡ answerNumber answer ⌝ }
+fn answer_code(answer: Answer) -> u32
+    ensures { λ r. ⌜ r ≡ answerCode answer ⌝ }
 {
     match answer {
         Answer::Accepted(n) => n as u32,

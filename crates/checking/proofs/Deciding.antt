@@ -17,8 +17,8 @@ use Rattle.model.specs.Cells.{Row, Table, cell, isUsed, usedRows, productIn}
 use Rattle.model.proofs.Lists.{caseBool, clash, first-map, some-inj, some≢none}
 use Rattle.model.proofs.OperationSets.{Bit, executes, reads, writes, denying, shares-one}
 use Rattle.checking.specs.declared.Checked.{Checked}
-use Rattle.checking.specs.declared.Checked.the-variants.{NotGranted}
-use Rattle.checking.specs.Deciding.{keysOf, firstOpening, decide, checkOf}
+use Rattle.checking.specs.declared.Checked.the-variants.{Granted, Denied, NotGranted}
+use Rattle.checking.specs.Deciding.{keysOf, firstOpening, decide, checkOf, SameNumbers}
 use Rattle.checking.specs.Steps.{isDeny, opensRow, headOf, openingOf, headChecked, codeChecked}
 
 -- ---- the operations of a row's head are its last four bits
@@ -184,3 +184,8 @@ module _ (t w : Table) (n : ℕ) where
 pub answered : (t w : Table) (n code : ℕ) (r : Checked) → isOperation n ≡ true → codeChecked code ≡ headChecked (openingOf t w n) → r ≡ codeChecked code
     → r ≡ checkOf t w n
 answered t w n code r o h v = v ∙ h ∙ check-is t w n o
+
+pub same-numbers : SameNumbers
+same-numbers (Granted lock) = (refl, refl)
+same-numbers (Denied lock) = (refl, refl)
+same-numbers NotGranted = (refl, refl)

@@ -1,4 +1,5 @@
 -- Document 01, 'Operations and the check', on a thread's table and the table of a segment's product rows: what the check answers. Assumes nothing.
+use mathlib.Core.Path.{_≡_}
 use mathlib.Core.Bool.{Bool, cond}
 use mathlib.Core.List.{map}
 use mathlib.Core.Option.{Option}
@@ -7,6 +8,7 @@ use Rattle.model.specs.declared.answer.Refusal.{Refusal}
 use Rattle.model.specs.declared.answer.Refusal.the-variants.{Denied as DeniedBy, NotGranted as NoneGrants}
 use Rattle.model.specs.declared.answer.Answer.{Answer}
 use Rattle.model.specs.declared.answer.Answer.the-variants.{Accepted, Refused}
+use Rattle.model.specs.Answers.{answerNumber, answerValue}
 use Rattle.model.specs.Lists.{first, isSome}
 use Rattle.model.specs.Operations.{denies, grants, isOperation}
 use Rattle.model.specs.Threads.{KeySet, keySet}
@@ -50,3 +52,7 @@ abbrev pub answerOf : Checked → Answer
 answerOf (Granted lock) = Accepted lock
 answerOf (Denied lock) = Refused (DeniedBy lock)
 answerOf NotGranted = Refused NoneGrants
+
+-- which has the same number and value. Proved in `proofs/Deciding.antt`.
+abbrev pub SameNumbers : Type 0
+SameNumbers = (k : Checked) → (answerNumber (answerOf k) ≡ checkedNumber k) × (answerValue (answerOf k) ≡ checkedValue k)

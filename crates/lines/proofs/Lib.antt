@@ -3,3 +3,4 @@ pub mod Putting
 pub mod Writing
 pub mod Enough
 pub mod Trials
+pub mod Numbers

@@ -9,9 +9,7 @@ use Rattle.formula.specs.Nodes.{products, fits, listOf}
 use Rattle.formula.specs.Reader.{readDigits, readNumber, readAtom, readNots, readText}
 use Rattle.formula.specs.Outcome.{outcomeOf}
 use Rattle.formula.specs.Examples.{bytes}
-use Rattle.formula.proofs.Examples.{examples as formula-examples}
 use Rattle.call.specs.Calls.{decodedOf}
-use Rattle.journal.proofs.Examples.{examples as journal-examples}
 use Rattle.model.specs.Model.{opening, conditions, update, answer, step}
 use Rattle.model.specs.Cells.{stateOf, store, stepCells}
 use Rattle.model.specs.History.{note, advance}
@@ -23,9 +21,6 @@ examples =
     record {
       routeHappens = refl;
       emptyDeskHappens = refl;
-      emptyReadable = journal-examples .empty-readable;
-      emptyRecords = journal-examples .empty-has-none;
-      textsCompile = formula-examples;
       textsHappen = refl;
       twiceHappens = refl;
       twiceHeld = refl;

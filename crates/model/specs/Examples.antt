@@ -1,5 +1,6 @@
--- Worked examples: document 01's starred trials under 'Trial desks' (marked *), on the arrays and with the compiler that there is; a few more; and
--- lists of calls after which the premises of `Granting` hold. Proved in `proofs/Examples.antt`, by computing. Assumes nothing.
+-- Worked examples, on the arrays and with the compiler that there is: the calls of document 01's starred trials under 'Trial desks' (marked *), which
+-- stand as one theorem, with what is printed, in `StarredTrials` of the crate `lines`; a few more; and lists of calls after which the premises of
+-- `Granting` hold. Proved in `proofs/Examples.antt`, by computing. Assumes nothing.
 use mathlib.Core.Path.{_≡_}
 use mathlib.Core.Bool.{true}
 use mathlib.Core.List.{List, [], _∷_, _++_}
@@ -9,10 +10,7 @@ use lib.ListN.{replicate, take}
 use Rattle.product.specs.declared.literal.Key.the-variants.{User, Segment as SegmentKey, Defined}
 use Rattle.product.specs.declared.literal.Literal.the-variants.{Plain, Barred}
 use Rattle.formula.specs.Outcome.{outcomeOf}
-use Rattle.formula.specs.Examples.{bytes, Examples as FormulaExamples}
-use Rattle.journal.specs.declared.file.Verdict.the-variants.{Readable}
-use Rattle.journal.specs.Reading.{verdictOf, recordsOf}
-use Rattle.journal.specs.Examples.{emptyFile}
+use Rattle.formula.specs.Examples.{bytes}
 use Rattle.model.specs.Lists.{mapOption}
 use Rattle.model.specs.Threads.{keySet}
 use Rattle.model.specs.Model.{LockProduct, lockProduct, segmentAt, threadAt}
@@ -168,11 +166,6 @@ before n = historyOf outcomeOf (callsOf (take n route))
 pub record Examples : Type 0 where
   pub routeHappens : Happens route
   pub emptyDeskHappens : Happens emptyDesk
-  -- * 'File 4B 4C 44 01 00 00 00 (hexadecimal) prints nothing.'
-  pub emptyReadable : verdictOf emptyFile ≡ Readable
-  pub emptyRecords : recordsOf emptyFile ≡ []
-  -- * the texts, as the compiler has them and as locks
-  pub textsCompile : FormulaExamples
   pub textsHappen : Happens texts
   pub twiceHappens : Happens twice
   -- after the first return the S key is held, by the history and by the arrays

@@ -5,12 +5,12 @@ use Rattle.abi.proofs.calls.rotundaaloe_access.Statement.{statement}
 use Rattle.abi.proofs.calls.rotundaaloe_access.Tie as tie
 
 returns : tie.Need-returns
-returns c = λ text d. tells _ _ _ _ (c .before .access .ensures text d) (c .answer-number .ensures)
+returns c = λ text d. tells _ _ _ _ (c .before .access .ensures text d) (c .answer-code .ensures)
 
 pub rotundaaloe-access-spec : {M : Type 1} → statement M
 rotundaaloe-access-spec =
     tie.close
     (tie.spec
     (λ c κs. search needs)  -- access-requires
-    (λ c κs. search needs)  -- answer-number-requires
+    (λ c κs. search needs)  -- answer-code-requires
     returns)

@@ -5,12 +5,12 @@ use Rattle.abi.proofs.calls.rotundaaloe_call.Statement.{statement}
 use Rattle.abi.proofs.calls.rotundaaloe_call.Tie as tie
 
 returns : tie.Need-returns
-returns c = tells _ _ _ _ (c .before .call .ensures) (c .answer-number .ensures)
+returns c = tells _ _ _ _ (c .before .call .ensures) (c .answer-code .ensures)
 
 pub rotundaaloe-call-spec : {M : Type 1} → statement M
 rotundaaloe-call-spec =
     tie.close
     (tie.spec
     (λ c κs. search needs)  -- call-requires
-    (λ c κs. search needs)  -- answer-number-requires
+    (λ c κs. search needs)  -- answer-code-requires
     returns)

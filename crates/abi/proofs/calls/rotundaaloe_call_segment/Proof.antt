@@ -5,12 +5,12 @@ use Rattle.abi.proofs.calls.rotundaaloe_call_segment.Statement.{stateme
 use Rattle.abi.proofs.calls.rotundaaloe_call_segment.Tie as tie
 
 returns : tie.Need-returns
-returns c = λ text d. tells _ _ _ _ (c .before .call-segment .ensures text d) (c .answer-number .ensures)
+returns c = λ text d. tells _ _ _ _ (c .before .call-segment .ensures text d) (c .answer-code .ensures)
 
 pub rotundaaloe-call-segment-spec : {M : Type 1} → statement M
 rotundaaloe-call-segment-spec =
     tie.close
     (tie.spec
     (λ c κs. search needs)  -- call-segment-requires
-    (λ c κs. search needs)  -- answer-number-requires
+    (λ c κs. search needs)  -- answer-code-requires
     returns)

@@ -5,12 +5,12 @@ use Rattle.abi.proofs.calls.rotundaaloe_return_call.Statement.{statemen
 use Rattle.abi.proofs.calls.rotundaaloe_return_call.Tie as tie
 
 returns : tie.Need-returns
-returns c = λ text d. tells _ _ _ _ (c .before .return-call .ensures text d) (c .answer-number .ensures)
+returns c = λ text d. tells _ _ _ _ (c .before .return-call .ensures text d) (c .answer-code .ensures)
 
 pub rotundaaloe-return-call-spec : {M : Type 1} → statement M
 rotundaaloe-return-call-spec =
     tie.close
     (tie.spec
     (λ c κs. search needs)  -- return-call-requires
-    (λ c κs. search needs)  -- answer-number-requires
+    (λ c κs. search needs)  -- answer-code-requires
     returns)
