@@ -13,7 +13,7 @@ use Rattle.product.proofs.Filling.{rows-length}
 use Rattle.formula.specs.declared.text.Issued.{Issued}
 use Rattle.formula.specs.declared.text.Row.{Row}
 use Rattle.formula.specs.declared.text.Compiled.{Compiled}
-use Rattle.formula.specs.Outcome.{Outcome, accepted, malformed, tooWide, unsatisfiable, outcomeOf, refusalNumber, verdictOf, sumIn, rowWith, answerOf, compiledOf}
+use Rattle.formula.specs.Outcome.{Outcome, accepted, malformed, tooWide, unsatisfiable, outcomeOf, refusalNumber, verdictOf, sumIn, rowWith, compiledOf}
 use Rattle.formula.proofs.Opening.{laws}
 use Rattle.abi.specs.Answers.{numberIn, rowsIn}
 use Rattle.abi.specs.Steps.{cellsAt, eightCells}
@@ -25,7 +25,7 @@ eight-cells : (l : List (List ℕ)) → length l ≡ 8 → eightCells (map rowWi
 unfolding read
 eight-cells l h = simp cells-at (read-all [] l 8 h)
 
--- the compiler's answer and its refusal's number: how many products there are, what is written, and the number that is answered
+-- the compiler's answer and its refusal's number: how many products, what is written, and the number that is answered
 module _ (i : Issued) (s : List ℕ) {c : Compiled} (e : c ≡ compiledOf i s) where
   few : (o : Outcome) → outcomeOf i s ≡ o → length (sumIn o) ≤ mostProducts
   few (accepted ps) q = laws .bounds i s ps q .few
@@ -34,7 +34,9 @@ module _ (i : Issued) (s : List ℕ) {c : Compiled} (e : c ≡ compiledOf i s) w
   few unsatisfiable q = omega arith
 
   pub count-few : c .count ≤ mostProducts
-  count-few = let q : c .count ≡ length (sumIn (outcomeOf i s)) = ap (λ (x : Compiled). x .count) e in omega (arith, few (outcomeOf i s) refl)
+  count-few =
+      let q : c .count ≡ length (sumIn (outcomeOf i s)) = ap (λ (x : Compiled). x .count) e in
+      omega (arith, few (outcomeOf i s) refl)
 
   module _ {r : ℕ} (n : r ≡ refusalNumber (c .verdict)) where
     number-is : r ≡ refusalNumber (verdictOf (outcomeOf i s))
@@ -46,7 +48,8 @@ module _ (i : Issued) (s : List ℕ) {c : Compiled} (e : c ≡ compiledOf i s) w
         ∙ go (outcomeOf i s) (few (outcomeOf i s) refl)
       where
         go : (o : Outcome) → length (sumIn o) ≤ mostProducts
-            → cond (eqb (refusalNumber (verdictOf o)) 0) (eightCells (map rowWith (rowsOf (sumIn o)))) old ≡ rowsIn o old
+            → cond (eqb (refusalNumber (verdictOf o)) 0) (eightCells (map rowWith (rowsOf (sumIn o)))) old
+            ≡ rowsIn o old
         go (accepted ps) l = eight-cells (rowsOf ps) (rows-length ps l)
         go malformed l = refl
         go tooWide l = refl
@@ -56,7 +59,8 @@ module _ (i : Issued) (s : List ℕ) {c : Compiled} (e : c ≡ compiledOf i s) w
     number-answered =
         ap₂ (λ (k : ℕ) (x : Compiled). cond (eqb k 0) (x .count) k) number-is e ∙ go (outcomeOf i s)
       where
-        go : (o : Outcome) → cond (eqb (refusalNumber (verdictOf o)) 0) (length (sumIn o)) (refusalNumber (verdictOf o)) ≡ numberIn o
+        go : (o : Outcome)
+            → cond (eqb (refusalNumber (verdictOf o)) 0) (length (sumIn o)) (refusalNumber (verdictOf o)) ≡ numberIn o
         go (accepted ps) = refl
         go malformed = refl
         go tooWide = refl

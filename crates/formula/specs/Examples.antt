@@ -107,6 +107,7 @@ pub record FurtherExamples : Type 0 where
   -- a bracket holds a whole formula again, at most 8 deep
   pub eight-deep : compiled 1 "((((((((D0))))))))" ≡ (0, (plain 0 ∷ []) ∷ [])
   pub nine-deep : compiled 1 "(((((((((D0)))))))))" ≡ (11, [])
+  pub nine-deep-right : compiled 1 "D0|D0&(((((((((D0)))))))))" ≡ (11, [])
   pub nine-brackets : compiled 1 "(D0)|(D0)|(D0)|(D0)|(D0)|(D0)|(D0)|(D0)|(D0)" ≡ (0, (plain 0 ∷ []) ∷ [])
   pub unclosed : compiled 1 "(D0" ≡ (11, [])
   pub unopened : compiled 1 "D0)" ≡ (11, [])
@@ -165,6 +166,7 @@ pub record FurtherExamples : Type 0 where
   pub nine-repeat : compiled 8 "D0|D1|D2|D3|D4|D5|D6|D7|D0"
       ≡ (0, map (λ n. plain n ∷ []) (0 ∷ 1 ∷ 2 ∷ 3 ∷ 4 ∷ 5 ∷ 6 ∷ 7 ∷ []))
   pub inner-wide : compiled 7 "(D0&D1&D2&D3&D4&D5&D6)&!D0" ≡ (12, [])
+  pub inner-right : compiled 7 "!D0&(D0&D1&D2&D3&D4&D5&D6)" ≡ (12, [])
   pub inner-nine : compiled 9 "(D0|D1|D2|D3|D4|D5|D6|D7|D8)&D0" ≡ (12, [])
   pub not-wide : compiled 7 "!(D0&D1&D2&D3&D4&D5&D6)" ≡ (0, map (λ n. barred n ∷ []) (0 ∷ 1 ∷ 2 ∷ 3 ∷ 4 ∷ 5 ∷ 6 ∷ []))
   pub not-seven : compiled 7 "!(D0|D1|D2|D3|D4|D5|D6)" ≡ (12, [])

@@ -30,7 +30,7 @@ pub record UsedCount (t : Table) (r : ℕ) : Type 0 where
   pub low : r ≤ mostStanding
   pub inside : r ≤ length t
 
--- ---- rows of a lock
+-- ---- rows of a lock, by its lock number
 
 abbrev pub isOf : ℕ → Row → Bool
 isOf lock w = isOfLock lock (productIn w)
@@ -66,6 +66,17 @@ pub record Dropped (lock : ℕ) (t t′ : Table) (r : ℕ) : Type 0 where
   pub low : r ≤ mostStanding
 
 -- ---- a compiled product as a row
+
+-- cells of keys, and what a barred one adds, are below these
+abbrev pub keyCellLimit : ℕ
+keyCellLimit = 327680
+
+abbrev pub barredLimit : ℕ
+barredLimit = 65537
+
+-- sets of operations are below this: 1, 2, 4 and 8 are the numbers in one
+abbrev pub setLimit : ℕ
+setLimit = 16
 
 pub record Below (limit x r : ℕ) : Type 0 where
   pub is : r ≡ x

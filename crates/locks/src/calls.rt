@@ -4,7 +4,7 @@ ghost use Prim.Native.Nat.{_<_};
 ghost use Rattle.call.specs.declared.request.Request.the-variants.{AddLock, DropLock};
 ghost use Rattle.model.specs.Cells.{registryIs, makersAre, segmentsAre, locksAre, _and_};
 ghost use Rattle.model.specs.Serving.{ServesText, ServesLent};
-ghost use Rattle.locks.specs.Steps.{issuedIn, LockJudged, LockStored};
+ghost use Rattle.locks.specs.Steps.{setLimit, issuedIn, LockJudged, LockStored};
 use crate::rows::add_rows;
 use crate::rows::drop_rows;
 use crate::rows::home;
@@ -98,7 +98,7 @@ fn judge_lock(
     operations: u16,
     compiled: Compiled,
 ) -> Answer
-    requires { ⌜ operations < 16 ⌝ }
+    requires { ⌜ operations < setLimit ⌝ }
     ensures { λ r. ⌜ LockJudged (now (registry .entry)) (now (products .entry)) operations compiled r
         (now (registry .exit)) (now (products .exit)) ⌝ }
 {
@@ -118,7 +118,7 @@ fn store_lock(
     operations: u16,
     compiled: Compiled,
 ) -> Answer
-    requires { ⌜ operations < 16 ⌝ }
+    requires { ⌜ operations < setLimit ⌝ }
     ensures { λ r. ⌜ LockStored (now (registry .entry)) (now (products .entry)) operations compiled r
         (now (registry .exit)) (now (products .exit)) ⌝ }
 {

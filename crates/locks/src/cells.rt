@@ -1,8 +1,9 @@
 // A compiled product as a product row: each literal becomes the cell that the check compares.
 ghost use mathlib.Core.Path.{_≡_};
 ghost use Prim.Native.Nat.{_<_};
+ghost use Rattle.product.specs.Cells.{rowCells};
 ghost use Rattle.model.specs.Cells.{keyCell, barredBy, literalCell};
-ghost use Rattle.locks.specs.Steps.{Below, cellIn, SizeOf, rowFrom};
+ghost use Rattle.locks.specs.Steps.{Below, keyCellLimit, barredLimit, setLimit, cellIn, SizeOf, rowFrom};
 use model::arrays::BARRED_LISTED;
 use model::arrays::BARRED_OWN;
 use model::arrays::DEFINED_CODES;
@@ -21,7 +22,7 @@ const DEFINED_CELLS: u32 = DEFINED_CODES as u32;
 
 // The row of the product in the cells that the compiler gives, for a lock with those operations.
 pub(crate) fn product_row(cells: &[u32; 8], lock: u16, operations: u16) -> [u32; 8]
-    requires { ⌜ operations < 16 ⌝ }
+    requires { ⌜ operations < setLimit ⌝ }
     ensures { λ r. ⌜ r ≡ rowFrom lock operations (now (cells .entry)) ⌝ }
 {
     let n = size(cells[COUNT_CELL]);
@@ -48,7 +49,7 @@ fn size(count: u32) -> usize
 
 // The cell of literal i of n, and 0 where there is none.
 fn cell_at(cells: &[u32; 8], n: usize, i: usize) -> u32
-    requires { ⌜ i < 8 ⌝ }
+    requires { ⌜ i < rowCells ⌝ }
     ensures { λ r. ⌜ r ≡ cellIn n (now (cells .entry)) i ⌝ }
 {
     if n <= i {
@@ -67,7 +68,7 @@ fn literal_cell(l: Literal) -> u32
 }
 
 fn key_cell(k: Key) -> u32
-    ensures { λ r. ⌜ Below 327680 (keyCell k) r ⌝ }
+    ensures { λ r. ⌜ Below keyCellLimit (keyCell k) r ⌝ }
 {
     match k {
         Key::User(n) => USER_CELLS + n as u32,
@@ -79,7 +80,7 @@ fn key_cell(k: Key) -> u32
 
 // How much more the cell of the barred key is.
 fn barred_by(k: Key) -> u32
-    ensures { λ r. ⌜ Below 65537 (barredBy k) r ⌝ }
+    ensures { λ r. ⌜ Below barredLimit (barredBy k) r ⌝ }
 {
     match k {
         Key::User(_) => BARRED_OWN,

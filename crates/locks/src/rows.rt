@@ -3,8 +3,9 @@
 ghost use mathlib.Core.Path.{_≡_};
 ghost use Prim.Native.Nat.{_+_, _≤_, _<_};
 ghost use lib.ListN.{length};
+ghost use Rattle.model.specs.Limits.{mostSegments, mostStanding};
 ghost use Rattle.model.specs.Cells.{endRows, storeRows};
-ghost use Rattle.locks.specs.Steps.{UsedCount, hasRow, HomeFound, ClosedUp, Dropped, rowsFrom};
+ghost use Rattle.locks.specs.Steps.{UsedCount, hasRow, HomeFound, ClosedUp, Dropped, setLimit, rowsFrom};
 use crate::cells::product_row;
 use formula::text::Compiled;
 use model::arrays::LOCK_UNIT;
@@ -54,7 +55,7 @@ fn has_row(products: &Products, lock: u16) -> bool
 
 // The first of the first n segments that has a row of the lock; n where none has.
 pub(crate) fn home(locks: &Locks, n: usize, lock: u16) -> usize
-    requires { ⌜ n ≤ 64 ⌝ }
+    requires { ⌜ n ≤ mostSegments ⌝ }
     ensures { λ r. ⌜ HomeFound lock n (now (locks .entry)) r ⌝ }
 {
     let mut s: usize = 0;
@@ -85,7 +86,7 @@ pub(crate) fn add_rows(
     operations: u16,
     compiled: Compiled,
 )
-    requires { ⌜ (from + compiled .count ≤ 8) × (operations < 16) ⌝ }
+    requires { ⌜ (from + compiled .count ≤ mostStanding) × (operations < setLimit) ⌝ }
     ensures { λ _. ⌜ now (products .exit)
         ≡ storeRows from (rowsFrom lock operations compiled) (now (products .entry)) ⌝ }
 {
@@ -112,7 +113,7 @@ pub(crate) fn end_rows(products: &mut Products, n: usize)
 
 // Moves those of the first n rows that are not of the lock to the front, and answers how many they are.
 fn close_up(products: &mut Products, n: usize, lock: u16) -> usize
-    requires { ⌜ (n ≤ 8) × (n ≤ length (now products)) ⌝ }
+    requires { ⌜ (n ≤ mostStanding) × (n ≤ length (now products)) ⌝ }
     ensures { λ r. ⌜ ClosedUp lock n (now (products .entry)) (now (products .exit)) r ⌝ }
 {
     let mut from: usize = 0;

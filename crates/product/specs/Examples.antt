@@ -6,12 +6,11 @@ use mathlib.Core.List.{List, [], _∷_, map}
 use mathlib.Core.Option.{none, some}
 use Prim.Native.Nat.{ℕ}
 use lib.ListN.{replicate}
-use Rattle.product.specs.declared.literal.Key.{Key}
 use Rattle.product.specs.declared.literal.Key.the-variants.{User, Thread, Segment, Defined}
 use Rattle.product.specs.declared.literal.Literal.{Literal}
 use Rattle.product.specs.declared.literal.Literal.the-variants.{Plain, Barred}
 use Rattle.product.specs.Product.{Product, opens, union, contradictory, sameProduct}
-use Rattle.product.specs.Sum.{Sum, Sum?, opensAny, conjoin, disjoin, cap, joined}
+use Rattle.product.specs.Sum.{conjoin, disjoin, cap, joined}
 use Rattle.product.specs.Code.{codeOf, literalOf}
 use Rattle.product.specs.Cells.{productOf, sumOf, rowsOf, blankRow}
 use Rattle.product.specs.Held.{heldBy, opensSum}

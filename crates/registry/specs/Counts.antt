@@ -11,7 +11,7 @@ pub record Counted (x most r : ℕ) : Type 0 where
   -- follows from it, and is said so that callers find the bound
   pub low : r ≤ most
 
--- how many defined keys there are, of the count that stands in the registry and the array of their makers
+-- how many defined keys there are (document 01: D keys handed out), of the count that stands in the registry and the array of their makers
 pub record Handed (count : ℕ) (makers : Row) (r : ℕ) : Type 0 where
   pub keys : r ≡ length (take (min count mostDefined) makers)
   pub low : r ≤ mostDefined

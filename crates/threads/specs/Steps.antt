@@ -19,7 +19,7 @@ pub record First (threads : List Table) (p : Place → Bool) (r : ℕ) : Type 0 
   pub low : r ≤ mostThreads
   pub count : length threads ≡ mostThreads
 
--- r is the place that passes the test, for thread n, 64 for none
+-- r is the place that passes the test, for thread n (document 01: run), 64 for none
 pub record Placed (threads : List Table) (n : ℕ) (p : Place → Bool) (r : ℕ) : Type 0 where
   pub place : r ≡ placeFor n p (map placeIn threads)
   pub low : r ≤ mostThreads

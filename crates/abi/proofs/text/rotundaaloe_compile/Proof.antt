@@ -1,8 +1,7 @@
--- The number of the refusal says what was accepted, and that is written; of an accepted text the laws of the compiler bound the count.
--- Assumes nothing.
+-- A refusal's number is not 0: then the rows stay. The laws of the compiler bound the count. Assumes nothing.
 use borrow.Author.Needs.{needs}
 use denote.Ref.{now}
-use mathlib.Core.Path.{sym, _∙_}
+use mathlib.Core.Path.{_∙_}
 use native.Mathlib.Omega.{arith}
 use Rattle.abi.proofs.Outcomes.{count-few, rows-written, number-answered}
 use Rattle.abi.specs.Answers.{issuedWith}
@@ -21,7 +20,8 @@ returns c =
     let i = issuedWith (a .users) (a .threads) (a .segments) (a .defined) in
     let e = c .before .before .before .before .before .compile .ensures in
     let n = c .before .before .before .refusal-number .ensures in
-    (rw (c .if1 .taken) at (number-answered i (now (a .text)) e n), c .before .write-rows .ensures ∙ rows-written i (now (a .text)) e n (now (a .rows)))
+    let answered = rw (c .if1 .taken) at (number-answered i (now (a .text)) e n) in
+    (answered, c .before .write-rows .ensures ∙ rows-written i (now (a .text)) e n (now (a .rows)))
 
 returns-2 : tie.Need-returns-2
 returns-2 c =
@@ -29,7 +29,8 @@ returns-2 c =
     let i = issuedWith (a .users) (a .threads) (a .segments) (a .defined) in
     let e = c .before .before .before .before .before .compile .ensures in
     let n = c .before .before .before .refusal-number .ensures in
-    (rw (c .if1 .left) at (number-answered i (now (a .text)) e n), c .before .write-rows .ensures ∙ rows-written i (now (a .text)) e n (now (a .rows)))
+    let answered = rw (c .if1 .left) at (number-answered i (now (a .text)) e n) in
+    (answered, c .before .write-rows .ensures ∙ rows-written i (now (a .text)) e n (now (a .rows)))
 
 pub rotundaaloe-compile-spec : {M : Type 1} → statement M
 rotundaaloe-compile-spec =
