@@ -19,7 +19,8 @@ pub record Left : Type 0 where
 unfoldable pub nextCalls : ℕ → List ℕ → ℕ → List ℕ → List Left
 nextCalls zero s at old = []
 nextCalls (suc n) s at old =
-    record { number = nextNumber s at; values = nextValues s at old } ∷ nextCalls n s (nextCursor s at) (nextValues s at old)
+    record { number = nextNumber s at; values = nextValues s at old }
+    ∷ nextCalls n s (nextCursor s at) (nextValues s at old)
 
 -- where the text of a record at a cursor starts, and where it ends
 abbrev pub textStart : ℕ → ℕ
@@ -35,7 +36,8 @@ valuesOf at r = r .letter ∷ r .a ∷ r .b ∷ r .c ∷ textStart at ∷ textEn
 unfoldable pub leftFor : ℕ → List Call → ℕ → List ℕ → List Left
 leftFor zero rs at old = []
 leftFor (suc n) [] at old = record { number = 0; values = old } ∷ leftFor n [] at old
-leftFor (suc n) (r ∷ rs) at old = record { number = 1; values = valuesOf at r } ∷ leftFor n rs (textEnd at r) (valuesOf at r)
+leftFor (suc n) (r ∷ rs) at old =
+    record { number = 1; values = valuesOf at r } ∷ leftFor n rs (textEnd at r) (valuesOf at r)
 
 abbrev pub FilesInOrder : Type 0
 FilesInOrder =
