@@ -104,6 +104,7 @@ fileConditions s =
     ∷ when (not (wholeFrom (word s countAt) s fileHeadSize)) Corrupt
     ∷ []
 
+-- the file's first refusal, or that it is readable
 abbrev pub verdict : Option Refusal → Verdict
 verdict none = Readable
 verdict (some f) = Refused f
