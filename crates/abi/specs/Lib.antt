@@ -1,4 +1,5 @@
 pub mod Answers
 pub mod Steps
 pub mod Files
+pub mod FilesInOrder
 pub mod Calls

@@ -24,4 +24,5 @@ decodedValues (WellFormed q) = requestValues q
 decodedValues Corrupt = 0 ∷ []
 
 abbrev pub ValuesKept : Type 0
-ValuesKept = (x : Call) → decodedNumber (decoded x) ≡ 0 → decodedValues (decoded x) ≡ x .letter ∷ x .a ∷ x .b ∷ x .c ∷ []
+ValuesKept =
+    (x : Call) → decodedNumber (decoded x) ≡ 0 → decodedValues (decoded x) ≡ x .letter ∷ x .a ∷ x .b ∷ x .c ∷ []

@@ -1,5 +1,5 @@
 -- A record that stands in a file is read back where it stands; by induction so is a list of them. Assumes nothing.
-use Prim.Native.Nat.{ℕ, zero, suc, _+_, _-_, _*_, _<_, _≤_}
+use Prim.Native.Nat.{ℕ, _+_, _*_, _<_, _≤_}
 use mathlib.Core.Path.{_≡_, refl, sym, ap, ap₂, subst₂, _∙_}
 use mathlib.Core.Bool.{true}
 use mathlib.Core.List.{List, [], _∷_, _++_, append-nil, append-assoc}
@@ -7,7 +7,7 @@ use native.Mathlib.Omega.{arith}
 use lib.ListN.{length, getD, take, drop, length-append}
 use lib.Seq.{take-append-seam, drop-append-add, getD-append-add, getD-append-seam}
 use lib.Dec.{lit<}
-use borrow.Author.Tests.{eq-eqb, eqb-true, le-leb}
+use borrow.Author.Tests.{eq-eqb, le-leb}
 use Rattle.call.specs.Calls.{Call}
 use Rattle.journal.specs.Format.{low, high, recordBytes, allBytes, fileHead, fileBytes, Recordable, AllRecordable, mostBytes, isFit}
 use Rattle.journal.specs.Reading.{word, recordOf, nextOf, wholeAt, wholeFrom, recordsFrom, recordsOf, verdictOf}
@@ -15,7 +15,6 @@ use Rattle.journal.specs.declared.file.Verdict.the-variants.{Readable}
 use Rattle.journal.specs.ReadsBack.{WrittenReadable, WrittenBytes, RecordsBack}
 use Rattle.call.proofs.Texts.{text-short}
 use Rattle.journal.proofs.ByteLists.{Each, each, all-are, each-append}
-use Rattle.call.proofs.Truth.{and-left, and-right}
 use Rattle.journal.proofs.Files.{shut-file}
 
 pub word-value : (w : ℕ) → low w + high w * 256 ≡ w

@@ -27,14 +27,6 @@ wordBytes w = low w ∷ high w ∷ []
 abbrev pub headBytes : ℕ → ℕ → ℕ → ℕ → ℕ → List ℕ
 headBytes l a b c n = l ∷ wordBytes a ++ wordBytes b ++ wordBytes c ++ wordBytes n
 
--- the record: the text follows its head
-abbrev pub recordBytes : Call → List ℕ
-recordBytes r = headBytes (r .letter) (r .a) (r .b) (r .c) (length (r .text)) ++ r .text
-
-abbrev pub allBytes : List Call → List ℕ
-allBytes [] = []
-allBytes (r ∷ rs) = recordBytes r ++ allBytes rs
-
 -- where in it the fields a, b, c, the text length and the text stand
 abbrev pub aAt : ℕ
 aAt = 1
@@ -50,6 +42,14 @@ textLengthAt = 7
 
 abbrev pub recordHeadSize : ℕ
 recordHeadSize = 9
+
+-- the record: the text follows its head
+abbrev pub recordBytes : Call → List ℕ
+recordBytes r = headBytes (r .letter) (r .a) (r .b) (r .c) (length (r .text)) ++ r .text
+
+abbrev pub allBytes : List Call → List ℕ
+allBytes [] = []
+allBytes (r ∷ rs) = recordBytes r ++ allBytes rs
 
 -- ---- a file
 

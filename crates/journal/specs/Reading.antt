@@ -42,8 +42,9 @@ nextOf s at = at + recordHeadSize + word s (at + textLengthAt)
 -- the record is fit, and not cut short
 unfoldable pub wholeAt : List ℕ → ℕ → Bool
 wholeAt s at =
+    let textLength = word s (at + textLengthAt) in
     leb (at + recordHeadSize) (length s)
-    && (recordFits (getD s at 0) (word s (at + aAt)) (word s (at + bAt)) (word s (at + cAt)) (word s (at + textLengthAt))
+    && (recordFits (getD s at 0) (word s (at + aAt)) (word s (at + bAt)) (word s (at + cAt)) textLength
     && leb (nextOf s at) (length s))
 
 -- the letter and fields, where the text starts, and the cursor after the record
@@ -104,6 +105,7 @@ fileConditions s =
     ∷ when (not (wholeFrom (word s countAt) s fileHeadSize)) Corrupt
     ∷ []
 
+-- the file's first refusal, or that it is readable
 abbrev pub verdict : Option Refusal → Verdict
 verdict none = Readable
 verdict (some f) = Refused f

@@ -2,7 +2,7 @@
 -- records are those. Proved in `proofs/ReadsBack.antt`. Assumes nothing.
 use mathlib.Core.Path.{_≡_}
 use mathlib.Core.List.{List}
-use Prim.Native.Nat.{ℕ, _≤_}
+use Prim.Native.Nat.{_≤_}
 use lib.ListN.{length}
 use Rattle.call.specs.Calls.{Call}
 use Rattle.journal.specs.declared.file.Verdict.the-variants.{Readable}

@@ -1,4 +1,5 @@
 -- The answer's number and the size, by its cases; the buffer is as `append` leaves it. Assumes nothing.
+use mathlib.Core.Path.{refl}
 use borrow.Author.Needs.{needs}
 use Rattle.abi.proofs.file.rotundaaloe_journal_append.Statement.{statement}
 use Rattle.abi.proofs.file.rotundaaloe_journal_append.Tie as tie
@@ -7,14 +8,14 @@ returns : tie.Need-returns
 returns c =
     let arm = c .before .before in let made = arm .before .before .before .before in (
       rw (← made .append .ensures .0, arm .refusal .given .1) (c .refusal-number .ensures),
-      (rw (← made .append .ensures .0) (made .append .ensures .1), rw (← made .append .ensures .0, arm .refusal .given .1)),
+      (rw (← made .append .ensures .0) (made .append .ensures .1), rw (← made .append .ensures .0, arm .refusal .given .1) refl),
     )
 
 returns-2 : tie.Need-returns-2
 returns-2 c =
     let arm = c .before in let made = arm .before .before .before .before in (
-      rw (← made .append .ensures .0, arm .end .given .1),
-      (rw (← made .append .ensures .0) (made .append .ensures .1), rw (← made .append .ensures .0, arm .end .given .1)),
+      rw (← made .append .ensures .0, arm .end .given .1) refl,
+      (rw (← made .append .ensures .0) (made .append .ensures .1), rw (← made .append .ensures .0, arm .end .given .1) refl),
     )
 
 pub rotundaaloe-journal-append-spec : {M : Type 1} → statement M
