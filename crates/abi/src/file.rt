@@ -13,8 +13,8 @@ use journal::file::Refusal;
 use journal::file::Verdict;
 use journal::file::check;
 use journal::file::refusal_number;
+use journal::reader::read;
 use journal::record::Found;
-use journal::record::record_at;
 
 // Checks the whole file: 0, and the cursor is the first record's; or the number of its first refusal, and then the cursor is not changed.
 #[no_mangle]
@@ -45,7 +45,7 @@ pub extern "C" fn rotundaaloe_journal_next(
         ≡ nextValues (now (file .entry)) (now (cursor .entry)) (now (values .entry)) ⌝ }
 {
     let at = *cursor;
-    match record_at(file, at) {
+    match read(file, at) {
         Found::End => 0,
         Found::Damaged => refusal_number(Refusal::Corrupt),
         Found::Record(e) => {

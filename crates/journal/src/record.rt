@@ -35,7 +35,7 @@ const TEXT_LENGTH_AT: usize = 7;
 pub(crate) const RECORD_HEAD: usize = 9;
 
 // What stands at a cursor of a file, for any bytes and any cursor; numbered by `foundNumber`.
-pub fn record_at(file: &[u8], at: usize) -> Found
+pub(crate) fn record_at(file: &[u8], at: usize) -> Found
     ensures { λ r. ⌜ r ≡ foundAt (now (file .entry)) at ⌝ }
 {
     if file.len() <= at {

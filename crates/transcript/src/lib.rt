@@ -14,8 +14,8 @@ use guard::call;
 use journal::file::FILE_HEAD;
 use journal::file::Verdict;
 use journal::file::check;
+use journal::reader::read;
 use journal::record::Found;
-use journal::record::record_at;
 use lines::file_line;
 use lines::line;
 use model::arrays::Locks;
@@ -119,7 +119,7 @@ fn answer(
         (now (threads .exit)))
         (now (buffer .exit)) r ⌝ }
 {
-    match record_at(file, at) {
+    match read(file, at) {
         Found::Record(e) => {
             let letter = e.letter;
             let start = e.start;

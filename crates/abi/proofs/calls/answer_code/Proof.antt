@@ -1,6 +1,7 @@
 -- By the answer's cases. Assumes nothing.
 use mathlib.Core.Path.{_≡_}
 use Prim.Native.Nat.{ℕ, _+_, _*_}
+use native.Mathlib.Omega.{arith}
 use borrow.Author.Needs.{needs}
 use Rattle.model.specs.declared.answer.Refusal.{Refusal}
 use Rattle.model.specs.declared.answer.Answer.{Answer}
@@ -14,7 +15,7 @@ refused : (r : Answer) (f : Refusal) (m n : ℕ) → r ≡ Refused f → m ≡ r
 refused r f m n e a b = rw (e, a, b)
 
 accepted : (r : Answer) (n : ℕ) → r ≡ Accepted n → n ≡ answerCode r
-accepted r n e = rw e
+accepted r n e = rw e (omega arith)
 
 returns : tie.Need-returns
 returns c = accepted _ _ (c .before .answer .given .1)

@@ -5,23 +5,23 @@ use Rattle.abi.proofs.file.rotundaaloe_journal_next.Statement.{statemen
 use Rattle.abi.proofs.file.rotundaaloe_journal_next.Tie as tie
 
 returns : tie.Need-returns
-returns c = rw (← c .before .before .record-at .ensures, c .enum-told .given .1) (refl, (refl, refl))
+returns c = rw (← c .before .before .read .ensures, c .enum-told .given .1) (refl, (refl, refl))
 
 returns-2 : tie.Need-returns-2
 returns-2 c =
     let arm = c .before in
-    rw (← arm .before .before .record-at .ensures, arm .enum-told2 .given .1) (c .refusal-number .ensures, (refl, refl))
+    rw (← arm .before .before .read .ensures, arm .enum-told2 .given .1) (c .refusal-number .ensures, (refl, refl))
 
 returns-3 : tie.Need-returns-3
 returns-3 c =
     let arm = c .before .before .before .before .before .before in
-    rw (← arm .before .before .record-at .ensures, arm .e .given .1) (refl, (refl, refl))
+    rw (← arm .before .before .read .ensures, arm .e .given .1) (refl, (refl, refl))
 
 pub rotundaaloe-journal-next-spec : {M : Type 1} → statement M
 rotundaaloe-journal-next-spec =
     tie.close
     (tie.spec
-    (λ c κs. search needs)  -- record-at-requires
+    (λ c κs. search needs)  -- read-requires
     (λ c. search needs)  -- enum-told
     (λ c. search needs)  -- enum-told-2
     (λ c κs. search needs)  -- refusal-number-requires
