@@ -6,7 +6,7 @@
 //! is marked.
 
 use compare::Rows;
-use compare::journal::{ACCEPTED, Cells, END, RECORD};
+use compare::journal::{ACCEPTED, END, RECORD, Values};
 use compare::texts::{Line, lines};
 use compare::timing::{ROUNDS, Times, measure};
 use reference::Issued;
@@ -125,11 +125,12 @@ fn file_of_longest_texts() -> Vec<u8> {
 
 /// Checking a whole file. Neither side makes anything of its records.
 fn measure_check(file: &[u8]) -> Times {
-    assert_eq!(compare::journal::check(file), ACCEPTED);
+    let mut cursor = 0;
+    assert_eq!(compare::journal::open(file, &mut cursor), ACCEPTED);
     assert_eq!(check(file), Ok(()));
     measure(
         || {
-            black_box(compare::journal::check(black_box(file)));
+            black_box(compare::journal::open(black_box(file), &mut cursor));
         },
         || {
             let _ = black_box(check(black_box(file)));
@@ -139,17 +140,17 @@ fn measure_check(file: &[u8]) -> Times {
 
 /// The proved guard from a file's first record to its end: how many there are.
 fn proved_walk(file: &[u8]) -> u32 {
-    let mut cells = Cells::default();
+    let mut values = Values::default();
     let (mut records, mut cursor) = (0, HEAD_BYTES);
     loop {
-        match compare::journal::record(file, cursor, &mut cells) {
-            RECORD => cursor = black_box(&cells)[5] as usize,
+        match compare::journal::next(file, &mut cursor, &mut values) {
+            RECORD => records += 1,
             answer => {
                 assert_eq!(answer, END);
                 return records;
             }
         }
-        records += 1;
+        black_box(&values);
     }
 }
 
