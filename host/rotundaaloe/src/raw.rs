@@ -83,11 +83,7 @@ mod c {
             keys_count: usize,
         ) -> u32;
 
-        pub fn rotundaaloe_journal_open(
-            file: *const u8,
-            length: usize,
-            cursor: *mut usize,
-        ) -> u32;
+        pub fn rotundaaloe_journal_open(file: *const u8, length: usize, cursor: *mut usize) -> u32;
 
         pub fn rotundaaloe_journal_next(
             file: *const u8,
