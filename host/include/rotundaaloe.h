@@ -156,8 +156,9 @@ void rotundaaloe_empty(uint32_t registry[8], uint16_t makers[1024], uint16_t seg
                        uint32_t locks[64][8][8], uint16_t threads[64][17][8]);
 
 /*
- * One of the twelve calls, by its letter, which may write to each array. An unknown letter, a field that is not 0 where its call
- * has none, or a text where the letter is not L is refusal 18, before all else.
+ * One of the twelve calls, by its letter, which may write to each array. An unknown letter, a
+ * field that is not 0 where its call has none, or a text where the letter is not L is refusal 18,
+ * before all else.
  *
  * Answer: that of the call, as above.
  */
