@@ -248,7 +248,7 @@ impl Report {
             let limit = if limited {
                 ", below 1 for every m of 2 and more"
             } else {
-                ", without a limit"
+                "; the ratio has no limit"
             };
             let name = case.name();
             let title = format!("Depth 1, {name}. Proved / document 000 = ratio{limit}.");
