@@ -198,3 +198,33 @@ fn counts(dumps: &str) -> HashMap<String, u64> {
     }
     counts
 }
+
+#[cfg(test)]
+mod tests {
+    use super::*;
+
+    fn dump(scene: &str, function: &str, count: u64) -> String {
+        format!("{NAMED}{scene}\nfn=(1) {function}\n0 {count}\n{COUNTED}{count}\n")
+    }
+
+    #[test]
+    fn counts_by_their_names() {
+        let dumps = dump("one", CHECK, 78) + &dump("two", CHECK, 125);
+        let expected = HashMap::from([("one".to_string(), 78), ("two".to_string(), 125)]);
+        assert_eq!(counts(&dumps), expected);
+        assert_eq!(all_counted(&dumps, counts(&dumps)), Ok(expected));
+    }
+
+    #[test]
+    fn a_check_that_is_not_counted_is_told() {
+        let other = dump("one", "rotundaaloe_access", 40);
+        let told = all_counted(&other, counts(&other)).expect_err("no such function");
+        assert!(
+            told.contains("finds no function `checking::opening`"),
+            "{told}"
+        );
+        let nothing = dump("one", CHECK, 78) + &dump("two", CHECK, 0);
+        let told = all_counted(&nothing, counts(&nothing)).expect_err("nothing in a scene");
+        assert!(told.ends_with("is counted in 'two'"), "{told}");
+    }
+}
