@@ -85,22 +85,25 @@ uint32_t rotundaaloe_opens(uint32_t rows[8][8], size_t count, const uint32_t *ke
  */
 
 /*
- * Whether a journal is readable.
+ * Opens a journal: checks the whole file, before any of its records is read.
  *
- * Answer: 0 if it is, or the refusal 16, 17 or 18.
+ * Answer: 0, and *cursor is then the first record's; or the refusal 16, 17 or 18, and then *cursor
+ * is as it was.
  */
-uint32_t rotundaaloe_journal_check(const uint8_t *file, size_t length);
+uint32_t rotundaaloe_journal_open(const uint8_t *file, size_t length, size_t *cursor);
 
 /*
- * What stands at a cursor. The first record's cursor is 7. Any bytes and any cursor will do: only
- * a file that was checked is known to hold as many records as it says, and nothing else.
+ * Reads the next record of a journal that was opened. The bytes must be those that were opened and
+ * the cursor one that opening or reading left: of others, which do no harm, the answer says only
+ * what stands there.
  *
- * Answer: 1 for a whole record, and record then holds its letter, a, b, c, where its text starts,
- * and the cursor after it, where the text ends; 0 for the end, at the file's length or beyond; or
- * the refusal 18 for anything else. On 0 and 18 no cell is changed.
+ * Answer: 1, and values then holds the record's letter, a, b, c, where its text starts in the file
+ * and where it ends, and *cursor is after the record; 0 at the end; or the refusal 18 where neither
+ * a whole record nor the end stands at the cursor, which never happens in a journal that was
+ * opened. On 0 and 18 neither *cursor nor a value is changed.
  */
-uint32_t rotundaaloe_journal_record(const uint8_t *file, size_t length, size_t cursor,
-                                    uint64_t record[6]);
+uint32_t rotundaaloe_journal_next(const uint8_t *file, size_t length, size_t *cursor,
+                                  uint64_t values[6]);
 
 /*
  * Writes the journal without records, 7 bytes, to the buffer's start.
@@ -111,15 +114,15 @@ uint32_t rotundaaloe_journal_record(const uint8_t *file, size_t length, size_t c
 uint32_t rotundaaloe_journal_empty(uint8_t *buffer, size_t capacity);
 
 /*
- * Appends a record to the journal in the buffer's first *length bytes.
+ * Appends a record to the journal in the buffer's first *size bytes.
  *
- * Answer: 0, and *length is then the journal's new length, its count is one more, the record
- * follows what was there, and the other bytes are as they were; or the refusal 10, 16, 17 or 18,
- * and then no byte is changed, nor *length. A *length above capacity is 18, and so is a record
- * with an unknown letter, a field that is not 0 where its call has none, or a text of the wrong
- * length: 1 to 96 bytes for L, none for the others.
+ * Answer: 0, and *size is then the journal's new size, its count is one more, the record follows
+ * what was there, and the other bytes are as they were; or the refusal 10, 16, 17 or 18, and then
+ * no byte is changed, nor *size. A *size above capacity is 18, and so is a record with an unknown
+ * letter, a field that is not 0 where its call has none, or a text of the wrong length: 1 to 96
+ * bytes for L, none for the others.
  */
-uint32_t rotundaaloe_journal_append(uint8_t *buffer, size_t capacity, size_t *length,
+uint32_t rotundaaloe_journal_append(uint8_t *buffer, size_t capacity, size_t *size,
                                     uint8_t letter, uint16_t a, uint16_t b, uint16_t c,
                                     const uint8_t *text, size_t text_length);
 
@@ -153,8 +156,9 @@ void rotundaaloe_empty(uint32_t registry[8], uint16_t makers[1024], uint16_t seg
                        uint32_t locks[64][8][8], uint16_t threads[64][17][8]);
 
 /*
- * One of the twelve calls, by its letter, which may write to each array. An unknown letter, a field that is not 0 where its call
- * has none, or a text where the letter is not L is refusal 18, before all else.
+ * One of the twelve calls, by its letter, which may write to each array. An unknown letter, a
+ * field that is not 0 where its call has none, or a text where the letter is not L is refusal 18,
+ * before all else.
  *
  * Answer: that of the call, as above.
  */
@@ -187,18 +191,6 @@ uint32_t rotundaaloe_return_call(uint16_t threads[64][17][8], uint16_t a);
 uint32_t rotundaaloe_access(const uint32_t registry[8], uint16_t segments[64][2][8],
                             uint32_t locks[64][8][8], uint16_t threads[64][17][8],
                             uint16_t a, uint16_t b, uint16_t c);
-
-/*
- * One check alone: the operation (1 execute, 2 read, 4 write) of the thread in the rows
- * threads[p], by the locks in the rows locks[s]. No cell is changed.
- *
- * Answer: 0 if no lock opens. Else the lock that decides, the lowest deny lock that opens or, where
- * none does, the lowest grant lock: lock * 65536 + literals * 16 + operations, with the number of
- * literals in the product that opened and the lock's operations, 8 among them in a deny lock. Of
- * any other operation the answer has no meaning.
- */
-uint32_t rotundaaloe_check(uint16_t thread[17][8], uint32_t products[8][8],
-                           uint32_t operation);
 
 #ifdef __cplusplus
 }

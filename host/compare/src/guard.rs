@@ -78,33 +78,6 @@ impl Guard {
     pub fn access(&self, thread: u16, segment: u16, operation: u16) -> u32 {
         raw::access(&self.cells, thread, segment, operation)
     }
-
-    /// One check of the thread in a place of the array on a segment.
-    pub fn check(&self, place: usize, segment: u16, operation: u16) -> u32 {
-        let thread = &self.cells.threads[place];
-        let products = &self.cells.locks[usize::from(segment)];
-        coded_head(check(thread, products, operation))
-    }
-}
-
-/// What [`coded`] says, of the head of the row that decides a check.
-pub fn coded_head(head: u32) -> u32 {
-    let lock = head / 65_536;
-    if head == 0 {
-        15 * 65_536
-    } else if head & 8 != 0 {
-        14 * 65_536 + lock
-    } else {
-        lock
-    }
-}
-
-/// One check alone: of a thread's rows, by the rows of a segment's products. 0
-/// if no lock opens, else the head of the row that decides, with its lock in
-/// the high half and 8 set in a deny lock's.
-#[inline]
-pub fn check(thread: &[[u16; 8]; 17], products: &[[u32; 8]; 8], operation: u16) -> u32 {
-    raw::check(thread, products, u32::from(operation))
 }
 
 impl Default for Guard {

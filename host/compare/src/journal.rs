@@ -1,12 +1,10 @@
-//! The proved guard's journals as numbers: its answers, and the cells that a
+//! The proved guard's journals as numbers: its answers, and the values that a
 //! step of the reference is written as.
 
 use reference::journal::{Record, Step};
 
-pub use rotundaaloe::raw::Found as Cells;
-pub use rotundaaloe::raw::{
-    journal_check as check, journal_empty as empty, journal_record as record,
-};
+pub use rotundaaloe::raw::Values;
+pub use rotundaaloe::raw::{journal_empty as empty, journal_next as next, journal_open as open};
 
 /// The proved guard's answer for what it accepts.
 pub const ACCEPTED: u32 = 0;
@@ -18,16 +16,16 @@ pub const RECORD: u32 = 1;
 pub const CORRUPT: u32 = 18;
 
 /// Has the proved guard append a record to the file in the buffer's first
-/// `length` bytes: [`ACCEPTED`], and `length` is the new one, or the refusal
-/// 10, 16, 17 or 18.
-pub fn append(buffer: &mut [u8], length: &mut usize, record: &Record) -> u32 {
+/// `size` bytes: [`ACCEPTED`], and `size` is the new one, or the refusal 10, 16,
+/// 17 or 18.
+pub fn append(buffer: &mut [u8], size: &mut usize, record: &Record) -> u32 {
     let fields = [record.a, record.b, record.c];
-    rotundaaloe::raw::journal_append(buffer, length, record.letter, fields, &record.text)
+    rotundaaloe::raw::journal_append(buffer, size, record.letter, fields, &record.text)
 }
 
-/// The answer and the cells for a step of the reference, where `before` is what
-/// the cells held.
-pub fn cells_of(step: &Step, before: Cells) -> (u32, Cells) {
+/// The answer, the cursor and the values for a step of the reference, where the
+/// last two are what they were before.
+pub fn coded(step: &Step, cursor: usize, values: Values) -> (u32, usize, Values) {
     match step {
         Step::Record {
             letter,
@@ -38,9 +36,10 @@ pub fn cells_of(step: &Step, before: Cells) -> (u32, Cells) {
         } => {
             let [a, b, c] = [*a, *b, *c].map(u64::from);
             let [start, end] = [text.start, text.end].map(|place| place as u64);
-            (RECORD, [u64::from(*letter), a, b, c, start, end])
+            let values = [u64::from(*letter), a, b, c, start, end];
+            (RECORD, text.end, values)
         }
-        Step::End => (END, before),
-        Step::Corrupt => (CORRUPT, before),
+        Step::End => (END, cursor, values),
+        Step::Corrupt => (CORRUPT, cursor, values),
     }
 }

@@ -1,13 +1,12 @@
 //! The formula texts that both guards are timed on.
 
-pub struct Line {
-    pub text: String,
-    /// Whether the times on it are limited.
-    pub marked: bool,
+/// Whether the times on a text are limited: it has two keys or more.
+pub fn is_limited(text: &str) -> bool {
+    text.matches(['U', 'R', 'S', 'D']).count() >= 2
 }
 
 /// The texts, the longest of each shape among them. They name keys up to 65,535.
-pub fn lines() -> Vec<Line> {
+pub fn texts() -> Vec<String> {
     let every_way = "(D0|!D0)&(D1|!D1)&(D2|!D2)";
     let deep = "((((((((D0&D1)|D2)&D3)|D4)&D5)|D6)&D7))";
     let deep_not = "!(D0&!(D1&!(D2&!(D3&!(D4&!(D5&!(D6&!(D7&D8))))))))";
@@ -45,18 +44,13 @@ pub fn lines() -> Vec<Line> {
         format!("{}&!D0&!D0", cycle("&", &eight[..6], 29)),
     ];
 
-    let marked = |text| Line { text, marked: true };
-    let unmarked = |text| Line {
-        text,
-        marked: false,
-    };
-    let mut lines = vec![
-        marked("S0&S1".to_string()),
-        unmarked("D0".to_string()),
-        unmarked(cycle("|", &eight, 8)),
-        unmarked("(D0|D1)&(D2|D3)&(D4|D5)".to_string()),
+    let mut texts = vec![
+        "S0&S1".to_string(),
+        "D0".to_string(),
+        cycle("|", &eight, 8),
+        "(D0|D1)&(D2|D3)&(D4|D5)".to_string(),
     ];
-    lines.extend(longest.map(marked));
-    lines.extend(refused.map(unmarked));
-    lines
+    texts.extend(longest);
+    texts.extend(refused);
+    texts
 }

@@ -1,9 +1,10 @@
 //! The proved guard's journals against the reference's: the same answer to a
 //! file, the same records at every cursor, and after an append the same bytes.
 //!
-//! A file is compared by the answer to whether it is readable, by every step of
-//! the walk from its first record to the end or to where it is corrupt, and by
-//! some other cursors. [`more_than_a_million_files`] counts the files that
+//! A file is compared by the answer to opening it, by every step of the walk
+//! from its first record to the end or to where it is corrupt, by some other
+//! cursors, and by the records that the library for Rust gives of it: none where
+//! it is refused. [`more_than_a_million_files`] counts the files that
 //! differ from all that it compared before: the same bytes count once, however
 //! often they are made. The files that appends are tried on aren't in that
 //! number.
@@ -13,10 +14,12 @@
 
 mod journals;
 
-use compare::journal::{ACCEPTED, CORRUPT, Cells, END, RECORD, cells_of};
+use compare::journal::{ACCEPTED, CORRUPT, END, RECORD, Values, coded};
 use journals::{HEAD_BYTES, LETTERS, MAX_FILE_BYTES, bare, field_mut, names};
-use reference::journal::{Record, Refusal, append, empty, read, record_at, write};
+use reference::journal::{Record, Refusal, append, check, empty, read, record_at, write};
 use reference::random::Random;
+use rotundaaloe::Journal;
+use rotundaaloe::journal::Records;
 use std::collections::HashSet;
 use std::fmt;
 use std::hash::{DefaultHasher, Hash, Hasher};
@@ -25,9 +28,9 @@ const FULL: u32 = 10;
 const NOT_JOURNAL: u32 = 16;
 const OTHER_VERSION: u32 = 17;
 
-/// What the cells hold before a call: no two the same, and none that the guard
+/// What the values hold before a call: no two the same, and none that the guard
 /// could write.
-const UNTOUCHED: Cells = [
+const UNTOUCHED: Values = [
     0xA5A5_A5A5_A5A5_A500,
     0xA5A5_A5A5_A5A5_A501,
     0xA5A5_A5A5_A5A5_A502,
@@ -35,6 +38,10 @@ const UNTOUCHED: Cells = [
     0xA5A5_A5A5_A5A5_A504,
     0xA5A5_A5A5_A5A5_A505,
 ];
+/// What stands in memory on both sides of what is lent.
+const AROUND: u64 = 0x5A5A_5A5A_5A5A_5A5A;
+/// A cursor before opening, which no file has.
+const UNOPENED: usize = 0xA5A5_A5A5_A5A5_A5A5;
 
 /// A byte for each place of a buffer that isn't written yet, so that a byte in
 /// the wrong place shows.
@@ -56,18 +63,57 @@ fn number<T>(answer: &Result<T, Refusal>) -> u32 {
     }
 }
 
-/// Both sides at one cursor. Answers what the proved guard says, and the cells.
-fn agreed_at(file: &[u8], cursor: usize) -> (u32, Cells) {
-    let expected = cells_of(&record_at(file, cursor), UNTOUCHED);
-    let mut cells = UNTOUCHED;
-    let answer = compare::journal::record(file, cursor, &mut cells);
-    assert_eq!((answer, cells), expected, "at {cursor} of {}", shown(file));
-    expected
+/// What is lent to the proved guard, between cells that it must leave.
+#[derive(Clone, Copy, Debug, PartialEq, Eq)]
+#[repr(C)]
+struct Lent {
+    before: u64,
+    cursor: usize,
+    between: u64,
+    values: Values,
+    after: u64,
 }
 
-/// The record that the cells describe.
-fn record_of(file: &[u8], cells: &Cells) -> Record {
-    let [letter, a, b, c, start, end] = *cells;
+impl Lent {
+    fn at(cursor: usize) -> Lent {
+        Lent {
+            before: AROUND,
+            cursor,
+            between: AROUND,
+            values: UNTOUCHED,
+            after: AROUND,
+        }
+    }
+}
+
+/// Both sides open a file, and a refusal leaves the cursor. Answers what the
+/// proved guard says.
+fn agreed_open(file: &[u8]) -> u32 {
+    let expected = check(file);
+    let mut lent = Lent::at(UNOPENED);
+    let answer = compare::journal::open(file, &mut lent.cursor);
+    assert_eq!(answer, number(&expected), "the answer on {}", shown(file));
+    let cursor = if expected.is_ok() { 7 } else { UNOPENED };
+    assert_eq!(lent, Lent::at(cursor), "the cursor of {}", shown(file));
+    answer
+}
+
+/// Both sides at one cursor. Answers what the proved guard says, the cursor
+/// after it, and the values.
+fn agreed_next(file: &[u8], at: usize) -> (u32, usize, Values) {
+    let expected = coded(&record_at(file, at), at, UNTOUCHED);
+    let mut lent = Lent::at(at);
+    let answer = compare::journal::next(file, &mut lent.cursor, &mut lent.values);
+    let given = (answer, lent.cursor, lent.values);
+    assert_eq!(given, expected, "at {at} of {}", shown(file));
+    let around = [lent.before, lent.between, lent.after];
+    assert_eq!(around, [AROUND; 3], "at {at} of {}", shown(file));
+    given
+}
+
+/// The record that the values describe.
+fn record_of(file: &[u8], values: &Values) -> Record {
+    let [letter, a, b, c, start, end] = *values;
     Record {
         letter: u8::try_from(letter).expect("a letter has 8 bits"),
         a: u16::try_from(a).expect("a field has 16 bits"),
@@ -78,27 +124,66 @@ fn record_of(file: &[u8], cells: &Cells) -> Record {
 }
 
 /// Both sides from the first record on. Answers the records and how the walk
-/// ended, [`END`] or [`CORRUPT`].
+/// ended, [`END`] or [`CORRUPT`], which it does again when asked again.
 fn agreed_walk(file: &[u8]) -> (Vec<Record>, u32) {
     let mut records = Vec::new();
     let mut cursor = HEAD_BYTES;
     loop {
-        match agreed_at(file, cursor) {
-            (RECORD, cells) => {
-                records.push(record_of(file, &cells));
-                cursor = cells[5] as usize;
+        match agreed_next(file, cursor) {
+            (RECORD, next, values) => {
+                records.push(record_of(file, &values));
+                cursor = next;
             }
-            (answer, _) => return (records, answer),
+            (answer, next, values) => {
+                assert_eq!((next, values), (cursor, UNTOUCHED));
+                assert_eq!(agreed_next(file, next), (answer, cursor, UNTOUCHED));
+                return (records, answer);
+            }
         }
     }
+}
+
+/// A record of the library for Rust as the reference has it.
+fn owned(record: rotundaaloe::Record) -> Record {
+    let rotundaaloe::Record {
+        letter,
+        a,
+        b,
+        c,
+        text,
+    } = record;
+    let text = text.to_vec();
+    Record {
+        letter,
+        a,
+        b,
+        c,
+        text,
+    }
+}
+
+/// The library for Rust has the file's records, or none and the refusal where it
+/// is refused.
+fn library_agrees(file: &[u8], expected: &Result<Vec<Record>, Refusal>) {
+    let refused = |refusal| rotundaaloe::Refusal::from(refusal).number();
+    let lent: Result<Vec<Record>, u32> = Records::open(file)
+        .map(|records| records.map(owned).collect())
+        .map_err(refused);
+    let kept: Result<Vec<Record>, u32> = Journal::from_bytes(file)
+        .map(|journal| journal.records().map(owned).collect())
+        .map_err(refused);
+    let expected = expected.as_ref().map_err(|refusal| refusal.number());
+    assert_eq!(lent.as_ref().map_err(|n| *n), expected, "{}", shown(file));
+    assert_eq!(kept.as_ref().map_err(|n| *n), expected, "{}", shown(file));
 }
 
 /// Both sides on one file. Answers what they agree on, and how many records
 /// were walked over.
 fn agreed(file: &[u8], random: &mut Random) -> (u32, u64) {
     let expected = read(file);
-    let answer = compare::journal::check(file);
+    let answer = agreed_open(file);
     assert_eq!(answer, number(&expected), "the answer on {}", shown(file));
+    library_agrees(file, &expected);
     let (walked, end) = agreed_walk(file);
     if let Ok(records) = expected {
         assert_eq!(walked, records, "the records of {}", shown(file));
@@ -106,10 +191,10 @@ fn agreed(file: &[u8], random: &mut Random) -> (u32, u64) {
     }
     let length = file.len();
     for cursor in [0, length, length + 1, usize::MAX] {
-        agreed_at(file, cursor);
+        agreed_next(file, cursor);
     }
     for _ in 0..2 {
-        agreed_at(file, random.below(length + 10));
+        agreed_next(file, random.below(length + 10));
     }
     (answer, walked.len() as u64)
 }
@@ -771,7 +856,7 @@ fn files_by_hand() {
     for all in [&OFFICE[..], &EVERY_LETTER] {
         let file = written_file(all);
         let records: Vec<Record> = all.iter().map(written_record).collect();
-        assert_eq!(compare::journal::check(&file), ACCEPTED);
+        assert_eq!(agreed_open(&file), ACCEPTED);
         assert_eq!(agreed_walk(&file), (records.clone(), END));
         let mut buffer = Buffer::with(&[], 200);
         assert_eq!(compare::journal::empty(buffer.lent()), ACCEPTED);
@@ -785,32 +870,67 @@ fn files_by_hand() {
     }
 }
 
-/// The cells of records, written out from the interface's description.
+/// The values of records, written out from the interface's description.
 #[test]
-fn cells_are_as_described() {
+fn values_are_as_described() {
     let file = hex("4B 4C 44 01 00 02 00 \
          4C 01 00 02 00 03 01 02 00 55 30 \
          52 05 00 00 00 00 00 00 00");
-    assert_eq!(agreed_at(&file, 7), (1, [0x4C, 1, 2, 259, 16, 18]));
-    assert_eq!(agreed_at(&file, 18), (1, [0x52, 5, 0, 0, 27, 27]));
+    let lock = [0x4C, 1, 2, 259, 16, 18];
+    assert_eq!(agreed_next(&file, 7), (1, 18, lock));
+    assert_eq!(agreed_next(&file, 18), (1, 27, [0x52, 5, 0, 0, 27, 27]));
     for end in [27, 28, 1_000_000, usize::MAX - 8, usize::MAX] {
-        assert_eq!(agreed_at(&file, end), (0, UNTOUCHED));
-        assert_eq!(agreed_at(&[], end), (0, UNTOUCHED));
+        assert_eq!(agreed_next(&file, end), (0, end, UNTOUCHED));
+        assert_eq!(agreed_next(&[], end), (0, end, UNTOUCHED));
     }
     for corrupt in [0, 8, 16, 19, 26] {
-        assert_eq!(agreed_at(&file, corrupt), (18, UNTOUCHED));
+        assert_eq!(agreed_next(&file, corrupt), (18, corrupt, UNTOUCHED));
     }
     // The text cut short.
-    assert_eq!(agreed_at(&file[..17], 7), (18, UNTOUCHED));
-    // A file's head isn't looked at.
-    assert_eq!(agreed_at(&file[18..], 0), (1, [0x52, 5, 0, 0, 9, 9]));
+    assert_eq!(agreed_next(&file[..17], 7), (18, 7, UNTOUCHED));
+    // A file's head isn't looked at, since opening has done so.
+    assert_eq!(agreed_next(&file[18..], 0), (1, 9, [0x52, 5, 0, 0, 9, 9]));
+}
+
+/// Bytes that are no journal, read at any cursor: nothing is read beyond them,
+/// and both sides find the same. Many are letters and zeros, so that records
+/// stand among them.
+#[test]
+fn any_bytes_at_any_cursor() {
+    let mut random = Random::new(55);
+    let mut found = [0_u64; 3];
+    for _ in 0..200_000 {
+        let mut bytes = vec![0; random.below(120)];
+        for byte in &mut bytes {
+            *byte = match random.below(16) {
+                0 => random.bits() as u8,
+                1 | 2 => random.pick(&LETTERS),
+                3 => random.below(97) as u8,
+                _ => 0,
+            };
+        }
+        for _ in 0..8 {
+            let cursor = match random.below(8) {
+                0 => random.bits() as usize,
+                1 => usize::MAX - random.below(120),
+                _ => random.below(bytes.len() + 10),
+            };
+            match agreed_next(&bytes, cursor).0 {
+                END => found[0] += 1,
+                RECORD => found[1] += 1,
+                _ => found[2] += 1,
+            }
+        }
+    }
+    println!("any bytes: {found:?} ends, records and neither");
+    assert!(found.iter().all(|times| *times > 20_000));
 }
 
 /// The proved guard's answer to a file by hand.
 #[track_caller]
 fn answers(file: &str, answer: u32) {
     let bytes = hex(file);
-    assert_eq!(compare::journal::check(&bytes), answer, "{file}");
+    assert_eq!(agreed_open(&bytes), answer, "{file}");
     agreed(&bytes, &mut Random::new(54));
 }
 

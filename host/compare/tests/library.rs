@@ -191,17 +191,17 @@ fn products_and_what_opens_them() {
     };
     let mut random = Random::new(9);
     let (mut opened, mut shut) = (0, 0);
-    for line in texts::lines() {
-        let text = line.text.as_bytes();
+    for name in texts::texts() {
+        let text = name.as_bytes();
         let expected = reference::formula::compile(text, &all);
         let given = compile(text, issued);
         let (Ok(expected), Ok(given)) = (&expected, &given) else {
             let expected = expected.err().map(|refusal| refusal.number());
             let given = given.err().map(|refusal| Refusal::from(refusal).number());
-            assert_eq!(given, expected, "{}", line.text);
+            assert_eq!(given, expected, "{}", name);
             continue;
         };
-        assert_eq!(given.len(), expected.len(), "{}", line.text);
+        assert_eq!(given.len(), expected.len(), "{}", name);
         for (given, expected) in given.iter().zip(expected) {
             let literals = expected
                 .literals()
@@ -210,11 +210,7 @@ fn products_and_what_opens_them() {
                     true => Literal::Barred(key(literal.key)),
                     false => Literal::Plain(key(literal.key)),
                 });
-            assert!(
-                given.literals().iter().copied().eq(literals),
-                "{}",
-                line.text
-            );
+            assert!(given.literals().iter().copied().eq(literals), "{}", name);
             for _ in 0..50 {
                 // Mostly as the product asks, so that some sets open it.
                 let held: BTreeSet<ReferenceKey> = expected
@@ -225,7 +221,7 @@ fn products_and_what_opens_them() {
                     .collect();
                 let keys: Vec<Key> = held.iter().map(|held| key(*held)).collect();
                 let opens = expected.is_opened_by(&held);
-                assert_eq!(given.opens(&keys), opens, "{keys:?}: {}", line.text);
+                assert_eq!(given.opens(&keys), opens, "{keys:?}: {}", name);
                 *if opens { &mut opened } else { &mut shut } += 1;
             }
         }

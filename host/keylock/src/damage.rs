@@ -1,10 +1,12 @@
 //! Where and why a file that the proved check refuses is broken. The verdict is
-//! the check's; this only explains it.
+//! the check's; this only explains it, and finds the records of a broken file by
+//! the reference's reader, since the proved one has none for it.
 
 use crate::figures::{counted, grouped};
 use crate::letters;
+use reference::journal::{Step, record_at};
 use rotundaaloe::Refusal;
-use rotundaaloe::journal::{HEAD_BYTES, MARK, MAX_BYTES, MAX_TEXT_BYTES, Records};
+use rotundaaloe::journal::{HEAD_BYTES, MARK, MAX_BYTES, MAX_TEXT_BYTES};
 use rotundaaloe::refusal::Read;
 use std::fmt;
 
@@ -86,11 +88,9 @@ fn broken(bytes: &[u8]) -> Finding {
         return (MAX_BYTES, None, format!("{length} bytes, over {most}"));
     }
     let count = number_at(bytes, COUNT);
-    let mut records = Records::of(bytes);
-    let whole = records.by_ref().take(count).count();
-    let cursor = records.cursor();
+    let (whole, cursor) = walked(bytes, HEAD_BYTES, count);
     if whole == count {
-        return left_over(bytes, records, count);
+        return left_over(bytes, cursor, count);
     }
     if cursor == length {
         let [ends, says] = [whole, count].map(|number| counted(number, "record"));
@@ -101,12 +101,23 @@ fn broken(bytes: &[u8]) -> Finding {
     (cursor + place, Some(whole), sentence)
 }
 
-/// What stands behind as many records as the count says.
-fn left_over(bytes: &[u8], mut records: Records, count: usize) -> Finding {
-    let cursor = records.cursor();
-    let more = records.by_ref().count();
+/// How many whole records follow each other from a cursor on, up to a limit, and
+/// the cursor after them.
+fn walked(bytes: &[u8], mut cursor: usize, limit: usize) -> (usize, usize) {
+    for whole in 0..limit {
+        match record_at(bytes, cursor) {
+            Step::Record { text, .. } => cursor = text.end,
+            Step::End | Step::Corrupt => return (whole, cursor),
+        }
+    }
+    (limit, cursor)
+}
+
+/// What stands at a cursor, behind as many records as the count says.
+fn left_over(bytes: &[u8], cursor: usize, count: usize) -> Finding {
+    let (more, end) = walked(bytes, cursor, usize::MAX);
     let says = counted(count, "record");
-    let sentence = if records.cursor() == bytes.len() {
+    let sentence = if end == bytes.len() {
         let stand = grouped(count + more);
         format!("the count says {says}, but {stand} stand in the file")
     } else {

@@ -4,6 +4,7 @@ use crate::numbers::{Access, Defined, Kind, Lock, Operations, Segment, Thread, U
 use crate::raw;
 use crate::refusal::{self, Refusal};
 use std::fmt;
+use std::iter::FusedIterator;
 
 /// What a journal begins with.
 pub const MARK: &[u8; 3] = b"KLD";
@@ -101,7 +102,7 @@ impl<'a> Record<'a> {
 pub struct Journal {
     /// As long as a journal may be.
     buffer: Box<[u8]>,
-    length: usize,
+    size: usize,
 }
 
 impl Journal {
@@ -112,43 +113,42 @@ impl Journal {
         assert_eq!(answer, 0, "the buffer holds the head");
         Journal {
             buffer,
-            length: HEAD_BYTES,
+            size: HEAD_BYTES,
         }
     }
 
     /// The journal of these bytes, if they are readable.
     pub fn from_bytes(bytes: &[u8]) -> Result<Journal, refusal::Read> {
-        match raw::journal_check(bytes) {
-            0 => {
-                let mut buffer = vec![0; MAX_BYTES].into_boxed_slice();
-                buffer[..bytes.len()].copy_from_slice(bytes);
-                Ok(Journal {
-                    buffer,
-                    length: bytes.len(),
-                })
-            }
-            number => Err(refusal::Read::of(Refusal::of(number, 0))),
-        }
+        Records::open(bytes)?;
+        let mut buffer = vec![0; MAX_BYTES].into_boxed_slice();
+        buffer[..bytes.len()].copy_from_slice(bytes);
+        Ok(Journal {
+            buffer,
+            size: bytes.len(),
+        })
     }
 
     /// Appends a record. A refusal changes nothing.
     pub fn append(&mut self, record: &Record) -> Result<(), refusal::Append> {
         let fields = [record.a, record.b, record.c];
-        let (buffer, length) = (&mut self.buffer, &mut self.length);
-        match raw::journal_append(buffer, length, record.letter, fields, record.text) {
+        let (buffer, size) = (&mut self.buffer, &mut self.size);
+        match raw::journal_append(buffer, size, record.letter, fields, record.text) {
             0 => Ok(()),
             number => Err(refusal::Append::of(Refusal::of(number, 0))),
         }
     }
 
-    /// The records in order.
+    /// The records in order. A journal is readable, so nothing is checked again.
     pub fn records(&self) -> Records<'_> {
-        Records::of(self.as_bytes())
+        Records {
+            file: self.as_bytes(),
+            cursor: HEAD_BYTES,
+        }
     }
 
     /// The bytes of the file.
     pub fn as_bytes(&self) -> &[u8] {
-        &self.buffer[..self.length]
+        &self.buffer[..self.size]
     }
 }
 
@@ -172,8 +172,8 @@ impl PartialEq for Journal {
 
 impl Eq for Journal {}
 
-/// Walks over the records of a file, whether or not it is readable, up to its
-/// end or to where no whole record stands.
+/// The records of a readable file, in order. Nobody has those of a file that was
+/// not opened: only [`Records::open`] and [`Journal::records`] make them.
 #[derive(Clone, Debug)]
 pub struct Records<'a> {
     file: &'a [u8],
@@ -181,17 +181,13 @@ pub struct Records<'a> {
 }
 
 impl<'a> Records<'a> {
-    /// Those of any bytes. The head isn't looked at.
-    pub fn of(file: &'a [u8]) -> Records<'a> {
-        Records {
-            file,
-            cursor: HEAD_BYTES,
+    /// Those of these bytes, if the whole of them is a readable file.
+    pub fn open(file: &'a [u8]) -> Result<Records<'a>, refusal::Read> {
+        let mut cursor = 0;
+        match raw::journal_open(file, &mut cursor) {
+            0 => Ok(Records { file, cursor }),
+            number => Err(refusal::Read::of(Refusal::of(number, 0))),
         }
-    }
-
-    /// Where the next record starts, or would.
-    pub fn cursor(&self) -> usize {
-        self.cursor
     }
 }
 
@@ -199,18 +195,21 @@ impl<'a> Iterator for Records<'a> {
     type Item = Record<'a>;
 
     fn next(&mut self) -> Option<Record<'a>> {
-        let mut found = raw::Found::default();
-        if raw::journal_record(self.file, self.cursor, &mut found) != 1 {
-            return None;
+        let mut values = raw::Values::default();
+        match raw::journal_next(self.file, &mut self.cursor, &mut values) {
+            1 => (),
+            0 => return None,
+            number => unreachable!("{number} in a file that was opened"),
         }
-        let [letter, a, b, c, start, end] = found;
-        self.cursor = end as usize;
+        let [letter, a, b, c, start, end] = values;
         Some(Record {
             letter: letter as u8,
             a: a as u16,
             b: b as u16,
             c: c as u16,
-            text: &self.file[start as usize..self.cursor],
+            text: &self.file[start as usize..end as usize],
         })
     }
 }
+
+impl FusedIterator for Records<'_> {}

@@ -60,9 +60,9 @@ impl Eq for Cells {}
 /// their number in the last cell. All other cells are 0.
 pub type Rows = [[u32; 8]; 8];
 
-/// A record of a journal: its letter, a, b, c, where its text starts, and the
-/// cursor after it.
-pub type Found = [u64; 6];
+/// A record of a journal: its letter, a, b, c, where its text starts, and where
+/// it ends.
+pub type Values = [u64; 6];
 
 mod c {
     unsafe extern "C" {
@@ -83,13 +83,13 @@ mod c {
             keys_count: usize,
         ) -> u32;
 
-        pub fn rotundaaloe_journal_check(file: *const u8, length: usize) -> u32;
+        pub fn rotundaaloe_journal_open(file: *const u8, length: usize, cursor: *mut usize) -> u32;
 
-        pub fn rotundaaloe_journal_record(
+        pub fn rotundaaloe_journal_next(
             file: *const u8,
             length: usize,
-            cursor: usize,
-            record: *mut u64,
+            cursor: *mut usize,
+            values: *mut u64,
         ) -> u32;
 
         pub fn rotundaaloe_journal_empty(buffer: *mut u8, capacity: usize) -> u32;
@@ -97,7 +97,7 @@ mod c {
         pub fn rotundaaloe_journal_append(
             buffer: *mut u8,
             capacity: usize,
-            length: *mut usize,
+            size: *mut usize,
             letter: u8,
             a: u16,
             b: u16,
@@ -147,12 +147,6 @@ mod c {
             a: u16,
             b: u16,
             c: u16,
-        ) -> u32;
-
-        pub fn rotundaaloe_check(
-            thread: *const [u16; 8],
-            products: *const [u32; 8],
-            operation: u32,
         ) -> u32;
     }
 }
@@ -232,12 +226,6 @@ pub fn access(cells: &Cells, a: u16, b: u16, c: u16) -> u32 {
     }
 }
 
-/// One check alone: of a thread's rows, by the rows of a segment's products.
-#[inline]
-pub fn check(thread: &[[u16; 8]; 17], products: &[[u32; 8]; 8], operation: u32) -> u32 {
-    unsafe { c::rotundaaloe_check(thread.as_ptr(), products.as_ptr(), operation) }
-}
-
 /// The products of a text, where so many users, threads, segments and defined
 /// keys are handed out.
 #[inline]
@@ -254,16 +242,16 @@ pub fn opens(rows: &Rows, count: usize, keys: &[u32]) -> u32 {
     unsafe { c::rotundaaloe_opens(rows.as_ptr(), count, keys.as_ptr(), keys.len()) }
 }
 
-/// Whether a file is readable.
-pub fn journal_check(file: &[u8]) -> u32 {
-    unsafe { c::rotundaaloe_journal_check(file.as_ptr(), file.len()) }
+/// Checks a whole file, and sets the cursor to its first record.
+pub fn journal_open(file: &[u8], cursor: &mut usize) -> u32 {
+    unsafe { c::rotundaaloe_journal_open(file.as_ptr(), file.len(), cursor) }
 }
 
-/// What stands at a cursor.
+/// The record at a cursor, which is then set after it.
 #[inline]
-pub fn journal_record(file: &[u8], cursor: usize, found: &mut Found) -> u32 {
+pub fn journal_next(file: &[u8], cursor: &mut usize, values: &mut Values) -> u32 {
     let (start, length) = (file.as_ptr(), file.len());
-    unsafe { c::rotundaaloe_journal_record(start, length, cursor, found.as_mut_ptr()) }
+    unsafe { c::rotundaaloe_journal_next(start, length, cursor, values.as_mut_ptr()) }
 }
 
 /// Writes the file without records.
@@ -271,11 +259,11 @@ pub fn journal_empty(buffer: &mut [u8]) -> u32 {
     unsafe { c::rotundaaloe_journal_empty(buffer.as_mut_ptr(), buffer.len()) }
 }
 
-/// Appends a record to the file in the buffer's first `length` bytes.
+/// Appends a record to the file in the buffer's first `size` bytes.
 #[inline]
 pub fn journal_append(
     buffer: &mut [u8],
-    length: &mut usize,
+    size: &mut usize,
     letter: u8,
     [a, b, c]: [u16; 3],
     text: &[u8],
@@ -284,7 +272,7 @@ pub fn journal_append(
         c::rotundaaloe_journal_append(
             buffer.as_mut_ptr(),
             buffer.len(),
-            length,
+            size,
             letter,
             a,
             b,

@@ -168,7 +168,8 @@ some_of_them! {
     Access { NoThread, NoSegment, Unfit, Denied(lock), NotGranted }
     /// Why [`formula::compile`](crate::formula::compile) is refused.
     Compile { Malformed, TooWide, Unsatisfiable }
-    /// Why [`Journal::from_bytes`](crate::Journal::from_bytes) is refused.
+    /// Why [`Journal::from_bytes`](crate::Journal::from_bytes) and
+    /// [`Records::open`](crate::journal::Records::open) are refused.
     Read { NotJournal, OtherVersion, Corrupt }
     /// Why [`Journal::append`](crate::Journal::append) is refused.
     Append { Full, Corrupt }

@@ -71,3 +71,24 @@ fn operations() {
     assert_eq!(Operations::WRITE.denied(), Operations(4 + 8));
     assert_eq!(Operations::READ.and(Operations::WRITE), Operations(6));
 }
+
+/// The functions that a text declares, by their names in order.
+fn functions<'a>(text: &'a str, start: &str) -> Vec<&'a str> {
+    let mut names: Vec<&str> = text
+        .lines()
+        .filter_map(|line| line.trim_start().strip_prefix(start))
+        .filter_map(|rest| rest.split_once('(').map(|(name, _)| name))
+        .collect();
+    names.sort_unstable();
+    names
+}
+
+#[test]
+fn functions_are_the_same() {
+    let raw = functions(include_str!("../src/raw.rs"), "pub fn rotundaaloe_");
+    let mut header = functions(HEADER, "uint32_t rotundaaloe_");
+    header.extend(functions(HEADER, "void rotundaaloe_"));
+    header.sort_unstable();
+    assert_eq!(header, raw);
+    assert_eq!(header.len(), 11, "as the page for hosts says");
+}

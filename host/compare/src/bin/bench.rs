@@ -2,12 +2,12 @@
 //! prints a table of each.
 //!
 //! `bench/run` at the top of the repository runs it. It fails where the proved
-//! guard takes more than [`LIMIT`] times as long as the reference on a row that
-//! is marked.
+//! guard takes more than [`TEXT_LIMIT`] times as long as the reference on a text
+//! of two keys or more, or more than [`JOURNAL_LIMIT`] times on a journal.
 
 use compare::Rows;
-use compare::journal::{ACCEPTED, Cells, END, RECORD};
-use compare::texts::{Line, lines};
+use compare::journal::{ACCEPTED, END, RECORD, Values};
+use compare::texts::{is_limited, texts};
 use compare::timing::{ROUNDS, Times, measure};
 use reference::Issued;
 use reference::journal::{HEAD_BYTES, Record, Step, append, check, record_at, write};
@@ -15,8 +15,10 @@ use reference::random::Random;
 use std::hint::black_box;
 use std::process::ExitCode;
 
-/// The most that proved time / reference time may be on a marked row.
-const LIMIT: f64 = 1.5;
+/// The most that proved time / reference time may be on a text.
+const TEXT_LIMIT: f64 = 1.0;
+/// The most that it may be on a journal.
+const JOURNAL_LIMIT: f64 = 1.5;
 
 const ISSUED: Issued = Issued {
     users: 65_536,
@@ -37,15 +39,19 @@ fn reference(text: &[u8]) {
     ));
 }
 
-/// Prints a table's row, with the number that the table has in its third
-/// column. Answers whether the row is marked and above [`LIMIT`].
-fn print_row(name: &str, bytes: usize, third: u32, times: &Times, marked: bool) -> bool {
-    let (ratio, mark) = (times.ratio(), if marked { "*" } else { "" });
+/// Prints a table's row, with the number that the table has in its third column
+/// and the limit on the ratio, if it has one. Answers whether it is missed.
+fn print_row(name: &str, bytes: usize, third: u32, times: &Times, limit: Option<f64>) -> bool {
+    let ratio = times.ratio();
+    let missed = limit.is_some_and(|limit| ratio > limit);
     println!(
-        "| {name} | {bytes} | {third} | {:.0} | {:.0} | {ratio:.2} | {mark} |",
-        times.proved, times.reference,
+        "| {name} | {bytes} | {third} | {:.0} | {:.0} | {ratio:.2}{} | {} |",
+        times.proved,
+        times.reference,
+        if missed { " !" } else { "" },
+        limit.map_or(String::new(), |limit| limit.to_string()),
     );
-    marked && ratio > LIMIT
+    missed
 }
 
 fn shortened(text: &str) -> String {
@@ -75,20 +81,19 @@ fn print_texts() -> usize {
         "Both sides take a slice of bytes and four counts. The proved guard fills 64 cells in \
          place and allocates nothing; the reference makes a tree and a vector of products on \
          the heap and frees them. Least mean of {ROUNDS} rounds, in nanoseconds a call. Answers \
-         to 8 are numbers of products, those from 11 refusals. On texts marked * the ratio may \
-         be at most {LIMIT}.\n"
+         to 8 are numbers of products, those from 11 refusals. Texts of one key have no limit.\n"
     );
-    println!("| Text | Bytes | Answer | Proved ns | Reference ns | Ratio | |");
-    println!("|---|---:|---:|---:|---:|---:|---|");
+    println!("| Text | Bytes | Answer | Proved ns | Reference ns | Ratio | Limit |");
+    println!("|---|---:|---:|---:|---:|---:|---:|");
     let mut slow = 0;
-    for Line { text, marked } in lines() {
+    for text in texts() {
         let bytes = text.as_bytes();
         let answer = agreed_answer(bytes);
-        assert!(!marked || answer <= 8, "{text} is refused");
+        let limit = is_limited(&text).then_some(TEXT_LIMIT);
         let mut rows = Rows::default();
         let times = measure(|| proved(bytes, &mut rows), || reference(bytes));
         let name = format!("`{}`", shortened(&text));
-        slow += usize::from(print_row(&name, bytes.len(), answer, &times, marked));
+        slow += usize::from(print_row(&name, bytes.len(), answer, &times, limit));
     }
     slow
 }
@@ -125,11 +130,12 @@ fn file_of_longest_texts() -> Vec<u8> {
 
 /// Checking a whole file. Neither side makes anything of its records.
 fn measure_check(file: &[u8]) -> Times {
-    assert_eq!(compare::journal::check(file), ACCEPTED);
+    let mut cursor = 0;
+    assert_eq!(compare::journal::open(file, &mut cursor), ACCEPTED);
     assert_eq!(check(file), Ok(()));
     measure(
         || {
-            black_box(compare::journal::check(black_box(file)));
+            black_box(compare::journal::open(black_box(file), &mut cursor));
         },
         || {
             let _ = black_box(check(black_box(file)));
@@ -139,17 +145,17 @@ fn measure_check(file: &[u8]) -> Times {
 
 /// The proved guard from a file's first record to its end: how many there are.
 fn proved_walk(file: &[u8]) -> u32 {
-    let mut cells = Cells::default();
+    let mut values = Values::default();
     let (mut records, mut cursor) = (0, HEAD_BYTES);
     loop {
-        match compare::journal::record(file, cursor, &mut cells) {
-            RECORD => cursor = black_box(&cells)[5] as usize,
+        match compare::journal::next(file, &mut cursor, &mut values) {
+            RECORD => records += 1,
             answer => {
                 assert_eq!(answer, END);
                 return records;
             }
         }
-        records += 1;
+        black_box(&values);
     }
 }
 
@@ -214,11 +220,10 @@ fn print_journals() -> usize {
     println!(
         "\nBoth sides take a slice of bytes, and neither allocates. Checking is one call for the \
          whole file; reading is a call for each record and one for the end; appending checks \
-         the file first. Least mean of {ROUNDS} rounds, in nanoseconds for what the row says. \
-         On rows marked * the ratio may be at most {LIMIT}.\n"
+         the file first. Least mean of {ROUNDS} rounds, in nanoseconds for what the row says.\n"
     );
-    println!("| Journal | Bytes | Records | Proved ns | Reference ns | Ratio | |");
-    println!("|---|---:|---:|---:|---:|---:|---|");
+    println!("| Journal | Bytes | Records | Proved ns | Reference ns | Ratio | Limit |");
+    println!("|---|---:|---:|---:|---:|---:|---:|");
     let ten = write(&[
         record(b'U', 0),
         record(b'N', 0),
@@ -255,7 +260,8 @@ fn print_journals() -> usize {
     let mut slow = 0;
     for (name, file, times) in rows {
         let records = reference_walk(file);
-        slow += usize::from(print_row(name, file.len(), records, &times, true));
+        let limit = Some(JOURNAL_LIMIT);
+        slow += usize::from(print_row(name, file.len(), records, &times, limit));
     }
     slow
 }
@@ -263,7 +269,7 @@ fn print_journals() -> usize {
 fn main() -> ExitCode {
     let slow = print_texts() + print_journals();
     if slow > 0 {
-        println!("\n{slow} marked rows are above {LIMIT}.");
+        println!("\n{slow} rows are above their limits.");
         return ExitCode::FAILURE;
     }
     ExitCode::SUCCESS

@@ -4,5 +4,5 @@ mod garbage;
 pub mod pair;
 pub mod tally;
 
-/// Execute, read and write.
-pub const OPERATIONS: [u16; 3] = [1, 2, 4];
+/// What an access can be: read and write.
+pub const ACCESSES: [u16; 2] = [2, 4];

@@ -3,10 +3,10 @@
 //! their cells: after a refusal they are as they were, and after an accepted
 //! call only the part that the call is about may differ.
 
-use super::OPERATIONS;
+use super::ACCESSES;
 use super::tally::Tally;
 use compare::guard::{Cells, Guard, coded, filled_with, outcome};
-use reference::guard::{Answer, check};
+use reference::guard::Answer;
 use reference::journal::Record;
 use reference::trials;
 use std::collections::BTreeMap;
@@ -114,25 +114,33 @@ impl Pair {
         }
     }
 
-    /// Every check of every live thread on every segment. Answers how many.
+    /// Every C and every A of every live thread on every segment, each by its own
+    /// function. Answers how many.
     pub fn compare_checks(&self, segments: usize) -> u64 {
         let mut checks = 0;
-        for (&number, &place) in &self.places {
-            let thread = self.reference.thread(number).expect("it is live");
+        let (mut proved, mut reference) = (self.proved.clone(), self.reference.clone());
+        for &thread in self.places.keys() {
             for segment in 0..segments as u16 {
-                let on = self.reference.known_segment(segment).expect("it is there");
-                for operation in OPERATIONS {
+                for operation in ACCESSES {
                     assert_eq!(
-                        self.proved.check(place, segment, operation),
-                        coded(check(thread, on, operation)),
-                        "operation {operation} of thread {number} on segment {segment}"
+                        self.proved.access(thread, segment, operation),
+                        coded(self.reference.access(thread, segment, operation)),
+                        "A {thread} {segment} {operation}"
                     );
                     checks += 1;
                 }
+                let called = coded(reference.call_segment(thread, segment));
+                let given = proved.call_segment(thread, segment);
+                assert_eq!(given, called, "C {thread} {segment}");
+                if outcome(called) == 0 {
+                    let left = coded(reference.return_call(thread));
+                    assert_eq!(proved.return_call(thread), left, "R {thread}");
+                }
+                checks += 1;
             }
         }
         let same = *self.proved.cells() == *self.expected;
-        assert!(same, "a check has changed a cell");
+        assert!(same, "an access has changed a cell");
         checks
     }
 }

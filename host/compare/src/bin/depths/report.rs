@@ -20,7 +20,6 @@ impl Row {
     pub fn keep_least(&mut self, other: Row) {
         let (ours, theirs) = (&mut self.times, other.times);
         keep_least(&mut ours.access, theirs.access);
-        keep_least(&mut ours.check, theirs.check);
         keep_least(&mut ours.route, theirs.route);
     }
 
@@ -100,22 +99,20 @@ fn print_accesses(rows: &[Row], java: &java::Times) {
 
 fn print_routes(rows: &[Row], java: &java::Times) {
     println!(
-        "\nThe check alone, and the whole route: a C for each open call, the A, and an R for each. \
-         In Java a call and a return do nothing for the check, so its check stands against the \
-         whole route here.\n"
+        "\nThe whole route: a C for each open call, the A, and an R for each. In Java a call and a \
+         return do nothing for the check, so its check stands against the whole route here.\n"
     );
     println!(
-        "| Access | Depth | Keys from | Proved check | Reference check | Reference / proved | \
-         Proved route | Reference route | Reference / proved | Java / proved route |"
+        "| Access | Depth | Keys from | Proved route | Reference route | Reference / proved | \
+         Java / proved route |"
     );
-    println!("|---|---:|---|---:|---:|---:|---:|---:|---:|---:|");
+    println!("|---|---:|---|---:|---:|---:|---:|");
     for row in rows {
-        let Measured { check, route, .. } = &row.times;
+        let route = &row.times.route;
         let ratio = row.java(java).map(|theirs| theirs / route.proved);
         println!(
-            "| {} | {} | {} | {} |",
+            "| {} | {} | {} |",
             row.name(),
-            cells(check),
             cells(route),
             java_cell(ratio, 1)
         );

@@ -1,10 +1,10 @@
 //! The accesses that are timed, on both guards.
 
-use compare::guard::{check, coded, coded_head};
+use compare::guard::coded;
 use compare::route::{self, DEPTHS, FIRST_LOCK, SHEET, THREAD, WRITE};
 use compare::stage::Stage;
 use compare::timing::{Times, measure};
-use reference::guard::{Answer, Guard, Segment, Thread};
+use reference::guard::{Answer, Guard};
 use std::hint::black_box;
 
 #[derive(Clone, Copy, Debug, PartialEq, Eq)]
@@ -47,7 +47,6 @@ impl Holder {
 pub struct Measured {
     /// A, with the thread to be found.
     pub access: Times,
-    pub check: Times,
     /// A C and an R for each open call, and A.
     pub route: Times,
 }
@@ -97,7 +96,6 @@ impl Scene {
         let mut stage = self.stage();
         Measured {
             access: self.access_times(&stage),
-            check: self.check_times(&stage),
             route: self.route_times(&mut stage),
         }
     }
@@ -119,29 +117,6 @@ impl Scene {
             },
             || {
                 let _ = black_box(access(reference, black_box(thread), sheet, write));
-            },
-        )
-    }
-
-    fn check_times(self, stage: &Stage) -> Times {
-        let cells = stage.proved.cells();
-        let rows = &cells.threads[usize::from(THREAD)];
-        let products = &cells.locks[usize::from(SHEET)];
-        let reference_check: fn(&Thread, &Segment, u16) -> Answer =
-            black_box(reference::guard::check);
-        let thread = stage.reference.thread(THREAD).expect("a live thread");
-        let segment = stage.reference.known_segment(SHEET).expect("a segment");
-        assert_eq!(coded_head(check(rows, products, WRITE)), self.expected());
-        assert_eq!(
-            coded(reference_check(thread, segment, WRITE)),
-            self.expected()
-        );
-        measure(
-            || {
-                black_box(check(black_box(rows), products, WRITE));
-            },
-            || {
-                let _ = black_box(reference_check(black_box(thread), segment, WRITE));
             },
         )
     }

@@ -9,6 +9,20 @@ use std::ffi::CStr;
 use std::fs;
 use std::process::{Command, Stdio};
 
+/// What a run of this program under callgrind counts.
+#[derive(Clone, Copy, PartialEq, Eq)]
+pub enum Run {
+    /// Calls, from before each to after it, by requests.
+    Calls,
+    /// What runs inside [`CHECK`], from its entry to its return, wherever it is
+    /// called. There are no instructions of counting among them.
+    Checks,
+}
+
+/// The proved guard's own check, a private function of the static library. Its
+/// symbol is local.
+pub const CHECK: &str = "checking::opening";
+
 /// A request's number and what goes with it.
 type Request = [usize; 6];
 
@@ -16,6 +30,7 @@ const RUNNING_ON_VALGRIND: usize = 0x1001;
 /// Callgrind's own requests count from here: its letters, `CT`.
 const CALLGRIND: usize = 0x4354_0000;
 
+const ZERO_STATS: usize = CALLGRIND + 1;
 static TOGGLE_COLLECT: Request = [CALLGRIND + 2, 0, 0, 0, 0, 0];
 const DUMP_STATS_AT: usize = CALLGRIND + 3;
 
@@ -43,11 +58,6 @@ fn ask(request: &Request) -> usize {
         );
     }
     answer
-}
-
-/// Whether this program runs under valgrind.
-pub fn is_running() -> bool {
-    ask(&[RUNNING_ON_VALGRIND, 0, 0, 0, 0, 0]) != 0
 }
 
 /// Starts counting, or stops it. The same instructions wherever it stands, so
@@ -78,33 +88,97 @@ pub fn count<T>(name: &CStr, call: impl FnOnce() -> T) -> T {
     toggle();
     let answer = call();
     toggle();
-    ask(&[DUMP_STATS_AT, name.as_ptr() as usize, 0, 0, 0, 0]);
+    dump(name);
     answer
 }
 
-/// Runs this program under callgrind. Answers the counts by their names, or
-/// what went wrong.
-pub fn run() -> Result<HashMap<String, u64>, String> {
-    let directory = Directory::new("instructions")
-        .map_err(|error| format!("no directory for callgrind's dumps: {error}"))?;
-    let dumps = directory.path().join("dumps");
-    let program = env::current_exe().map_err(|error| format!("this program: {error}"))?;
-    let status = Command::new("valgrind")
-        .args(["--quiet", "--tool=callgrind"])
-        .args(["--collect-atstart=no", "--combine-dumps=yes"])
-        .arg(format!("--callgrind-out-file={}", dumps.display()))
-        .arg(program)
-        .stdin(Stdio::null())
-        .status()
-        .map_err(|error| {
-            format!("valgrind can't be started ({error}): install the package `valgrind`")
-        })?;
-    if !status.success() {
-        return Err(format!("under valgrind: {status}"));
+/// Has those of the check inside a call written down by this name, in a run of
+/// [`Run::Checks`].
+pub fn count_check<T>(name: &CStr, call: impl FnOnce() -> T) -> T {
+    ask(&[ZERO_STATS, 0, 0, 0, 0, 0]);
+    let answer = call();
+    dump(name);
+    answer
+}
+
+fn dump(name: &CStr) {
+    ask(&[DUMP_STATS_AT, name.as_ptr() as usize, 0, 0, 0, 0]);
+}
+
+impl Run {
+    const ALL: [Run; 2] = [Run::Calls, Run::Checks];
+
+    /// The argument that tells this program under valgrind which run it is.
+    fn argument(self) -> &'static str {
+        match self {
+            Run::Calls => "calls",
+            Run::Checks => "checks",
+        }
     }
-    let dumps = fs::read_to_string(&dumps)
-        .map_err(|error| format!("callgrind's dumps can't be read: {error}"))?;
-    Ok(counts(&dumps))
+
+    /// The run that this program is, if it runs under valgrind.
+    pub fn current() -> Option<Run> {
+        if ask(&[RUNNING_ON_VALGRIND, 0, 0, 0, 0, 0]) == 0 {
+            return None;
+        }
+        let argument = env::args().nth(1);
+        let run = Run::ALL
+            .into_iter()
+            .find(|run| argument.as_deref() == Some(run.argument()));
+        Some(run.expect("under valgrind this program is started by itself"))
+    }
+
+    /// Runs this program under callgrind. Answers the counts by their names, or
+    /// what went wrong.
+    pub fn counts(self) -> Result<HashMap<String, u64>, String> {
+        let directory = Directory::new("instructions")
+            .map_err(|error| format!("no directory for callgrind's dumps: {error}"))?;
+        let dumps = directory.path().join("dumps");
+        let program = env::current_exe().map_err(|error| format!("this program: {error}"))?;
+        let mut valgrind = Command::new("valgrind");
+        valgrind
+            .args(["--quiet", "--tool=callgrind"])
+            .args(["--collect-atstart=no", "--combine-dumps=yes"])
+            .arg(format!("--callgrind-out-file={}", dumps.display()));
+        if self == Run::Checks {
+            valgrind.arg(format!("--toggle-collect={CHECK}"));
+        }
+        let status = valgrind
+            .arg(program)
+            .arg(self.argument())
+            .stdin(Stdio::null())
+            .status()
+            .map_err(|error| {
+                format!("valgrind can't be started ({error}): install the package `valgrind`")
+            })?;
+        if !status.success() {
+            return Err(format!("under valgrind: {status}"));
+        }
+        let dumps = fs::read_to_string(&dumps)
+            .map_err(|error| format!("callgrind's dumps can't be read: {error}"))?;
+        let counts = counts(&dumps);
+        match self {
+            Run::Calls => Ok(counts),
+            Run::Checks => all_counted(&dumps, counts),
+        }
+    }
+}
+
+/// The counts of the check, if there is one in each scene.
+fn all_counted(dumps: &str, counts: HashMap<String, u64>) -> Result<HashMap<String, u64>, String> {
+    let named = |line: &str| line.starts_with("fn=") && line.ends_with(CHECK);
+    if !dumps.lines().any(named) {
+        return Err(format!(
+            "the check can't be counted: callgrind finds no function `{CHECK}` in this program. \
+             The static library must have it as a function of its own, and its symbol kept"
+        ));
+    }
+    match counts.iter().find(|(_, count)| **count == 0) {
+        Some((name, _)) => Err(format!(
+            "no instruction of `{CHECK}` is counted in '{name}'"
+        )),
+        None => Ok(counts),
+    }
 }
 
 /// The counts in a file of callgrind's dumps.
@@ -123,4 +197,34 @@ fn counts(dumps: &str) -> HashMap<String, u64> {
         }
     }
     counts
+}
+
+#[cfg(test)]
+mod tests {
+    use super::*;
+
+    fn dump(scene: &str, function: &str, count: u64) -> String {
+        format!("{NAMED}{scene}\nfn=(1) {function}\n0 {count}\n{COUNTED}{count}\n")
+    }
+
+    #[test]
+    fn counts_by_their_names() {
+        let dumps = dump("one", CHECK, 78) + &dump("two", CHECK, 125);
+        let expected = HashMap::from([("one".to_string(), 78), ("two".to_string(), 125)]);
+        assert_eq!(counts(&dumps), expected);
+        assert_eq!(all_counted(&dumps, counts(&dumps)), Ok(expected));
+    }
+
+    #[test]
+    fn a_check_that_is_not_counted_is_told() {
+        let other = dump("one", "rotundaaloe_access", 40);
+        let told = all_counted(&other, counts(&other)).expect_err("no such function");
+        assert!(
+            told.contains("finds no function `checking::opening`"),
+            "{told}"
+        );
+        let nothing = dump("one", CHECK, 78) + &dump("two", CHECK, 0);
+        let told = all_counted(&nothing, counts(&nothing)).expect_err("nothing in a scene");
+        assert!(told.ends_with("is counted in 'two'"), "{told}");
+    }
 }

@@ -105,7 +105,7 @@ pub fn name(case: Case, literals: u16, products: u16, depth: u16) -> String {
     format!("check, {case}, {literals} literals, {products} products, depth {depth}")
 }
 
-/// A check of the operation write.
+/// A check of the operation write: of the proved guard, inside an access.
 pub fn scene(case: Case, literals: u16, products: u16, depth: u16) -> Scene {
     let opening = case.opening(products);
     let texts: Vec<String> = (0..products)

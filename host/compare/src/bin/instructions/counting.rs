@@ -2,7 +2,7 @@
 
 use crate::callgrind;
 use crate::scenes::{Counted, Scene, place};
-use compare::guard::{check, coded, coded_head};
+use compare::guard::coded;
 use compare::stage::Stage;
 use reference::guard::{Answer, Segment, Thread};
 use std::ffi::CString;
@@ -39,10 +39,8 @@ pub fn tried(scene: &Scene) {
                 stage.reference.known_segment(*segment).expect("a segment"),
                 *operation,
             );
-            [
-                stage.proved.check(place(*thread), *segment, *operation),
-                coded(reference),
-            ]
+            let proved = stage.proved.access(*thread, *segment, *operation);
+            [proved, coded(reference)]
         }
         Counted::Direct(record) | Counted::Entry(record) => {
             let before = stage.proved.cells().threads;
@@ -64,7 +62,8 @@ pub fn count_nothing() {
     callgrind::count(&name, || ());
 }
 
-/// Has a scene's instructions counted, on each guard.
+/// Has a scene's instructions counted, on each guard; of a check the
+/// reference's, since the proved guard's are those of [`count_check`].
 ///
 /// The reference's functions are called by pointers that the compiler can't see
 /// through, so that they aren't made for the arguments at hand. It can't see
@@ -79,17 +78,13 @@ pub fn count(scene: &Scene) {
             segment,
             operation,
         } => {
-            let cells = stage.proved.cells();
-            let rows = black_box(&cells.threads[place(*thread)]);
-            let products = black_box(&cells.locks[usize::from(*segment)]);
-            let operation = black_box(*operation);
-            let proved = callgrind::count(&proved_name, || check(rows, products, operation));
             let check: fn(&Thread, &Segment, u16) -> Answer = black_box(reference::guard::check);
             let thread = black_box(stage.reference.thread(*thread).expect("a live thread"));
             let segment = stage.reference.known_segment(*segment);
             let segment = black_box(segment.expect("a segment"));
+            let operation = black_box(*operation);
             let reference = callgrind::count(&reference_name, || check(thread, segment, operation));
-            [coded_head(proved), coded(reference)]
+            [u32::from(scene.expected), coded(reference)]
         }
         Counted::Direct(record) => {
             let [a, b, c] = black_box([record.a, record.b, record.c]);
@@ -131,4 +126,23 @@ pub fn count(scene: &Scene) {
         }
     };
     asserted(scene, answers);
+}
+
+/// Has the instructions of the proved guard's own check counted, inside the
+/// access of a check's scene. Of other scenes nothing is counted.
+pub fn count_check(scene: &Scene) {
+    let Counted::Check {
+        thread,
+        segment,
+        operation,
+    } = scene.counted
+    else {
+        return;
+    };
+    let name = CString::new(scene.name.as_str()).expect("a name without a 0");
+    let stage = Stage::after(&scene.before);
+    let proved = &stage.proved;
+    let access = || proved.access(thread, segment, operation);
+    let answer = callgrind::count_check(&name, access);
+    assert_eq!(answer, u32::from(scene.expected), "{}", scene.name);
 }

@@ -1,24 +1,23 @@
 //! The tables of the counts, and which limits they pass.
 
+use crate::callgrind::CHECK;
 use crate::checks::{self, Case, LITERALS, PRODUCTS};
 use crate::counting::{EMPTY, PROVED, REFERENCE, count_name};
+use crate::limits::LIMITS;
 use crate::scenes::{AWAY, HOME, PAIRS, Pair, call_name, the_twelve, twelve_name};
 use compare::points::{Panel, Point, Series};
 use compare::route::DEPTHS;
 use std::collections::{BTreeSet, HashMap};
 
-/// The most instructions of one C with one inherited key and two products of
-/// two literals, and document 000's.
-const CALL_LIMIT: u64 = 230;
+/// Document 000's instructions of one C with one inherited key and two products
+/// of two literals, and of one R.
 const CALL_000: u64 = 305;
-/// The most instructions of one R, and document 000's.
-const RETURN_LIMIT: u64 = 30;
 const RETURN_000: u64 = 40;
 
 /// The products of a check whose instructions are plotted.
 const PLOTTED_PRODUCTS: u16 = 2;
 
-/// A scene's counts, less those of counting itself.
+/// A scene's counts. Those of counting itself aren't among them.
 #[derive(Clone, Copy)]
 struct Counts {
     proved: u64,
@@ -35,6 +34,22 @@ impl Counts {
 fn document_000(m: u16, n: u16) -> f64 {
     let (m, n) = (f64::from(m), f64::from(n));
     (17.0 * m * m + 49.0 * m + 25.0) * n / 2.0 + 3.0
+}
+
+/// Whether the check of products of m literals is limited by document 000's.
+fn is_limited(m: u16) -> bool {
+    m >= 2
+}
+
+/// What stands behind a number past its limit.
+fn mark(kept: bool) -> &'static str {
+    if kept { "" } else { " !" }
+}
+
+/// A row of a ratio that must be below 1. The table of its points says where it
+/// isn't.
+fn print_ratio_limit(name: &str, ratio: f64) {
+    println!("| {name} | {ratio:.2}{} | below 1 |", mark(ratio < 1.0));
 }
 
 /// The cases among which each guard's dearest is sought.
@@ -70,14 +85,18 @@ fn listed(numbers: &BTreeSet<u64>) -> String {
 }
 
 pub struct Report {
-    counts: HashMap<String, u64>,
+    /// From a call to its return, by the guard and the scene.
+    calls: HashMap<String, u64>,
+    /// The proved guard's own check, by the scene.
+    checks: HashMap<String, u64>,
     missed: Vec<String>,
 }
 
 impl Report {
-    pub fn new(counts: HashMap<String, u64>) -> Report {
+    pub fn new(calls: HashMap<String, u64>, checks: HashMap<String, u64>) -> Report {
         Report {
-            counts,
+            calls,
+            checks,
             missed: Vec::new(),
         }
     }
@@ -106,6 +125,7 @@ impl Report {
 
     /// Prints every table. Answers how many limits are missed.
     pub fn print(mut self) -> usize {
+        self.print_limits();
         self.print_checks();
         self.print_calls();
         self.print_the_twelve();
@@ -123,11 +143,68 @@ impl Report {
         self.missed.len()
     }
 
+    /// A guard's count of a call, less that of nothing.
+    fn call(&self, guard: &str, scene: &str) -> u64 {
+        let count = |name: &str| *self.calls.get(name).expect(name);
+        count(&count_name(guard, scene)) - count(EMPTY)
+    }
+
+    /// Of a check the proved guard's count is that of its own function.
+    fn proved(&self, scene: &str) -> u64 {
+        match self.checks.get(scene) {
+            Some(count) => *count,
+            None => self.call(PROVED, scene),
+        }
+    }
+
     fn counts(&self, scene: &str) -> Counts {
-        let count = |name: &str| *self.counts.get(name).expect(name);
-        let [proved, reference] =
-            [PROVED, REFERENCE].map(|guard| count(&count_name(guard, scene)) - count(EMPTY));
-        Counts { proved, reference }
+        Counts {
+            proved: self.proved(scene),
+            reference: self.call(REFERENCE, scene),
+        }
+    }
+
+    /// The limits, each with what it is on.
+    fn print_limits(&mut self) {
+        println!("### Limits\n");
+        println!(
+            "C, A and R are by their own functions, C and R for the threads {}, each at its own \
+             place, which must take the same. A ratio is the greatest of its table below.\n",
+            threads_name(&HOME)
+        );
+        println!("| Counted | Proved | Limit |");
+        println!("|---|---:|---:|");
+        for (limited, most) in LIMITS {
+            let scenes = limited.scenes();
+            let proved: BTreeSet<u64> = scenes.iter().map(|scene| self.proved(scene)).collect();
+            let kept = proved.len() == 1 && proved.iter().all(|count| *count <= most);
+            let (name, proved) = (limited.name(), listed(&proved));
+            println!("| {name} | {proved}{} | {most} |", mark(kept));
+            if !kept {
+                let missed = format!("{name}: {proved}, the limit is {most}.");
+                self.missed.push(missed);
+            }
+        }
+        let limited = self.greatest(|report, m, n| {
+            let counted = report.check(Case::FirstFails, m, n, 1).proved as f64;
+            is_limited(m).then(|| counted / document_000(m, n))
+        });
+        let name = "the check / document 000, plain keys, m of 2 and more, depth 1";
+        print_ratio_limit(name, limited);
+        for depth in DEPTHS {
+            let greatest = self.greatest(|report, m, n| Some(report.worst(m, n, depth).ratio()));
+            let name = format!(
+                "the check / the reference's, each in its own dearest scene, depth {depth}"
+            );
+            print_ratio_limit(&name, greatest);
+        }
+    }
+
+    /// The greatest of a table's ratios.
+    fn greatest(&self, ratio: impl Fn(&Report, u16, u16) -> Option<f64>) -> f64 {
+        let points = LITERALS.flat_map(|m| PRODUCTS.map(move |n| (m, n)));
+        let ratios = points.filter_map(|(m, n)| ratio(self, m, n));
+        ratios.fold(0.0, f64::max)
     }
 
     /// A table of m and n. `cell` writes a place of it, and says whether the
@@ -145,7 +222,7 @@ impl Report {
                     if !kept {
                         missed.push(format!("m {m}, n {n}"));
                     }
-                    text + if kept { "" } else { " !" }
+                    text + mark(kept)
                 })
                 .collect();
             println!("| {m} | {} |", row.join(" | "));
@@ -160,13 +237,18 @@ impl Report {
     }
 
     fn print_checks(&mut self) {
-        println!("### The check");
+        println!("\n### The check\n");
+        println!(
+            "Counted of the proved guard is what it runs inside an A: `{CHECK}`, from its entry to \
+             its return, while `rotundaaloe_access` is called. Of the reference it is `check`, \
+             from the call to its return, with the call's own instructions."
+        );
         for case in [Case::FirstFails, Case::Barred] {
             let limited = case == Case::FirstFails;
             let limit = if limited {
                 ", below 1 for every m of 2 and more"
             } else {
-                ", without a limit"
+                "; the ratio has no limit"
             };
             let name = case.name();
             let title = format!("Depth 1, {name}. Proved / document 000 = ratio{limit}.");
@@ -174,7 +256,7 @@ impl Report {
                 let proved = report.check(case, m, n, 1).proved as f64;
                 let theirs = document_000(m, n);
                 let text = format!("{proved} / {theirs} = {:.2}", proved / theirs);
-                (text, !limited || m < 2 || proved < theirs)
+                (text, !limited || !is_limited(m) || proved < theirs)
             });
         }
         for depth in DEPTHS {
@@ -223,20 +305,18 @@ impl Report {
         }
     }
 
-    fn print_calls(&mut self) {
+    fn print_calls(&self) {
         println!("\n### C and R\n");
-        println!(
-            "| Call | Products | Thread | Proved | Limit | Document 000 | Reference | Ratio |"
-        );
-        println!("|---|---|---|---:|---:|---:|---:|---:|");
+        println!("| Call | Products | Thread | Proved | Document 000 | Reference | Ratio |");
+        println!("|---|---|---|---:|---:|---:|---:|");
         for pair in PAIRS {
-            self.print_call(b'C', pair, CALL_LIMIT, CALL_000);
+            self.print_call(b'C', pair, CALL_000);
         }
-        self.print_call(b'R', PAIRS[0], RETURN_LIMIT, RETURN_000);
+        self.print_call(b'R', PAIRS[0], RETURN_000);
     }
 
     /// The rows of C or R, by its own function and by the entry.
-    fn print_call(&mut self, letter: u8, pair: Pair, limit: u64, theirs: u64) {
+    fn print_call(&self, letter: u8, pair: Pair, theirs: u64) {
         let products = pair.texts.map(|text| format!("`{text}`")).join(", ");
         let name = char::from(letter);
         for entry in [false, true] {
@@ -256,22 +336,14 @@ impl Report {
                     .iter()
                     .map(|counts| counts.ratio())
                     .fold(0.0, f64::max);
-                let limited = !entry && threads != [AWAY];
-                let kept = !limited || (proved.len() == 1 && proved.iter().all(|n| *n <= limit));
-                if !kept {
-                    let proved = listed(&proved);
-                    self.missed
-                        .push(format!("{call}, {products}: {proved}, limit {limit}."));
-                }
-                let [limit, theirs] = match limited {
-                    true => [limit, theirs].map(|number| number.to_string()),
-                    false => Default::default(),
+                let theirs = match entry || threads == [AWAY] {
+                    true => String::new(),
+                    false => theirs.to_string(),
                 };
                 println!(
-                    "| {call} | {products} | {} | {}{} | {limit} | {theirs} | {} | {ratio:.2} |",
+                    "| {call} | {products} | {} | {} | {theirs} | {} | {ratio:.2} |",
                     threads_name(threads),
                     listed(&proved),
-                    if kept { "" } else { " !" },
                     listed(&reference),
                 );
             }
@@ -285,7 +357,7 @@ impl Report {
         for (record, _) in the_twelve() {
             for entry in [true, false] {
                 let name = twelve_name(record.letter, entry);
-                if !self.counts.contains_key(&count_name(PROVED, &name)) {
+                if !self.calls.contains_key(&count_name(PROVED, &name)) {
                     continue;
                 }
                 let counts = self.counts(&name);

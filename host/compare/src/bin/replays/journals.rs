@@ -1,6 +1,6 @@
 //! The journals that are replayed, each of the most bytes that a file has.
 
-use compare::texts::lines;
+use compare::texts::texts;
 use reference::calls::{Caller, WORLDS, call, lock};
 use reference::guard::{Answer, Guard};
 use reference::journal::{
@@ -131,9 +131,9 @@ fn long_texts() -> Journal {
     for record in opening {
         draft.push(record).expect("the opening is accepted");
     }
-    let locks = lines()
+    let locks = texts()
         .into_iter()
-        .map(|line| lock(0, 0, 1, line.text.as_bytes()));
+        .map(|text| lock(0, 0, 1, text.as_bytes()));
     let locks: Vec<Record> = locks
         .filter(|lock| lock.text.len() > 90 && draft.takes(lock))
         .collect();
