@@ -3,7 +3,7 @@ mod bytes;
 
 ghost use Prim.Native.Nat.{_+_, _≤_};
 ghost use lib.ListN.{length};
-ghost use Rattle.lines.specs.Lines.{outcome as told, line as lineOf, fileLine, mostLine, mostFileLine, Written};
+ghost use Rattle.lines.specs.Lines.{outcome as outcomeBytes, line as lineOf, fileLine, mostLine, mostFileLine, Written};
 ghost use Rattle.lines.specs.Steps.{Put, mostOutcome};
 use bytes::decimal;
 use bytes::put;
@@ -52,7 +52,7 @@ pub fn file_line(buffer: &mut [u8], at: usize, refusal: journal::file::Refusal) 
 // `ok` and the answer, or `no` and the refusal's two numbers.
 fn outcome(buffer: &mut [u8], at: usize, answer: Answer) -> usize
     requires { ⌜ at + mostOutcome ≤ length (now buffer) ⌝ }
-    ensures { λ r. ⌜ Put (now (buffer .entry)) at (told answer) (now (buffer .exit)) r × (r ≤ at + mostOutcome) ⌝ }
+    ensures { λ r. ⌜ Put (now (buffer .entry)) at (outcomeBytes answer) (now (buffer .exit)) r × (r ≤ at + mostOutcome) ⌝ }
 {
     match answer {
         Answer::Accepted(n) => {

@@ -99,12 +99,12 @@ late-wide malformed over e = cc
 late-wide tooWide over e = refl
 late-wide unsatisfiable over e = cc
 
-late-void : (x : Outcome) (over : Bool) → late x over ≡ some Unsatisfiable → x ≡ unsatisfiable
-late-void (accepted ps) true e = cc
-late-void (accepted ps) false e = cc
-late-void malformed over e = cc
-late-void tooWide over e = cc
-late-void unsatisfiable over e = refl
+late-unsatisfiable : (x : Outcome) (over : Bool) → late x over ≡ some Unsatisfiable → x ≡ unsatisfiable
+late-unsatisfiable (accepted ps) true e = cc
+late-unsatisfiable (accepted ps) false e = cc
+late-unsatisfiable malformed over e = cc
+late-unsatisfiable tooWide over e = cc
+late-unsatisfiable unsatisfiable over e = refl
 
 late-full : (x : Outcome) (over : Bool) → late x over ≡ some Full → (ps : Sum) × (x ≡ accepted ps) × (over ≡ true)
 late-full (accepted ps) true e = (ps, refl, refl)
@@ -266,16 +266,16 @@ module _ (es : List Event) (d : Cells) (m : Mirrors es (stateOf d)) (k : Stores 
 
   -- ---- the whole
 
-  void-as : (stepCells outcomeOf d next .answer ≡ Refused Unsatisfiable) ↔ (Allowed es a b c × Never (issuedBy es) text)
-  void-as = by-verdict Unsatisfiable unsatisfiable refl late-void (λ t. refl) (unsatisfiable-exactly (issuedBy es) text)
+  unsatisfiable-as : (stepCells outcomeOf d next .answer ≡ Refused Unsatisfiable) ↔ (Allowed es a b c × Never (issuedBy es) text)
+  unsatisfiable-as = by-verdict Unsatisfiable unsatisfiable refl late-unsatisfiable (λ t. refl) (unsatisfiable-exactly (issuedBy es) text)
 
-  void-words : Allowed es a b c → (t : Tree ors) → Text (issuedBy es) text t → fits false t ≡ true
+  unsatisfiable-words : Allowed es a b c → (t : Tree ors) → Text (issuedBy es) text t → fits false t ≡ true
       → (stepCells outcomeOf d next .answer ≡ Refused Unsatisfiable) ↔ ((keys : KeySet) → holds keys t ≡ false)
-  void-words w t h f = (
+  unsatisfiable-words w t h f = (
     λ q keys.
-        let never = void-as .0 q .1 in
+        let never = unsatisfiable-as .0 q .1 in
         ap (λ (u : Tree ors). holds keys u) (unambiguous (issuedBy es) text t (never .tree) h (never .text)) ∙ never .never keys,
-    λ q. void-as .1 (w, record { tree = t; text = h; fit = f; never = q }),
+    λ q. unsatisfiable-as .1 (w, record { tree = t; text = h; fit = f; never = q }),
   )
 
   judged-as : TextJudged es a b c text (stepCells outcomeOf d next .answer)
@@ -283,8 +283,8 @@ module _ (es : List Event) (d : Cells) (m : Mirrors es (stateOf d)) (k : Stores 
       record {
         malformed = by-verdict Malformed malformed refl late-malformed (λ t. refl) (malformed-exactly (issuedBy es) text);
         tooWide = by-verdict TooWide tooWide refl late-wide (λ t. refl) (too-wide-exactly (issuedBy es) text);
-        unsatisfiable = void-as;
-        voidExactly = void-words;
+        unsatisfiable = unsatisfiable-as;
+        unsatisfiableExactly = unsatisfiable-words;
         full = full-as;
         made = made-as;
       }

@@ -59,7 +59,7 @@ pub record TextJudged (es : List Event) (a b c : ℕ) (text : List ℕ) (r : Ans
   -- 13: it is in the grammar, every node fits, and no key set makes the formula true
   pub unsatisfiable : (r ≡ Refused Unsatisfiable) ↔ (Allowed es a b c × Never (issuedBy es) text)
   -- the same in demand 2's words
-  pub voidExactly : Allowed es a b c → (t : Tree ors) → Text (issuedBy es) text t → fits false t ≡ true
+  pub unsatisfiableExactly : Allowed es a b c → (t : Tree ors) → Text (issuedBy es) text t → fits false t ≡ true
       → (r ≡ Refused Unsatisfiable) ↔ ((keys : KeySet) → holds keys t ≡ false)
   -- 10 last, and accepted is all the rest
   pub full : (r ≡ Refused Full) ↔ (Allowed es a b c × (f : Satisfiable (issuedBy es) text) × (Room es b (length (products false (f .tree))) → ⊥))

@@ -19,7 +19,7 @@ use Rattle.model.specs.Cells.{Table, Cells, tableAt, stateOf}
 use Rattle.model.specs.Serving.{Serves}
 use Rattle.model.proofs.Serving.{segmentsIn, segment-at, is-segment, serves-refused}
 use Rattle.threads.specs.Steps.{Placed}
-use Rattle.threads.proofs.Finding.{Standing, stands, stands-nowhere}
+use Rattle.threads.proofs.Finding.{Standing, stands, not-live}
 use Rattle.checking.specs.declared.Checked.{Checked}
 use Rattle.checking.specs.Deciding.{firstOpening, checkOf, answerOf}
 use Rattle.route.proofs.Gates.{gates, checked, no-thread, no-segment, unfit, as-refused, as-accepted}
@@ -38,7 +38,7 @@ module _ (d : Cells) (q : Request) (text : List ℕ) (a b n i : ℕ) (fit : Bool
   refuses e = serves-refused d q text (ap firstRefusal same ∙ e)
 
   pub thread-missing : mostThreads ≤ i → Serves d q text (Refused NoThread) d
-  thread-missing h = refuses (no-thread (stateOf d) a b n fit rest (stands-nowhere d a i (placed .count) (placed .place) h))
+  thread-missing h = refuses (no-thread (stateOf d) a b n fit rest (not-live d a i (placed .count) (placed .place) h))
 
   module _ (here : i < mostThreads) where
     standing : Standing d a i

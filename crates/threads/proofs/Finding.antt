@@ -76,7 +76,3 @@ module _ (d : Cells) (n i : ℕ) (size : length (d .threads) ≡ mostThreads) (i
   pub not-live : mostThreads ≤ i → isLive (stateOf d) n ≡ false
   unfolding stateOf
   not-live high = ap (λ (x : Place). isSome (threadIn x)) (place-past n (isThread n) places sized (omega arith))
-
-  -- the name under which `route` uses it
-  pub stands-nowhere : mostThreads ≤ i → isLive (stateOf d) n ≡ false
-  stands-nowhere = not-live

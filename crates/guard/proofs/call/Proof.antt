@@ -10,8 +10,8 @@ returns c = not-well-formed _ _ (sym (c .before .before .decode .ensures) ∙ c 
 
 returns-2 : tie.Need-returns-2
 returns-2 c =
-    let told = c .before .before .before .before .before .before .before in
-    as-call _ _ _ _ _ (sym (told .before .before .decode .ensures) ∙ told .request .given .1) (c .serve .ensures)
+    let matched = c .before .before .before .before .before .before .before in
+    as-call _ _ _ _ _ (sym (matched .before .before .decode .ensures) ∙ matched .request .given .1) (c .serve .ensures)
 
 pub call-spec : {M : Type 1} → statement M
 call-spec =

@@ -18,16 +18,16 @@ decimal-requires-2 : tie.Need-decimal-requires-2
 decimal-requires-2 c κs =
     let first = c .before .before .before in
     let reason = first .before .before .before .before in
-    let told = reason .before .before .answer2 in
-    omega (arith, refusal-digits (told .given .0 .0) (reason .number .ensures), first .put2 .ensures .ends)
+    let matched = reason .before .before .answer2 in
+    omega (arith, refusal-digits (matched .given .0 .0) (reason .number .ensures), first .put2 .ensures .ends)
 
 put-requires-3 : tie.Need-put-requires-3
 put-requires-3 c κs =
     let second = c .before .before .before .before in
     let first = second .before .before .before .before in
     let reason = first .before .before .before .before in
-    let told = reason .before .before .answer2 in
-    omega (arith, refusal-digits (told .given .0 .0) (reason .number .ensures), first .put2 .ensures .ends, second .decimal2 .ensures .ends)
+    let matched = reason .before .before .answer2 in
+    omega (arith, refusal-digits (matched .given .0 .0) (reason .number .ensures), first .put2 .ensures .ends, second .decimal2 .ensures .ends)
 
 decimal-requires-3 : tie.Need-decimal-requires-3
 decimal-requires-3 c κs =
@@ -36,12 +36,12 @@ decimal-requires-3 c κs =
     let first = second .before .before .before .before in
     let lock = first .before .before .before in
     let reason = lock .before in
-    let told = reason .before .before .answer2 in
+    let matched = reason .before .before .answer2 in
     let n = lock .second .result in
     let word : n < 65536 = omega arith in
     omega (
       arith,
-      refusal-digits (told .given .0 .0) (reason .number .ensures),
+      refusal-digits (matched .given .0 .0) (reason .number .ensures),
       five-digits n word,
       first .put2 .ensures .ends,
       second .decimal2 .ensures .ends,
@@ -52,10 +52,10 @@ returns : tie.Need-returns
 returns c =
     let second = c .before .before in
     let first = second .before .before .before .before in
-    let told = first .before .before .before .before .answer in
-    let word : told .given .0 .0 < 65536 = omega arith in (
-      accepted-put (told .given .1) (first .put .ensures) (second .decimal .ensures),
-      omega (arith, five-digits (told .given .0 .0) word, first .put .ensures .ends, second .decimal .ensures .ends),
+    let matched = first .before .before .before .before .answer in
+    let word : matched .given .0 .0 < 65536 = omega arith in (
+      accepted-put (matched .given .1) (first .put .ensures) (second .decimal .ensures),
+      omega (arith, five-digits (matched .given .0 .0) word, first .put .ensures .ends, second .decimal .ensures .ends),
     )
 
 returns-2 : tie.Need-returns-2
@@ -66,13 +66,13 @@ returns-2 c =
     let first = second .before .before .before .before in
     let lock = first .before .before .before in
     let reason = lock .before in
-    let told = reason .before .before .answer2 in
+    let matched = reason .before .before .answer2 in
     let n = lock .second .result in
     let word : n < 65536 = omega arith in (
-      refused-put (told .given .1) (reason .number .ensures) (lock .second .ensures) (first .put2 .ensures) (second .decimal2 .ensures) (third .put3 .ensures) (fourth .decimal3 .ensures),
+      refused-put (matched .given .1) (reason .number .ensures) (lock .second .ensures) (first .put2 .ensures) (second .decimal2 .ensures) (third .put3 .ensures) (fourth .decimal3 .ensures),
       omega (
         arith,
-        refusal-digits (told .given .0 .0) (reason .number .ensures),
+        refusal-digits (matched .given .0 .0) (reason .number .ensures),
         five-digits n word,
         first .put2 .ensures .ends,
         second .decimal2 .ensures .ends,
