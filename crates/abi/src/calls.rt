@@ -3,7 +3,8 @@ ghost use mathlib.Core.Path.{_≡_};
 ghost use Rattle.formula.specs.Outcome.{outcomeOf};
 ghost use Rattle.call.specs.declared.request.Request.the-variants.{CallSegment, ReturnCall, Access};
 ghost use Rattle.call.specs.Calls.{callWith};
-ghost use Rattle.model.specs.Cells.{cellsWith, registryIs, segmentsAre, locksAre, threadsAre, unchanged, _and_, emptyCells, stepCells};
+ghost use Rattle.model.specs.Cells.{cellsWith, registryIs, segmentsAre, locksAre, threadsAre, unchanged, _and_};
+ghost use Rattle.model.specs.Cells.{emptyCells, stepCells};
 ghost use Rattle.abi.specs.Calls.{answerCode, Tells, TellsLent};
 use guard::call;
 use model::answer::Answer;
@@ -38,7 +39,8 @@ pub extern "C" fn rotundaaloe_empty(
     *threads = [[[0; 8]; 17]; 64];
 }
 
-// One call: the answer if it is accepted, else the refusal's number * 65536 + its second number, and then no cell is changed.
+// One call: the answer if it is accepted, else the refusal's number * 65536 + its second number, and then no cell is
+// changed.
 #[no_mangle]
 pub extern "C" fn rotundaaloe_call(
     registry: &mut Registry,

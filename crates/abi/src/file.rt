@@ -16,7 +16,8 @@ use journal::file::refusal_number;
 use journal::reader::read;
 use journal::record::Found;
 
-// Checks the whole file: 0, and the cursor is the first record's; or the number of its first refusal, and then the cursor is not changed.
+// Checks the whole file: 0, and the cursor is the first record's; or the number of its first refusal, and then the
+// cursor is not changed.
 #[no_mangle]
 pub extern "C" fn rotundaaloe_journal_open(file: &[u8], cursor: &mut usize) -> u32
     ensures number { λ r. ⌜ r ≡ openNumber (now (file .entry)) ⌝ }
@@ -31,8 +32,9 @@ pub extern "C" fn rotundaaloe_journal_open(file: &[u8], cursor: &mut usize) -> u
     }
 }
 
-// 1 where a record stands at the cursor: its letter, a, b, c, where its text starts and where it ends are then the lent values, and the cursor is
-// after it. 0 at the end and 18 where neither stands there, and then neither the cursor nor a cell is changed.
+// 1 where a record stands at the cursor: its letter, a, b, c, where its text starts and where it ends are then the
+// lent values, and the cursor is after it. 0 at the end and 18 where neither stands there, and then neither the
+// cursor nor a cell is changed.
 #[no_mangle]
 pub extern "C" fn rotundaaloe_journal_next(
     file: &[u8],
@@ -76,8 +78,8 @@ pub extern "C" fn rotundaaloe_journal_empty(buffer: &mut [u8]) -> u32
     }
 }
 
-// 0 and the record appended to the file in the buffer's first `size` bytes, with the file's new size; or the number of the refusal, and then neither a
-// byte nor the size is changed.
+// 0 and the record appended to the file in the buffer's first `size` bytes, with the file's new size; or the number
+// of the refusal, and then neither a byte nor the size is changed.
 #[no_mangle]
 pub extern "C" fn rotundaaloe_journal_append(
     buffer: &mut [u8],

@@ -1,4 +1,5 @@
-// Formula texts (document 01: lock texts) for C: the answer is a number, and the products go into rows that the caller lends.
+// Formula texts (document 01: lock texts) for C: the answer is a number, and the products go into rows that the
+// caller lends.
 ghost use mathlib.Core.Path.{_≡_};
 ghost use mathlib.Core.Bool.{cond};
 ghost use Rattle.formula.specs.Outcome.{outcomeOf};
@@ -13,7 +14,8 @@ use product::sum::Rows;
 // The refusal number of an accepted text.
 const NO_REFUSAL: u32 = 0;
 
-// The number of products, 1 to 8, with their cells in the rows; or the number of a refusal, and then no cell is changed.
+// The number of products, 1 to 8, with their cells in the rows; or the number of a refusal, and then no cell is
+// changed.
 #[no_mangle]
 pub extern "C" fn rotundaaloe_compile(
     text: &[u8],

@@ -7,7 +7,8 @@ use crate::request::decode;
 // The most bytes of a lock's text.
 const MOST_TEXT: usize = 96;
 
-// Whether the letter is known, the fields that it does not name are 0, and the text's length is right: 1 to 96 bytes with L, else 0.
+// Whether the letter is known, the fields that it does not name are 0, and the text's length is right: 1 to 96 bytes
+// with L, else 0.
 pub fn fits(letter: u8, a: u16, b: u16, c: u16, size: usize) -> bool
     ensures { λ r. ⌜ r ≡ recordFits letter a b c size ⌝ }
 {

@@ -3,7 +3,8 @@ ghost use mathlib.Core.Path.{_≡_};
 ghost use Rattle.call.specs.Calls.{unnamedZero, decodedOf};
 ghost use Rattle.call.specs.Steps.{lineOf};
 
-// A well formed call, with the fields that its letter names; beside each stands its letter and document 01's word. The text of a lock is not in it.
+// A well formed call, with the fields that its letter names; beside each stands its letter and document 01's word.
+// The text of a lock is not in it.
 pub enum Request {
     // U, new user
     NewUser,
@@ -37,7 +38,8 @@ pub enum Decoded {
     Corrupt,
 }
 
-// The request of a call whose text has `size` bytes. The answer's number is `decodedNumber`, and its values are `decodedValues`.
+// The request of a call whose text has `size` bytes. The answer's number is `decodedNumber`, and its values are
+// `decodedValues`.
 pub fn decode(letter: u8, a: u16, b: u16, c: u16, size: usize) -> Decoded
     ensures { λ r. ⌜ r ≡ decodedOf letter a b c size ⌝ }
 {

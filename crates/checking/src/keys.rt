@@ -1,4 +1,4 @@
-// The literal of a cell, and whether a thread's key set agrees with it.
+// The literal (document 01: signed key) of a cell, and whether the key set of a thread (run) agrees with it.
 ghost use mathlib.Core.Path.{_≡_};
 ghost use mathlib.Core.Bool.{true};
 ghost use Prim.Native.Nat.{_≤_};
@@ -20,7 +20,7 @@ use product::literal::Literal;
 
 const MOST_FRAMES: usize = 16;
 
-// A number of frames, read as no more than there can be.
+// A number of frames (document 01: open calls), read as no more than there can be.
 pub(crate) fn clamp(frames: u16) -> usize
     ensures { λ r. ⌜ Clamped frames r ⌝ }
 {
@@ -64,8 +64,9 @@ pub(crate) fn literal_in(x: u32) -> Literal
     }
 }
 
-// Whether the key set of the thread, with that many frames, agrees with the literal: a plain key is in it, a barred one is not. Its U and R keys are
-// the user's and the thread's own, its S and D keys those that the frames hand over, asked for by their code in a key list.
+// Whether the key set of the thread, with that many frames, agrees with the literal: a plain key is in it, a barred
+// one is not. Its U and R keys are the user's and the thread's own, its S and D keys those that the frames hand over,
+// asked for by their code in a key list.
 pub(crate) fn agrees(thread: &Thread, depth: usize, literal: Literal) -> bool
     requires { ⌜ (depth ≤ 16) × (listable (atomOf literal) ≡ true) ⌝ }
     ensures { λ r. ⌜ r ≡ agrees (keysAt (now (thread .entry)) depth) literal ⌝ }
@@ -100,7 +101,7 @@ pub(crate) fn agrees(thread: &Thread, depth: usize, literal: Literal) -> bool
     }
 }
 
-// Whether one of the frames hands the key over, the newest asked first.
+// Whether one of the frames handed the key over (the thread inherits it), the newest asked first.
 fn inherits(thread: &Thread, depth: usize, code: u16) -> bool
     requires { ⌜ depth ≤ 16 ⌝ }
     ensures { λ r. ⌜ r ≡ inherited (now (thread .entry)) depth code ⌝ }

@@ -30,7 +30,8 @@ pub enum Checked {
     NotGranted,
 }
 
-// The check of an operation of the thread in those rows, by the locks whose products are in those. No lock stands for an operation that isn't 1, 2 or 4.
+// The check of an operation of the thread in those rows, by the locks whose products are in those. No lock stands for
+// an operation that isn't 1, 2 or 4.
 pub fn check(thread: &Thread, products: &Products, operation: u32) -> Checked
     ensures { λ r. ⌜ r ≡ checkOf (now (thread .entry)) (now (products .entry)) operation ⌝ }
 {

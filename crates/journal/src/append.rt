@@ -19,7 +19,8 @@ use crate::file::check;
 use crate::record::RECORD_HEAD;
 use call::record::fits;
 
-// The file's new length, or why nothing was written. The answer's number is `appendedNumber`, and its values are `appendedValues`.
+// The file's new length, or why nothing was written. The answer's number is `appendedNumber`, and its values are
+// `appendedValues`.
 pub enum Appended {
     Length(usize),
     Declined(Refusal),

@@ -1,5 +1,5 @@
-// A record reader: a file and a cursor in it. Its functions are thin: `check` and `record_at` do the work. Its fields are private, so that no reader
-// stands at a record of a file that was not checked.
+// A record reader: a file and a cursor in it. Its functions are thin: `check` and `record_at` do the work. Its fields
+// are private, so that no reader stands at a record of a file that was not checked.
 ghost use mathlib.Core.Path.{_≡_};
 ghost use lib.ListN.{length};
 ghost use Rattle.journal.specs.Reading.{verdictOf, foundAt, cursorOpened, cursorAfter};
@@ -22,8 +22,8 @@ pub fn new<'a>(src: &'a [u8]) -> Reader<'a>
     Reader { src, at }
 }
 
-// Checks the whole file. Where it is readable, the reader then stands at its first record; of a refused one the cursor stays.
-// Numbered by `verdictNumber`.
+// Checks the whole file. Where it is readable, the reader then stands at its first record; of a refused one the
+// cursor stays. Numbered by `verdictNumber`.
 pub fn open<'s, 'a>(r: &'s mut Reader<'a>) -> Verdict
     ensures { λ v. ⌜ (v ≡ verdictOf (now (now (r .entry) .src)))
         × (now (r .exit) .src ≡ now (r .entry) .src)
@@ -47,8 +47,8 @@ pub fn next<'s, 'a>(r: &'s mut Reader<'a>) -> Found
     found
 }
 
-// What a reader that stands at a cursor of a file answers. The parameters are plain, so that a caller's proof needs no reader; it is for cursors that an
-// opening or a record gave.
+// What a reader that stands at a cursor of a file answers. The parameters are plain, so that a caller's proof needs
+// no reader; it is for cursors that an opening or a record gave.
 pub fn read(file: &[u8], at: usize) -> Found
     ensures { λ f. ⌜ f ≡ foundAt (now (file .entry)) at ⌝ }
 {

@@ -15,8 +15,8 @@ pub struct Entry {
     pub next: usize,
 }
 
-// What stands at a cursor. Damaged, document 01's 18: no whole record, and not the end either. Its number is `foundNumber`, and its values are
-// `foundValues`.
+// What stands at a cursor. Damaged, document 01's 18: no whole record, and not the end either. Its number is
+// `foundNumber`, and its values are `foundValues`.
 pub enum Found {
     Record(Entry),
     End,

@@ -16,14 +16,14 @@ use Rattle.journal.specs.Verdicts.{refusalNumber as fileRefusal}
 use Rattle.journal.specs.Reading.{verdictOf, recordsOf}
 use Rattle.model.specs.declared.answer.Answer.{Answer}
 use Rattle.model.specs.declared.answer.Answer.the-variants.{Accepted, Refused}
-use Rattle.model.specs.Answers.{refusalNumber, secondNumber}
+use Rattle.model.specs.Answers.{answerNumber, answerValue}
 use Rattle.model.specs.History.{Event}
 use Rattle.model.specs.Replay.{events}
 
 -- '`ok` and the answer, or `no`, refusal and its second number'
 abbrev pub outcome : Answer → List ℕ
-outcome (Accepted n) = bytes "ok " ++ decimal n
-outcome (Refused r) = bytes "no " ++ decimal (refusalNumber r) ++ bytes " " ++ decimal (secondNumber r)
+outcome (Accepted n) = bytes "ok " ++ decimal (answerValue (Accepted n))
+outcome (Refused r) = bytes "no " ++ decimal (answerNumber (Refused r)) ++ bytes " " ++ decimal (answerValue (Refused r))
 
 -- 'its place from 0, letter', and that; 32 is a blank and 10 a line feed
 unfoldable pub line : ℕ → ℕ → Answer → List ℕ

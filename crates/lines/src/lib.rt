@@ -1,9 +1,11 @@
-// The lines that the office program prints (document 01: 'Office program'), byte by byte, in a buffer that the caller lends.
+// The lines that the office program prints (document 01: 'Office program'), byte by byte, in a buffer that the caller
+// lends.
 mod bytes;
 
 ghost use Prim.Native.Nat.{_+_, _≤_};
 ghost use lib.ListN.{length};
-ghost use Rattle.lines.specs.Lines.{outcome as outcomeBytes, line as lineOf, fileLine, mostLine, mostFileLine, Written};
+ghost use Rattle.lines.specs.Lines.{outcome as outcomeBytes, line as lineOf, fileLine};
+ghost use Rattle.lines.specs.Lines.{mostLine, mostFileLine, Written};
 ghost use Rattle.lines.specs.Steps.{Put, mostOutcome};
 use bytes::decimal;
 use bytes::put;
@@ -17,8 +19,8 @@ const MOST_LINE: usize = 20;
 
 const MOST_FILE_LINE: usize = 11;
 
-// Writes the line of the record at that place from `at` on, and answers the place after it. Where fewer than MOST_LINE bytes are left it writes
-// nothing, and the answer is `at`.
+// Writes the line of the record at that place from `at` on, and answers the place after it. Where fewer than
+// MOST_LINE bytes are left it writes nothing, and the answer is `at`.
 pub fn line(buffer: &mut [u8], at: usize, place: u16, letter: u8, answer: Answer) -> usize
     ensures { λ r. ⌜ Written mostLine (now (buffer .entry)) at (lineOf place letter answer) (now (buffer .exit)) r ⌝ }
 {
@@ -52,7 +54,8 @@ pub fn file_line(buffer: &mut [u8], at: usize, refusal: journal::file::Refusal) 
 // `ok` and the answer, or `no` and the refusal's two numbers.
 fn outcome(buffer: &mut [u8], at: usize, answer: Answer) -> usize
     requires { ⌜ at + mostOutcome ≤ length (now buffer) ⌝ }
-    ensures { λ r. ⌜ Put (now (buffer .entry)) at (outcomeBytes answer) (now (buffer .exit)) r × (r ≤ at + mostOutcome) ⌝ }
+    ensures { λ r. ⌜ Put (now (buffer .entry)) at (outcomeBytes answer) (now (buffer .exit)) r
+        × (r ≤ at + mostOutcome) ⌝ }
 {
     match answer {
         Answer::Accepted(n) => {

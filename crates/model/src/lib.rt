@@ -1,5 +1,5 @@
-// Document 01 as definitions and theorems (specs/). The code is no more than what they name: refusals and answers with their numbers, operations,
-// and the types of the arrays.
+// Document 01 as definitions and theorems (specs/). The code is no more than what they name: refusals and answers
+// with their numbers, operations, and the types of the arrays.
 pub mod answer;
 pub mod arrays;
 pub mod operations;

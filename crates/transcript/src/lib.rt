@@ -1,5 +1,5 @@
-// All that the office program prints for a file (document 01: 'Office program'): the file's records, answered one after the other from the empty
-// arrays on, a line each; or the file's refusal.
+// All that the office program prints for a file (document 01: 'Office program'): the file's records, answered one
+// after the other from the empty arrays on, a line each; or the file's refusal.
 ghost use Prim.Native.Nat.{_+_, _≤_};
 ghost use mathlib.Core.Path.{_≡_};
 ghost use mathlib.Core.Bool.{true};
