@@ -13,3 +13,7 @@ and-right false y h = cc
 pub neither : (x y : Bool) → x || y ≡ false → (x ≡ false) × (y ≡ false)
 neither true y h = (h, cc)
 neither false y h = (refl, h)
+
+pub or-right : (x y : Bool) → y ≡ true → x || y ≡ true
+or-right true y h = refl
+or-right false y h = h

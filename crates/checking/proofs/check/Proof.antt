@@ -1,11 +1,12 @@
 -- Of an operation the answer is that by the row that decides; of any other number none opens. Assumes nothing.
-use mathlib.Core.Path.{_≡_, refl, sym, ap, _∙_}
-use mathlib.Core.Bool.{Bool, true, false, _||_}
+use mathlib.Core.Path.{_≡_, sym, ap, _∙_}
+use mathlib.Core.Bool.{Bool, true, false}
 use mathlib.Core.Logic.{⊎-elim}
 use Prim.Native.Nat.{ℕ}
 use lib.Dec.{eqb}
 use borrow.Author.Needs.{needs}
 use borrow.Author.Tests.{eq-eqb, ne-eqb}
+use Rattle.call.proofs.Truth.{or-right}
 use Rattle.model.specs.Operations.{execute, isAccess, isOperation}
 use Rattle.model.specs.Cells.{Table}
 use Rattle.checking.specs.declared.Checked.{Checked}
@@ -14,10 +15,6 @@ use Rattle.checking.specs.Steps.{openingOf, headChecked, codeChecked}
 use Rattle.checking.proofs.Deciding.{answered, no-check}
 use Rattle.checking.proofs.check.Statement.{statement}
 use Rattle.checking.proofs.check.Tie as tie
-
-or-right : (x y : Bool) → y ≡ true → (x || y) ≡ true
-or-right true y e = refl
-or-right false y e = e
 
 module _ (t w : Table) (n code : ℕ) (r : Checked) (is : r ≡ codeChecked code) (b : Bool) (i : b ≡ isAccess n) where
   accessed : b ≡ true → (x : ℕ) → codeChecked x ≡ headChecked (openingOf t w n) → code ≡ x → r ≡ checkOf t w n

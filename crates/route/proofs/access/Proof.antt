@@ -8,7 +8,7 @@ use borrow.Author.Needs.{needs}
 use borrow.Author.Tests.{not-true, not-false}
 use Rattle.formula.specs.Outcome.{outcomeOf}
 use Rattle.call.specs.declared.request.Request.the-variants.{Access}
-use Rattle.call.proofs.Truth.{and-left}
+use Rattle.call.proofs.Truth.{and-left, or-right}
 use Rattle.model.specs.declared.answer.Refusal.the-variants.{NoThread, NoSegment, Unfit}
 use Rattle.model.specs.declared.answer.Answer.{Answer}
 use Rattle.model.specs.declared.answer.Answer.the-variants.{Accepted, Refused}
@@ -26,10 +26,6 @@ use Rattle.route.proofs.Gates.{gates}
 use Rattle.route.proofs.Asking.{answeredBy, answered, thread-missing, segment-missing, misfit, turned-away, let-through}
 use Rattle.route.proofs.access.Statement.{statement}
 use Rattle.route.proofs.access.Tie as tie
-
-or-right : (x y : Bool) → y ≡ true → x || y ≡ true
-or-right true y e = refl
-or-right false y e = e
 
 module _ (d : Cells) (text : List ℕ) (a b n i : ℕ) (placed : Placed (d .threads) a (isThread a) i) where
   abbrev fit : Bool
