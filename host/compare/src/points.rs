@@ -116,7 +116,7 @@ mod tests {
     }
 
     #[test]
-    fn another_line_is_told() {
+    fn another_line_is_reported() {
         for line in [
             "",
             "nanoseconds\tJava\t1",

@@ -354,7 +354,7 @@ fn damaged_texts() {
 #[test]
 fn the_rows_open_where_the_formula_holds() {
     let mut random = Random::new(16);
-    let (mut held, mut failed, mut void) = (0, 0, 0);
+    let (mut held, mut failed, mut unsatisfiable) = (0, 0, 0);
     for turn in 0..300_000 {
         let case = match turn % 3 {
             0 => texts::random_tree(&mut random),
@@ -386,14 +386,14 @@ fn the_rows_open_where_the_formula_holds() {
                 case.text.escape_ascii()
             );
             match (answer, opens) {
-                (UNSATISFIABLE, _) => void += 1,
+                (UNSATISFIABLE, _) => unsatisfiable += 1,
                 (_, true) => held += 1,
                 (_, false) => failed += 1,
             }
         }
     }
-    println!("key sets: {held} open, {failed} don't, {void} on texts that none opens");
-    assert!(held > 100_000 && failed > 100_000 && void > 100_000);
+    println!("key sets: {held} open, {failed} don't, {unsatisfiable} on texts that none opens");
+    assert!(held > 100_000 && failed > 100_000 && unsatisfiable > 100_000);
 }
 
 /// Some of these keys, and now and then another one.

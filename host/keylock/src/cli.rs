@@ -55,5 +55,5 @@ fn obey(command: Command) -> Result<Status, Failure> {
 
 fn show(text: &str) -> Result<Status, Failure> {
     Target::StandardOutput.write(text.as_bytes())?;
-    Ok(Status::Fine)
+    Ok(Status::Success)
 }

@@ -80,11 +80,11 @@ pub fn parse(text: &[u8]) -> Result<Text, Vec<Mistake>> {
 }
 
 /// As [`parse`], and tells how many lines are read.
-pub fn parse_with(text: &[u8], mut told: impl FnMut(usize)) -> Result<Text, Vec<Mistake>> {
+pub fn parse_with(text: &[u8], mut at_line: impl FnMut(usize)) -> Result<Text, Vec<Mistake>> {
     let mut reader = Reader::new();
     for (place, line) in lines(text).enumerate() {
         reader.take(place + 1, line);
-        told(place + 1);
+        at_line(place + 1);
     }
     reader.finish()
 }

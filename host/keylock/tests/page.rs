@@ -97,7 +97,7 @@ fn the_refused_save_says_what_is_missing() {
 
 /// Both calls handed over S0, and only the second D0.
 #[test]
-fn a_key_that_stays_held_is_not_struck_out() {
+fn a_key_that_stays_held_is_not_crossed_out() {
     let calls = "U; N 0 0; K 0; L 0 0 1 U0; S 0; C 0 0; G 0 0 0; C 0 0; R 0; E 0";
     let page = page(&[], &explained(calls));
     check_nesting(&page);

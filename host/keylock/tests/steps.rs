@@ -215,16 +215,16 @@ fn a_key_that_no_open_call_has_is_taken() {
 #[test]
 fn a_sheet_hands_over_nothing() {
     let steps = explained("U; N 0 1; K 0; G 0 0 0; T 0 0 0");
-    let nobody = "A sheet isn't called, so nobody gets D0 from it.";
-    assert_eq!(steps[3].reason, nobody);
-    assert_eq!(steps[4].reason, nobody);
+    let uncalled = "A sheet isn't called, so nobody gets D0 from it.";
+    assert_eq!(steps[3].reason, uncalled);
+    assert_eq!(steps[4].reason, uncalled);
     let made = "Only user 0 can give D0, and only to segments of his own.";
     assert_eq!(steps[2].reason, made);
 }
 
 /// The call hands over S0, which the lock bars.
 #[test]
-fn a_granted_call_is_told_with_the_keys_before_it() {
+fn a_granted_call_is_explained_with_the_keys_before_it() {
     let steps = explained("U; N 0 0; L 0 0 1 !S0; S 0; C 0 0; C 0 0");
     let opened = "Lock 0 opened: thread 0 didn't hold S0.";
     assert_eq!(steps[4].reason, opened);

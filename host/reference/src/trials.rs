@@ -39,8 +39,8 @@ pub const TRIALS: [Trial; 20] = [
         limits::the_sixteenth_call_is_the_last,
     ),
     (
-        "deny beats grant and the lowest number is told",
-        deny_beats_grant_and_the_lowest_number_is_told,
+        "deny beats grant and the lowest number is given",
+        deny_beats_grant_and_the_lowest_number_is_given,
     ),
     (
         "an open call keeps the keys that it handed over",
@@ -238,7 +238,7 @@ fn a_dropped_lock_opens_no_more(guard: &mut dyn Guard) {
     office.ok(b'A', [0, 2, 4], "", 3);
 }
 
-fn deny_beats_grant_and_the_lowest_number_is_told(guard: &mut dyn Guard) {
+fn deny_beats_grant_and_the_lowest_number_is_given(guard: &mut dyn Guard) {
     let mut office = Office::with_totals(guard);
     office.ok(b'S', [0, 0, 0], "", 0);
     office.ok(b'L', [0, 2, 6], "R0", 3);

@@ -7,7 +7,7 @@ use crate::refusal::{self, Refusal};
 use std::fmt;
 
 /// An answer as the proved functions give it, below 65,536, or a refusal.
-fn told(answer: u32) -> Result<u16, Refusal> {
+fn answered(answer: u32) -> Result<u16, Refusal> {
     let [number, second] = [answer / 65_536, answer % 65_536];
     match number {
         0 => Ok(second as u16),
@@ -127,7 +127,7 @@ impl Guard {
         thread: Thread,
         segment: Segment,
     ) -> Result<Lock, refusal::CallSegment> {
-        let answer = told(raw::call_segment(&mut self.cells, thread.0, segment.0));
+        let answer = answered(raw::call_segment(&mut self.cells, thread.0, segment.0));
         answer.map(Lock).map_err(refusal::CallSegment::of)
     }
 
@@ -135,7 +135,7 @@ impl Guard {
     /// it leaves.
     #[inline]
     pub fn return_call(&mut self, thread: Thread) -> Result<Segment, refusal::ReturnCall> {
-        let answer = told(raw::return_call(&mut self.cells, thread.0));
+        let answer = answered(raw::return_call(&mut self.cells, thread.0));
         answer.map(Segment).map_err(refusal::ReturnCall::of)
     }
 
@@ -148,7 +148,7 @@ impl Guard {
         access: Access,
     ) -> Result<Lock, refusal::Access> {
         let operation = access as u16;
-        let answer = told(raw::access(&self.cells, thread.0, segment.0, operation));
+        let answer = answered(raw::access(&self.cells, thread.0, segment.0, operation));
         answer.map(Lock).map_err(refusal::Access::of)
     }
 
@@ -162,7 +162,7 @@ impl Guard {
             c,
             text,
         } = *record;
-        told(raw::call(&mut self.cells, letter, a, b, c, text))
+        answered(raw::call(&mut self.cells, letter, a, b, c, text))
     }
 }
 

@@ -21,5 +21,5 @@ pub fn asm(source: &Source, target: &Target) -> Result<Status, Failure> {
     let text = input::parse(&bytes);
     let text = text.map_err(|mistakes| input::wrong(&name, &bytes, &mistakes))?;
     target.write(text.journal.as_bytes())?;
-    Ok(Status::Fine)
+    Ok(Status::Success)
 }

@@ -10,7 +10,7 @@ pub fn dis(source: &Source, target: &Target) -> Result<Status, Failure> {
     let bytes = source.read()?;
     let journal = read(&source.name(), &bytes)?;
     target.write(text::disassemble(&journal).as_bytes())?;
-    Ok(Status::Fine)
+    Ok(Status::Success)
 }
 
 fn read(name: &Name, bytes: &[u8]) -> Result<Journal, Failure> {

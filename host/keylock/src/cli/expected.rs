@@ -9,7 +9,7 @@ use keylock::answer::Answer;
 pub fn compare(input: &Input, answers: &[Answer]) -> Status {
     let Input { name, text, .. } = input;
     let Some(text) = text else {
-        return Status::Fine;
+        return Status::Success;
     };
     let mut report = String::new();
     let mut missed = 0;
@@ -24,7 +24,7 @@ pub fn compare(input: &Input, answers: &[Answer]) -> Status {
         }
     }
     let summary = match (text.expected(), missed) {
-        (0, _) => return Status::Fine,
+        (0, _) => return Status::Success,
         (1, 0) => "1 expected answer, given".to_string(),
         (all, 0) => format!("{all} expected answers, all given"),
         (1, _) => "1 expected answer, not given".to_string(),
@@ -32,7 +32,7 @@ pub fn compare(input: &Input, answers: &[Answer]) -> Status {
     };
     output::complain(&format!("{report}{name}: {summary}\n"));
     match missed {
-        0 => Status::Fine,
+        0 => Status::Success,
         _ => Status::Input,
     }
 }

@@ -8,7 +8,7 @@ use std::io;
 /// The exit status.
 #[derive(Clone, Copy, Debug, PartialEq, Eq, PartialOrd, Ord)]
 pub enum Status {
-    Fine = 0,
+    Success = 0,
     /// The input is at fault.
     Input = 1,
     /// It was called wrongly, or couldn't read or write.

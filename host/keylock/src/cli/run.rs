@@ -12,7 +12,7 @@ use rotundaaloe::{Guard, Journal};
 pub fn run(sources: &[Source]) -> Result<Status, Failure> {
     let inputs = read_all(sources)?;
     let colour = colour::wanted(&Target::StandardOutput);
-    let mut status = Status::Fine;
+    let mut status = Status::Success;
     for input in &inputs {
         let answers = answers(&input.journal);
         let mut printed = String::new();
@@ -29,7 +29,7 @@ pub fn run(sources: &[Source]) -> Result<Status, Failure> {
 /// Nothing is run where one of the inputs is at fault.
 fn read_all(sources: &[Source]) -> Result<Vec<Input>, Failure> {
     let mut inputs = Vec::new();
-    let mut status = Status::Fine;
+    let mut status = Status::Success;
     let mut report = String::new();
     for source in sources {
         match Input::read(source) {
@@ -41,7 +41,7 @@ fn read_all(sources: &[Source]) -> Result<Vec<Input>, Failure> {
         }
     }
     match status {
-        Status::Fine => Ok(inputs),
+        Status::Success => Ok(inputs),
         _ => Err(Failure { status, report }),
     }
 }

@@ -42,14 +42,14 @@ pub fn trace(html: bool, source: &Source, target: &Target) -> Result<Status, Fai
 
 fn explained(input: &Input) -> Vec<Step<'_>> {
     let mut progress = Progress::new(input.journal.records().count(), "records");
-    let told = |(place, entry)| {
+    let step = |(place, entry)| {
         progress.at(place);
         entry
     };
     match &input.text {
         Some(text) => {
             let entries = text.calls().map(|(line, call)| Entry::of_text(line, call));
-            steps::explain(entries.enumerate().map(told))
+            steps::explain(entries.enumerate().map(step))
         }
         None => steps::explain(
             input
@@ -57,7 +57,7 @@ fn explained(input: &Input) -> Vec<Step<'_>> {
                 .records()
                 .map(Entry::from)
                 .enumerate()
-                .map(told),
+                .map(step),
         ),
     }
 }

@@ -56,9 +56,9 @@ fn unjudged_disagreement(
         }
         Err(_) => None,
         Ok(given) => {
-            let told = state.history.answer(&for_history(record));
-            let differs = told != Some(u32::from(given));
-            differs.then(|| format!("the history says {told:?}, the guard says {given}"))
+            let read = state.history.answer(&for_history(record));
+            let differs = read != Some(u32::from(given));
+            differs.then(|| format!("the history says {read:?}, the guard says {given}"))
         }
     }
 }

@@ -28,7 +28,7 @@ pub fn reason(
             format!("D{c} isn't in segment {b}'s list: {list}.")
         }
         Refusal::Full => full(state, record),
-        Refusal::Malformed => misspelt(state, record.text),
+        Refusal::Malformed => malformed(state, record.text),
         Refusal::TooWide => {
             "Some part of the formula needs more than 8 products, or more than 6 keys in one."
                 .into()
@@ -144,7 +144,7 @@ fn too_many_products(state: &State, record: &Record) -> String {
     )
 }
 
-fn misspelt(state: &State, text: &[u8]) -> String {
+fn malformed(state: &State, text: &[u8]) -> String {
     if text.is_empty() {
         return "There is no text.".to_string();
     }

@@ -30,7 +30,7 @@ pub enum Holder {
     Oldest,
     Newest,
     /// No open call. Both guards then ask every one of them for one key.
-    Nobody,
+    NoCall,
 }
 
 impl Holder {
@@ -38,7 +38,7 @@ impl Holder {
         match self {
             Holder::Oldest => "oldest",
             Holder::Newest => "newest",
-            Holder::Nobody => "none",
+            Holder::NoCall => "none",
         }
     }
 }
@@ -59,7 +59,7 @@ pub struct Scene {
 
 impl Scene {
     pub fn all() -> Vec<Scene> {
-        let holders = [Holder::Oldest, Holder::Newest, Holder::Nobody];
+        let holders = [Holder::Oldest, Holder::Newest, Holder::NoCall];
         holders
             .into_iter()
             .flat_map(|holder| DEPTHS.map(|depth| Scene { depth, holder }))
@@ -70,7 +70,7 @@ impl Scene {
 
     pub fn outcome(self) -> Outcome {
         match self.holder {
-            Holder::Nobody => Outcome::Refused,
+            Holder::NoCall => Outcome::Refused,
             _ => Outcome::Granted,
         }
     }
@@ -79,7 +79,7 @@ impl Scene {
         let (holder, text) = match self.holder {
             Holder::Oldest => (0, "D1&D2"),
             Holder::Newest => (self.depth - 1, "D1&D2"),
-            Holder::Nobody => (0, "D0&D8"),
+            Holder::NoCall => (0, "D0&D8"),
         };
         Stage::after(&route::calls(self.depth, holder, &[text.to_string()]))
     }

@@ -64,7 +64,7 @@ fn ask(request: &Request) -> usize {
 /// that they can be subtracted.
 #[inline(always)]
 fn toggle() {
-    // SAFETY: as for `ask`; `rax` and `rdx` are told.
+    // SAFETY: as for `ask`; `rax` and `rdx` are message.
     unsafe {
         asm!(
             "lea rax, [rip + {request}]",
@@ -216,15 +216,15 @@ mod tests {
     }
 
     #[test]
-    fn a_check_that_is_not_counted_is_told() {
+    fn a_check_that_is_not_counted_is_reported() {
         let other = dump("one", "rotundaaloe_access", 40);
-        let told = all_counted(&other, counts(&other)).expect_err("no such function");
+        let message = all_counted(&other, counts(&other)).expect_err("no such function");
         assert!(
-            told.contains("finds no function `checking::opening`"),
-            "{told}"
+            message.contains("finds no function `checking::opening`"),
+            "{message}"
         );
         let nothing = dump("one", CHECK, 78) + &dump("two", CHECK, 0);
-        let told = all_counted(&nothing, counts(&nothing)).expect_err("nothing in a scene");
-        assert!(told.ends_with("is counted in 'two'"), "{told}");
+        let message = all_counted(&nothing, counts(&nothing)).expect_err("nothing in a scene");
+        assert!(message.ends_with("is counted in 'two'"), "{message}");
     }
 }
