@@ -1,3 +1,4 @@
 pub mod Outcomes
 pub mod Telling
 pub mod FilesInOrder
+pub mod Examples

@@ -3,3 +3,4 @@ pub mod Steps
 pub mod Files
 pub mod FilesInOrder
 pub mod Calls
+pub mod Examples

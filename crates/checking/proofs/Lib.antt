@@ -1,3 +1,4 @@
 pub mod Codes
 pub mod Turns
 pub mod Deciding
+pub mod Examples

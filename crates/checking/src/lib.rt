@@ -103,6 +103,7 @@ fn opening(thread: &Thread, products: &Products, operation: u32) -> u32
             break 'products head_code(found);
         }
         let head = products[p][0];
+        // The set is in the head's last four bits, and only those are asked for: 1, 2, 4 and 8.
         let operations = Operations { bits: head };
         if operations.has(operation) {
             let mut k = (head / LITERAL_UNIT % LITERAL_COUNTS) as usize;

@@ -14,7 +14,7 @@ use Rattle.journal.specs.Format.{fileBytes}
 use Rattle.journal.specs.Verdicts.{refusalNumber, verdictNumber, verdictValues}
 use Rattle.journal.specs.Verdicts.{foundNumber, foundValues, appendedNumber, appendedValues}
 use Rattle.journal.specs.Reading.{foundAt, recordsOf, verdictOf, cursorOpened}
-use Rattle.journal.specs.Appending.{appendAnswer, bufferAfter, emptyAnswer, emptyAfter}
+use Rattle.journal.specs.Appending.{appendAnswer, bufferAfter, lengthAfter, emptyAnswer, emptyAfter}
 
 -- * 4B 4C 44 01 00 00 00
 abbrev pub emptyFile : List ℕ
@@ -136,6 +136,9 @@ pub record AppendExamples : Type 0 where
       ∷ 76 ∷ 2 ∷ 1 ∷ 3 ∷ 0 ∷ 1 ∷ 0 ∷ 2 ∷ 0 ∷ 85 ∷ 48 ∷ 9 ∷ 9 ∷ 9 ∷ []
   -- a refused one
   pub refused-buffer : bufferAfter (Declined Full) emptyFile 7 callU ≡ emptyFile
+  -- the file's length after them
+  pub accepted-length : lengthAfter (Length 27) 16 ≡ 27
+  pub refused-length : lengthAfter (Declined Full) 7 ≡ 7
   -- ---- the file with no record, in buffers of six and of eight bytes
   pub empty-no-room : emptyAnswer (replicate 6 9) ≡ Declined Full
   pub empty-kept : emptyAfter (Declined Full) (replicate 6 9) ≡ 9 ∷ 9 ∷ 9 ∷ 9 ∷ 9 ∷ 9 ∷ []

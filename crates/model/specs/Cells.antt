@@ -1,4 +1,4 @@
--- The state in the arrays that the host lends: their layout, the state that they hold, whatever numbers are in them, and what each accepted call
+-- The state (document 01: desk) in the arrays that the host lends: their layout, the state that they hold, whatever numbers are in them, and what each accepted call
 -- stores. Conditions and answers are those of the state that the arrays hold, so that the table of refusals stands once, in the model. Assumes nothing.
 --
 -- registry: [u32; 8]               users, threads, segments, defined keys and locks handed out
@@ -6,7 +6,7 @@
 -- segments: [[[u16; 8]; 2]; 64]    row 0: owner, kind; row 1: the key list, first its own S key, which is always its number
 -- locks: [[[u32; 8]; 8]; 64]       a segment's products, a row each, to the first row that begins with 0: the lock, the number of literals and the
 --                                  operations in one cell, then the literals
--- threads: [[[u16; 8]; 17]; 64]    row 0: number, user, number of frames, and not 0 where it is live; rows 1 to 16: the frames, the oldest first, each
+-- threads: [[[u16; 8]; 17]; 64]    (document 01: runs) row 0: number, user, number of frames (open calls), and not 0 where it is live; rows 1 to 16: the frames, the oldest first, each
 --                                  a copy of its segment's key list, whose first cell is the segment
 use mathlib.Core.Path.{_≡_}
 use mathlib.Core.Bool.{Bool, not, cond}

@@ -17,7 +17,7 @@ use Rattle.formula.specs.Width.{Wide}
 use Rattle.formula.specs.Unsatisfiable.{Never}
 use Rattle.call.specs.declared.request.Request.the-variants.{AddLock}
 use Rattle.call.specs.declared.request.Decoded.the-variants.{WellFormed}
-use Rattle.call.specs.Calls.{Call, decoded}
+use Rattle.call.specs.Calls.{letterU, letterL, Call, decoded}
 use Rattle.model.specs.declared.answer.Refusal.the-variants.{Full, Malformed, TooWide, Unsatisfiable}
 use Rattle.model.specs.declared.answer.Answer.{Answer}
 use Rattle.model.specs.declared.answer.Answer.the-variants.{Refused}
@@ -32,7 +32,7 @@ use Rattle.model.specs.StoredLocks.{standingProducts}
 -- 'in a call that no earlier number refuses', of an L with fields a, b and c: user a is handed out, segment b is handed out and his, and it takes the
 -- operations c
 pub record Allowed (es : List Event) (a b c : ℕ) : Type 0 where
-  pub user : a < acceptedOf 85 es
+  pub user : a < acceptedOf letterU es
   pub entry : Entry
   pub segment : history es .segments b ≡ some entry
   pub owner : entry .owner ≡ a
@@ -48,7 +48,7 @@ pub record Satisfiable (i : Issued) (s : List ℕ) : Type 0 where
 -- '8 products in all standing locks of a segment', '65,536 .. lock numbers': there is room on segment b for a lock of n products
 pub record Room (es : List Event) (b n : ℕ) : Type 0 where
   pub products : standingProducts outcomeOf es b + n ≤ 8
-  pub numbers : acceptedOf 76 es < 65536
+  pub numbers : acceptedOf letterL es < 65536
 
 -- What the events before an L with fields a, b and c and that text say of its answer r. Keys handed out are those of the accepted U, S, N and K.
 pub record TextJudged (es : List Event) (a b c : ℕ) (text : List ℕ) (r : Answer) : Type 0 where

@@ -17,7 +17,7 @@ use Rattle.formula.specs.Text.{Text}
 use Rattle.formula.specs.Outcome.{outcomeOf}
 use Rattle.formula.specs.Opening.{textHolds}
 use Rattle.formula.specs.Compiler.{Compiler, Meaning, Laws}
-use Rattle.call.specs.Calls.{Call}
+use Rattle.call.specs.Calls.{letterU, letterS, letterE, letterN, letterK, letterL, Call}
 use Rattle.model.specs.Lists.{any, isSome}
 use Rattle.model.specs.Threads.{Thread}
 use Rattle.model.specs.Model.{State, issued, liveIn, isLive, threadAt, isSegment, segmentAt, isLock, homeOf}
@@ -28,20 +28,20 @@ use Rattle.model.specs.Replay.{reached, events, historyOf}
 -- field a of each accepted K, in order
 abbrev pub makersOf : List Event → List ℕ
 makersOf [] = []
-makersOf (e ∷ es) = let rest = makersOf es in cond (counts 75 e) (e .call .a ∷ rest) rest
+makersOf (e ∷ es) = let rest = makersOf es in cond (counts letterK e) (e .call .a ∷ rest) rest
 
 -- the keys that the accepted U, S, N and K handed out
 abbrev pub issuedBy : List Event → Issued
-issuedBy es = record { users = acceptedOf 85 es; threads = acceptedOf 83 es; segments = acceptedOf 78 es; defined = acceptedOf 75 es }
+issuedBy es = record { users = acceptedOf letterU es; threads = acceptedOf letterS es; segments = acceptedOf letterN es; defined = acceptedOf letterK es }
 
 pub record Mirrors (es : List Event) (d : State) : Type 0 where
   -- handed out are as many users, thread numbers, segments, defined keys and lock numbers as U, S, N, K and L were accepted
   pub handedOut : issued d ≡ issuedBy es
-  pub lockNumbers : d .lockNumbers ≡ acceptedOf 76 es
+  pub lockNumbers : d .lockNumbers ≡ acceptedOf letterL es
   -- each defined key's maker
   pub makers : d .makers ≡ makersOf es
   -- live threads, as many as S started and E did not end, with their user and frames
-  pub threads : liveIn (d .places) + acceptedOf 69 es ≡ acceptedOf 83 es
+  pub threads : liveIn (d .places) + acceptedOf letterE es ≡ acceptedOf letterS es
   pub live : (n : ℕ) → isLive d n ≡ isSome (history es .threads n)
   pub thread : (n : ℕ) (t : Thread) → history es .threads n ≡ some t → threadAt d n ≡ t
   -- segments, with their owner, kind and key list, which starts with its own S key

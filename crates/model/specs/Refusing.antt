@@ -33,9 +33,9 @@ pub record FirstHolds (r : Refusal) (cs : List (Condition Refusal)) : Type 0 whe
   pub holds : condition .holds ≡ true
   pub refusal : condition .refusal ≡ r
 
--- the table's order: 'Checked in that order, 10 last'
+-- the table's order: 18 'before all else', 'Checked in that order, 10 last'
 abbrev pub order : List ℕ
-order = 18 ∷ 1 ∷ 2 ∷ 3 ∷ 4 ∷ 5 ∷ 6 ∷ 22 ∷ 24 ∷ 7 ∷ 8 ∷ 9 ∷ 20 ∷ 11 ∷ 12 ∷ 13 ∷ 14 ∷ 15 ∷ 19 ∷ 21 ∷ 23 ∷ 25 ∷ 10 ∷ []
+order = 18 ∷ 1 ∷ 2 ∷ 3 ∷ 4 ∷ 5 ∷ 6 ∷ 7 ∷ 8 ∷ 9 ∷ 11 ∷ 12 ∷ 13 ∷ 14 ∷ 15 ∷ 10 ∷ []
 
 abbrev pub rank : Refusal → ℕ
 rank r = indexOf (eqb (refusalNumber r)) order

@@ -12,7 +12,7 @@ pub record Frame : Type 0 where
   pub segment : ℕ
   pub keys : List Key
 
--- the newest frame is the first
+-- a live thread (document 01: live run); the newest frame is the first
 pub record Thread : Type 0 where
   pub user : ℕ
   pub frames : List Frame
@@ -23,6 +23,7 @@ sameKey j k = isEqual (compareAtoms j k)
 abbrev pub isIn : Key → List Key → Bool
 isIn k keys = any (sameKey k) keys
 
+-- document 01: key set, by which keys are in it
 abbrev pub KeySet : Type 0
 KeySet = Key → Bool
 

@@ -1,5 +1,5 @@
-// Keys and literals, how literals compare, and the one number that a cell of a row holds of a literal. Only `encode`
-// and `decode` know it.
+// Keys and literals (document 01: signed keys), how literals compare, and the one number that a cell of a row holds of
+// a literal. Only `encode` and `decode` know it; `encode_key` is the number of a key in a key set.
 ghost use mathlib.Core.Path.{_≡_};
 ghost use Prim.Native.Nat.{_<_};
 ghost use Rattle.product.specs.Atom.{kindOf, numberOf, isLess, isEqual, compareAtoms};

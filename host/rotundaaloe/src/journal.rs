@@ -138,12 +138,9 @@ impl Journal {
         }
     }
 
-    /// The records in order. A journal is readable, so nothing is checked again.
+    /// The records in order: the file is opened, as any other is.
     pub fn records(&self) -> Records<'_> {
-        Records {
-            file: self.as_bytes(),
-            cursor: HEAD_BYTES,
-        }
+        Records::open(self.as_bytes()).expect("a journal stays readable")
     }
 
     /// The bytes of the file.
