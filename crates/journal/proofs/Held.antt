@@ -17,7 +17,7 @@ use prog.Routine.{Routine}
 use prog.Wp.{Heap}
 use ghost.Atoms.{Atoms, sem}
 use contract.Monad.{Fun, fact}
-use types.Kit.{Given, ‵, raw, _⊛_, ⋆, given, some, later, _$_, _∵_, !, qed, by, move, keep, drop, use1, use2, split, split3, join, group, pick, learn, fsplit, fjoin, fpick, fpack, frame, await, updating, now as at-once, show, done}
+use types.Kit.{Given, ‵, raw, _⊛_, ⋆, given, some, later, _$_, _∵_, !, qed, move, keep, drop, use1, use2, split, split3, join, group, pick, learn, fsplit, fjoin, fpick, fpack, frame, await, updating, now as at-once, show, done}
 use types.Tokens.{lft-new, lent-back}
 use types.SemTy.{Body}
 use borrow.Within.Token.{Rest, within-token, within-end}
@@ -130,64 +130,69 @@ module _ {M : Type 1} (𝓤 : URA M) (H : Heap 𝓤) (A : Atoms 𝓤) (W : Given
 abbrev pub Behind : Lft → RattleType
 Behind κ = T.the-row (record { mir = named 1; lft = κ })
 
--- the reference to the local l, under the name δ
+-- the reader's cell in the local l, at the machine value u
+abbrev pub Cell : ℕ → Val → Fml
+Cell l u = fat fullShare (T′.mir erased) l 0 u
+
+-- the reference to the reader d in the local l, under the name δ
 abbrev pub borrowed : ℕ → GName → Reader → RefT Reader
 borrowed l δ d = record { ptr = (l, 0); name = δ; now = d }
 
+-- what it owns, for the lifetime ν ∷ κ
+abbrev pub Borrowed : Lft → ℕ → ℕ → GName → Reader → Fml
+Borrowed κ l ν δ d = MutRef (named 0) (ν ∷ κ) (Behind κ) .own (borrowed l δ d) (vptr l 0 ∷ [])
+
+module _ {M : Type 1} (𝓤 : URA M) (H : Heap 𝓤) (A : Atoms 𝓤) where
+  -- the tokens of the callee's two lifetimes
+  abbrev pub Tokens : Lft → Share → ℕ → SProp 𝓤
+  Tokens κ q ν = sep 𝓤 (A .lft (ν ∷ κ) (PosShare·left q)) (sep 𝓤 (A .lft κ (PosShare·right q)) (sem 𝓤 H A ftrue))
+
 module _ {M : Type 1} (𝓤 : URA M) (H : Heap 𝓤) (A : Atoms 𝓤) (W : Given 𝓤 H A) (κ : Lft) (q : Share) (l : ℕ) where
-  -- the reader's cell, at the machine value u
-  abbrev pub Cell : Val → Fml
-  Cell u = fat fullShare (T′.mir erased) l 0 u
-
-  abbrev pub Borrow : ℕ → GName → Reader → Fml
-  Borrow ν δ d = MutRef (named 0) (ν ∷ κ) (Behind κ) .own (borrowed l δ d) (vptr l 0 ∷ [])
-
   -- what the lender keeps during the call
   abbrev pub Kept : ℕ → GName → SProp 𝓤
   Kept ν δ = sep 𝓤 (Rest 𝓤 H A W ν (PosShare·left q)) (A .lent (ν ∷ κ) (Body (mem (Behind κ)) l 0 δ))
 
-  -- the tokens of the call's two lifetimes
-  abbrev pub Tokens : ℕ → SProp 𝓤
-  Tokens ν = sep 𝓤 (A .lft (ν ∷ κ) (PosShare·left q)) (sep 𝓤 (A .lft κ (PosShare·right q)) (sem 𝓤 H A ftrue))
+  -- the reader d is lent, for a lifetime and under a name
+  abbrev Loan : Reader → ℕ × GName → SProp 𝓤
+  Loan d loan = sep 𝓤 (Tokens 𝓤 H A κ q (loan .0)) (sep 𝓤 (sem 𝓤 H A (Borrowed κ l (loan .0) (loan .1) d)) (Kept (loan .0) (loan .1)))
 
-  abbrev pub Lending : Reader → ℕ × GName → SProp 𝓤
-  Lending d p = sep 𝓤 (Tokens (p .0)) (sep 𝓤 (sem 𝓤 H A (Borrow (p .0) (p .1) d)) (Kept (p .0) (p .1)))
-
-  lies-in : (d : Reader) (u : Val) → ent 𝓤 (⋆ 𝓤 H A (‵ (Cell u) ∷ ‵ (Behind κ .own d (u ∷ [])) ∷ [])) (sem 𝓤 H A (mem (Behind κ) .lies d l 0))
+  lies-in : (d : Reader) (u : Val) → ent 𝓤 (⋆ 𝓤 H A (‵ (Cell l u) ∷ ‵ (Behind κ .own d (u ∷ [])) ∷ [])) (sem 𝓤 H A (mem (Behind κ) .lies d l 0))
   unfolding partOf
   lies-in d u =
-      qed W (‵ (Cell u) ∷ ‵ (Behind κ .own d (u ∷ [])) ∷ []) ∵
+      qed W (‵ (Cell l u) ∷ ‵ (Behind κ .own d (u ∷ [])) ∷ []) ∵
       use1 W (‵ (cellAt fullShare (Behind κ .mir) (u ∷ []) l 0)) (W .laws .at-raw fullShare (T′.mir erased) l 0 u) $ fjoin ! $
       fpack ! (List Val) (λ vs. fsep (cellAt fullShare (Behind κ .mir) vs l 0) (Behind κ .own d vs)) (u ∷ []) $ done !
 
-  lies-out : (d : Reader) → ent 𝓤 (sem 𝓤 H A (mem (Behind κ) .lies d l 0)) (sem 𝓤 H A (Cell (T′.lowered d)))
+  lies-out : (d : Reader) → ent 𝓤 (sem 𝓤 H A (mem (Behind κ) .lies d l 0)) (sem 𝓤 H A (Cell l (T′.lowered d)))
   unfolding partOf
   lies-out d =
+      let α : NamedLft = record { mir = named 1; lft = κ } in
       qed W (‵ (mem (Behind κ) .lies d l 0) ∷ []) ∵ fpick ! (λ vs. fsplit ! $
-      spelt ! (Behind κ) (Is (Behind κ)) (shows 𝓤 H A (Behind κ)) (LL.vals (D (record { mir = named 1; lft = κ })) (L (record { mir = named 1; lft = κ }))) (LL.tells (D (record { mir = named 1; lft = κ })) (L (record { mir = named 1; lft = κ }))) fullShare d vs l 0 $
-      use1 W (‵ (Cell (T′.lowered d))) (W .laws .raw-at fullShare (T′.mir erased) l 0 (T′.lowered d)) $ keep ! (0 ∷ []) $ done !)
+      spelt ! (Behind κ) (Is (Behind κ)) (shows 𝓤 H A (Behind κ)) (LL.vals (D α) (L α)) (LL.tells (D α) (L α)) fullShare d vs l 0 $
+      use1 W (‵ (Cell l (T′.lowered d))) (W .laws .raw-at fullShare (T′.mir erased) l 0 (T′.lowered d)) $ keep ! (0 ∷ []) $ done !)
 
-  pub lends : (d : Reader) (u : Val) → ent 𝓤 (⋆ 𝓤 H A ((‵ (flft κ q) ⊛ ‵ ftrue) ∷ ‵ (Cell u) ∷ ‵ (Behind κ .own d (u ∷ [])) ∷ [])) (H .⇛ (ex 𝓤 (Lending d)))
+  -- a lifetime is made, and the reader in the local is lent for it
+  pub lends : (d : Reader) (u : Val) → ent 𝓤 (⋆ 𝓤 H A ((‵ (flft κ q) ⊛ ‵ ftrue) ∷ ‵ (Cell l u) ∷ ‵ (Behind κ .own d (u ∷ [])) ∷ [])) (H .⇛ (ex 𝓤 (Loan d)))
   lends d u =
-      qed W ((‵ (flft κ q) ⊛ ‵ ftrue) ∷ ‵ (Cell u) ∷ ‵ (Behind κ .own d (u ∷ [])) ∷ []) ∵ updating ! $ split ! $ move ! (2 ∷ 3 ∷ []) $
+      qed W ((‵ (flft κ q) ⊛ ‵ ftrue) ∷ ‵ (Cell l u) ∷ ‵ (Behind κ .own d (u ∷ [])) ∷ []) ∵ updating ! $ split ! $ move ! (2 ∷ 3 ∷ []) $
       use2 W (‵ (mem (Behind κ) .lies d l 0)) (lies-in d u) $
       -- [the reader in memory; κ's token; true]
       lft-new ! tt (λ ν. move ! (1 ∷ []) $
-      use1 W (later (some (λ (δ : GName). ‵ (Borrow ν δ d) ⊛ ‵ (flent (ν ∷ κ) (Body (mem (Behind κ)) l 0 δ))))) (lends-ref 𝓤 H A W (Behind κ) (named 0) (ν ∷ κ) d l 0) $ await ! tt $ pick ! (λ δ. split ! $
-      -- [the borrow; the lender's part; ν's token; κ's token; true]
+      use1 W (later (some (λ (δ : GName). ‵ (Borrowed κ l ν δ d) ⊛ ‵ (flent (ν ∷ κ) (Body (mem (Behind κ)) l 0 δ))))) (lends-ref 𝓤 H A W (Behind κ) (named 0) (ν ∷ κ) d l 0) $ await ! tt $ pick ! (λ δ. split ! $
+      -- [what the reference owns; the lender's part; ν's token; κ's token; true]
       move ! (3 ∷ []) $ use1 W (‵ (flft κ (PosShare·left q)) ⊛ ‵ (flft κ (PosShare·right q))) (W .lfts .lft-split κ q) $ split ! $
       move ! (4 ∷ 0 ∷ []) $ use2 W (‵ (flft (ν ∷ κ) (PosShare·left q)) ⊛ raw (Rest 𝓤 H A W ν (PosShare·left q))) (within-token 𝓤 H A W ν κ (PosShare·left q)) $ split ! $
-      -- [the call's token; what is left of ν's; κ's other half; the borrow; the lender's part; true]
-      at-once ! $ show ! (Lending d) (ν, δ) $ move ! (0 ∷ 2 ∷ 5 ∷ []) $ group ! 3 $ frame ! $ move ! (1 ∷ []) $ frame ! $ done !))
+      -- [the call's token; what is left of ν's; κ's other half; what the reference owns; the lender's part; true]
+      at-once ! $ show ! (Loan d) (ν, δ) $ move ! (0 ∷ 2 ∷ 5 ∷ []) $ group ! 3 $ frame ! $ move ! (1 ∷ []) $ frame ! $ done !))
 
   -- the lifetime is ended: κ's token is whole again, and the local is the lender's
-  pub ends : (ν : ℕ) (δ : GName) → ent 𝓤 (sep 𝓤 (Tokens ν) (Kept ν δ)) (H .⇛ (sep 𝓤 (sep 𝓤 (A .lft κ q) (sem 𝓤 H A ftrue)) (ex 𝓤 (λ (d : Reader). sem 𝓤 H A (Cell (T′.lowered d))))))
+  pub ends : (ν : ℕ) (δ : GName) → ent 𝓤 (sep 𝓤 (Tokens 𝓤 H A κ q ν) (Kept ν δ)) (H .⇛ (sep 𝓤 (sep 𝓤 (A .lft κ q) (sem 𝓤 H A ftrue)) (ex 𝓤 (λ (d : Reader). sem 𝓤 H A (Cell l (T′.lowered d))))))
   ends ν δ =
       qed W ((‵ (flft (ν ∷ κ) (PosShare·left q)) ⊛ ‵ (flft κ (PosShare·right q)) ⊛ ‵ ftrue) ∷ (raw (Rest 𝓤 H A W ν (PosShare·left q)) ⊛ ‵ (flent (ν ∷ κ) (Body (mem (Behind κ)) l 0 δ))) ∷ []) ∵ updating ! $
       split3 ! $ move ! (3 ∷ []) $ split ! $ move ! (2 ∷ 0 ∷ []) $
       -- [the call's token; what is left of ν's; the lender's part; κ's other half; true]
       use2 W (later (‵ (fdead (ν ∷ κ)) ⊛ ‵ (flft κ (PosShare·left q)))) (within-end 𝓤 H A W ν κ (PosShare·left q)) $ await ! tt $ split ! $
       move ! (1 ∷ 3 ∷ []) $ use2 W (‵ (flft κ q)) (W .lfts .lft-join κ q) $
-      move ! (1 ∷ 2 ∷ []) $ lent-back ! tt $ fpick ! (λ d. fsplit ! $ use1 W (‵ (Cell (T′.lowered d))) (lies-out d) $
+      move ! (1 ∷ 2 ∷ []) $ lent-back ! tt $ fpick ! (λ d. fsplit ! $ use1 W (‵ (Cell l (T′.lowered d))) (lies-out d) $
       -- [the cell; the ghost value; κ's token; true]
-      at-once ! $ keep ! (2 ∷ 3 ∷ 0 ∷ []) $ join ! $ frame ! $ show ! (λ (d′ : Reader). sem 𝓤 H A (Cell (T′.lowered d′))) d $ done !)
+      at-once ! $ keep ! (2 ∷ 3 ∷ 0 ∷ []) $ join ! $ frame ! $ show ! (λ (e : Reader). sem 𝓤 H A (Cell l (T′.lowered e))) d $ done !)

@@ -47,8 +47,16 @@ pub fn next<'s, 'a>(r: &'s mut Reader<'a>) -> Found
     found
 }
 
-// What a reader of a file that stands at a cursor finds next. The parameters are plain, so that a caller's proof needs
-// no reader; it is for cursors that an opening or a record gave.
+// Opens a file and answers the verdict. The parameters of this function and of `read` are plain, so that a caller's
+// proof needs no reader.
+pub fn open_file(file: &[u8]) -> Verdict
+    ensures { λ v. ⌜ v ≡ verdictOf (now (file .entry)) ⌝ }
+{
+    let mut r = new(file);
+    open(&mut r)
+}
+
+// What a reader of a file that stands at a cursor finds next; for cursors that an opening or a record gave.
 pub fn read(file: &[u8], at: usize) -> Found
     ensures { λ f. ⌜ f ≡ foundAt (now (file .entry)) at ⌝ }
 {

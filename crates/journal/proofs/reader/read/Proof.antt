@@ -43,7 +43,7 @@ use denote.Triple.Clauses.{ensured, lasts}
 use Rattle.journal.specs.Reading.{foundAt, cursorAfter}
 use Rattle.journal.specs.declared.reader.Reader.{Reader}
 use Rattle.journal.specs.declared.record.Found.{Found}
-use Rattle.journal.proofs.Held.{borrowed, Cell, Borrow, Kept, Tokens, lends, ends}
+use Rattle.journal.proofs.Held.{found, Cell, borrowed, Borrowed, Tokens, Kept, lends, ends}
 use Rattle.journal.proofs.reader.Reader as T
 use Rattle.journal.proofs.reader.Reader.Laws as T′
 use Rattle.journal.proofs.record.Found as S
@@ -84,9 +84,6 @@ module _ {M : Type 1} (𝓤 : URA M) (H : Heap 𝓤) (A : Atoms 𝓤) (W : Given
   abbrev at : Vals read.signature (κ, tt)
   at = (v ∷ [], (vint w64 n ∷ [], tt))
 
-  abbrev found : Found
-  found = foundAt (now s) n
-
   -- the struct's type as a local of a body has it
   abbrev αᵉ : NamedLft
   αᵉ = record { mir = erased; lft = κ }
@@ -118,18 +115,18 @@ module _ {M : Type 1} (𝓤 : URA M) (H : Heap 𝓤) (A : Atoms 𝓤) (W : Given
 
   -- the call of `next`, on the reader r in the local l, for the lifetime ν ∷ κ
   abbrev to-next : Reader → ℕ → ℕ × GName → Next 𝓤 H A mem run .Ghost
-  to-next r l p = (((p .0 ∷ κ, (κ, tt)), (PosShare·left q, (PosShare·right q, tt)), (meet-⊑-right (p .0 ∷ []) κ, tt), (borrowed l (p .1) r, tt), (vptr l 0 ∷ [], tt)), tt)
+  to-next r l loan = (((loan .0 ∷ κ, (κ, tt)), (PosShare·left q, (PosShare·right q, tt)), (meet-⊑-right (loan .0 ∷ []) κ, tt), (borrowed l (loan .1) r, tt), (vptr l 0 ∷ [], tt)), tt)
 
-  goes-next : (r : Reader) (l : ℕ) (p : ℕ × GName) → ent 𝓤 (sep 𝓤 (Tokens 𝓤 H A W κ q l (p .0)) (sem 𝓤 H A (Borrow 𝓤 H A W κ q l (p .0) (p .1) r))) (Next 𝓤 H A mem run .pre (to-next r l p))
-  goes-next r l p = qed W (raw (Tokens 𝓤 H A W κ q l (p .0)) ∷ ‵ (Borrow 𝓤 H A W κ q l (p .0) (p .1) r) ∷ []) ∵ nothing ! $ move ! (2 ∷ 0 ∷ []) $ fjoin ! $ move ! (1 ∷ 0 ∷ []) $ join ! $ frame ! $ done !
+  goes-next : (r : Reader) (l : ℕ) (loan : ℕ × GName) → ent 𝓤 (sep 𝓤 (Tokens 𝓤 H A κ q (loan .0)) (sem 𝓤 H A (Borrowed κ l (loan .0) (loan .1) r))) (Next 𝓤 H A mem run .pre (to-next r l loan))
+  goes-next r l loan = qed W (raw (Tokens 𝓤 H A κ q (loan .0)) ∷ ‵ (Borrowed κ l (loan .0) (loan .1) r) ∷ []) ∵ nothing ! $ move ! (2 ∷ 0 ∷ []) $ fjoin ! $ move ! (1 ∷ 0 ∷ []) $ join ! $ frame ! $ done !
 
-  next-said : (r : Reader) (l : ℕ) (p : ℕ × GName) (t : Found)
-      → ent 𝓤 (ensured 𝓤 H A next.ended (next.clauses 𝓤 H A mem run) (p .0 ∷ κ, (κ, tt)) (borrowed l (p .1) r, tt) tt t) (fact 𝓤 (t ≡ foundAt (now (r .src)) (r .at)))
-  next-said r l p t = exE 𝓤 _ (λ ws.
-      let φ : Type 0 = (t ≡ foundAt (now (r .src)) (r .at)) × (ws .0 .src ≡ r .src) × (ws .0 .at ≡ cursorAfter t (r .at)) in
-      via 𝓤 (fact 𝓤 φ) (snd∗ 𝓤 (sem 𝓤 H A (lasts next.ended (p .0 ∷ κ, (κ, tt)) (borrowed l (p .1) r, tt) ws)) (fact 𝓤 φ)) (fact-mono 𝓤 φ (t ≡ foundAt (now (r .src)) (r .at)) (λ e. e .0)))
+  next-said : (r : Reader) (l : ℕ) (loan : ℕ × GName) (t : Found)
+      → ent 𝓤 (ensured 𝓤 H A next.ended (next.clauses 𝓤 H A mem run) (loan .0 ∷ κ, (κ, tt)) (borrowed l (loan .1) r, tt) tt t) (fact 𝓤 (t ≡ found r))
+  next-said r l loan t = exE 𝓤 _ (λ ws.
+      let φ : Type 0 = (t ≡ found r) × (ws .0 .src ≡ r .src) × (ws .0 .at ≡ cursorAfter t (r .at)) in
+      via 𝓤 (fact 𝓤 φ) (snd∗ 𝓤 (sem 𝓤 H A (lasts next.ended (loan .0 ∷ κ, (κ, tt)) (borrowed l (loan .1) r, tt) ws)) (fact 𝓤 φ)) (fact-mono 𝓤 φ (t ≡ found r) (λ e. e .0)))
 
-  exits : (t : Found) (u : Val) → t ≡ found → ent 𝓤 (⋆ 𝓤 H A (‵ (S.the-row .own t (u ∷ [])) ∷ (‵ (flft κ q) ⊛ ‵ ftrue) ∷ ‵ Both ∷ [])) (Post u)
+  exits : (t : Found) (u : Val) → t ≡ foundAt (now s) n → ent 𝓤 (⋆ 𝓤 H A (‵ (S.the-row .own t (u ∷ [])) ∷ (‵ (flft κ q) ⊛ ‵ ftrue) ∷ ‵ Both ∷ [])) (Post u)
   exits t u e =
       qed W (‵ (S.the-row .own t (u ∷ [])) ∷ (‵ (flft κ q) ⊛ ‵ ftrue) ∷ ‵ Both ∷ []) ∵
       suffices ! _ (ends-at 𝓤 H A read.ended stayed (read.clauses 𝓤 H A mem run) W (((κ, tt), (q, tt), tt, (s, (n, tt)), at), tt) u t (tt, (tt, tt)) (tt, (tt, tt))) $ says ! e $
@@ -150,16 +147,16 @@ module _ {M : Type 1} (𝓤 : URA M) (H : Heap 𝓤) (A : Atoms 𝓤) (W : Given
         assigns ! (of-opd ! (load ! (from ! (stop !)) (look ! 5 refl))) (from ! (stop !)) (init ! 7 refl (LL.lawful (T.the-type αᵉ) (T′.the-laws αᵉ) 𝓤 H A W .typed r _ is .0)) $
         assigns ! (addr ! (from ! (stop !))) (from ! (stop !)) (init ! 3 refl (tt, tt)) $
         -- the reader in _3 is lent
-        move ! (1 ∷ 7 ∷ 0 ∷ []) $ use3 W (later (some (λ (p : ℕ × GName). raw (Tokens 𝓤 H A W κ q l₃ (p .0)) ⊛ ‵ (Borrow 𝓤 H A W κ q l₃ (p .0) (p .1) r) ⊛ raw (Kept 𝓤 H A W κ q l₃ (p .0) (p .1))))) (lends 𝓤 H A W κ q l₃ r u) $ await ! tt $ pick ! (λ p. split3 ! $
-        use2 W (raw (Next 𝓤 H A mem run .pre (to-next r l₃ p))) (goes-next r l₃ p) $
+        move ! (1 ∷ 7 ∷ 0 ∷ []) $ use3 W (later (some (λ (loan : ℕ × GName). raw (Tokens 𝓤 H A κ q (loan .0)) ⊛ ‵ (Borrowed κ l₃ (loan .0) (loan .1) r) ⊛ raw (Kept 𝓤 H A W κ q l₃ (loan .0) (loan .1))))) (lends 𝓤 H A W κ q l₃ r u) $ await ! tt $ pick ! (λ loan. split3 ! $
+        use2 W (raw (Next 𝓤 H A mem run .pre (to-next r l₃ loan))) (goes-next r l₃ loan) $
         -- [what `next` asks; what the lender keeps; what the two own; _5; …; _4; …; …; _2; …; _1; …; room for _0; …]
-        calls-at ! fm (Next 𝓤 H A mem run) known-next (to-next r l₃ p) (and-then ! (load ! (from ! (stop !)) (look ! 3 refl)) (no-more !)) (λ u′.
-        use1 W (later (some (λ (t : Found). (raw (Tokens 𝓤 H A W κ q l₃ (p .0)) ⊛ ‵ (S.the-row .own t (u′ ∷ []))) ⊛ raw (ensured 𝓤 H A next.ended (next.clauses 𝓤 H A mem run) (p .0 ∷ κ, (κ, tt)) (borrowed l₃ (p .1) r, tt) tt t)))) (id⊢ 𝓤 _) $ await ! tt $ pick ! (λ t.
-        split ! $ move ! (1 ∷ []) $ use1 W (raw (fact 𝓤 (t ≡ foundAt (now (r .src)) (r .at)))) (next-said r l₃ p t) $ heard ! (t ≡ foundAt (now (r .src)) (r .at)) (λ e′. split ! $ move ! (1 ∷ []) $
+        calls-at ! fm (Next 𝓤 H A mem run) known-next (to-next r l₃ loan) (and-then ! (load ! (from ! (stop !)) (look ! 3 refl)) (no-more !)) (λ u′.
+        use1 W (later (some (λ (t : Found). (raw (Tokens 𝓤 H A κ q (loan .0)) ⊛ ‵ (S.the-row .own t (u′ ∷ []))) ⊛ raw (ensured 𝓤 H A next.ended (next.clauses 𝓤 H A mem run) (loan .0 ∷ κ, (κ, tt)) (borrowed l₃ (loan .1) r, tt) tt t)))) (id⊢ 𝓤 _) $ await ! tt $ pick ! (λ t.
+        split ! $ move ! (1 ∷ []) $ use1 W (raw (fact 𝓤 (t ≡ found r))) (next-said r l₃ loan t) $ heard ! (t ≡ found r) (λ e′. split ! $ move ! (1 ∷ []) $
         -- [the result; the tokens; what the lender keeps; what the two own; _5; …; _4; …; …; _2; …; _1; …; room for _0; …]
         peeks ! S.the-row (Is S.the-row) (shows 𝓤 H A S.the-row) t (u′ ∷ []) (λ is′.
         land ! (from ! (stop !)) (init ! 13 refl (EL.lawful S.the-type S′.the-laws 𝓤 H A W tt .typed t _ is′ .0)) $
-        move ! (1 ∷ 2 ∷ []) $ use2 W (later ((‵ (flft κ q) ⊛ ‵ ftrue) ⊛ some (λ (d : Reader). ‵ (Cell 𝓤 H A W κ q l₃ (T′.lowered d))))) (ends 𝓤 H A W κ q l₃ (p .0) (p .1)) $ await ! tt $ split ! $ move ! (1 ∷ []) $ pick ! (λ d.
+        move ! (1 ∷ 2 ∷ []) $ use2 W (later ((‵ (flft κ q) ⊛ ‵ ftrue) ⊛ some (λ (d : Reader). ‵ (Cell l₃ (T′.lowered d))))) (ends 𝓤 H A W κ q l₃ (loan .0) (loan .1)) $ await ! tt $ split ! $ move ! (1 ∷ []) $ pick ! (λ d.
         -- [_3; the token; the result; what the two own; _5; …; _4; …; _3's …; _2; …; _1; …; _0; …]
         returns ! (look ! 13 refl) $ forget ! 0 refl $ forget ! 4 refl $ forget ! 6 refl $ forget ! 9 refl $ forget ! 11 refl $ forget ! 13 refl $
         move ! (13 ∷ 14 ∷ []) $ free1 ! $ move ! (11 ∷ 12 ∷ []) $ free1 ! $ move ! (9 ∷ 10 ∷ []) $ free1 ! $ move ! (0 ∷ 8 ∷ []) $ free1 ! $ move ! (5 ∷ 6 ∷ []) $ free1 ! $ move ! (3 ∷ 4 ∷ []) $ free1 ! $ free0 ! $
