@@ -47,24 +47,27 @@ pub fn next<'s, 'a>(r: &'s mut Reader<'a>) -> Found
     found
 }
 
-// What a reader that stands at a cursor of a file answers. The parameters are plain, so that a caller's proof needs
-// no reader; it is for cursors that an opening or a record gave.
+// Opens a file and answers the verdict. The parameters of this function and of `read` are plain, so that a caller's
+// proof needs no reader.
+pub fn open_file(file: &[u8]) -> Verdict
+    ensures { λ v. ⌜ v ≡ verdictOf (now (file .entry)) ⌝ }
+{
+    let mut r = new(file);
+    open(&mut r)
+}
+
+// What a reader of a file that stands at a cursor finds next; for cursors that an opening or a record gave.
 pub fn read(file: &[u8], at: usize) -> Found
     ensures { λ f. ⌜ f ≡ foundAt (now (file .entry)) at ⌝ }
 {
-    peek(place(file, at))
+    let mut r = place(file, at);
+    next(&mut r)
 }
 
 fn place<'a>(src: &'a [u8], at: usize) -> Reader<'a>
     ensures { λ r. ⌜ (r .src ≡ src .entry) × (r .at ≡ at) ⌝ }
 {
     Reader { src, at }
-}
-
-fn peek<'a>(r: Reader<'a>) -> Found
-    ensures { λ f. ⌜ f ≡ foundAt (now (r .entry .src)) (r .entry .at) ⌝ }
-{
-    record_at(r.src, r.at)
 }
 
 fn size(file: &[u8]) -> usize
