@@ -11,8 +11,8 @@ use journal::append::empty;
 use journal::file::FILE_HEAD;
 use journal::file::Refusal;
 use journal::file::Verdict;
-use journal::file::check;
 use journal::file::refusal_number;
+use journal::reader::open_file;
 use journal::reader::read;
 use journal::record::Found;
 
@@ -23,7 +23,7 @@ pub extern "C" fn rotundaaloe_journal_open(file: &[u8], cursor: &mut usize) -> u
     ensures number { λ r. ⌜ r ≡ openNumber (now (file .entry)) ⌝ }
     ensures cursor { λ r. ⌜ now (cursor .exit) ≡ openCursor (now (file .entry)) (now (cursor .entry)) ⌝ }
 {
-    match check(file) {
+    match open_file(file) {
         Verdict::Refused(refusal) => refusal_number(refusal),
         Verdict::Readable => {
             *cursor = FILE_HEAD;

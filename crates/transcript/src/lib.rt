@@ -13,7 +13,7 @@ ghost use Rattle.transcript.specs.Steps.{Answered, Replayed};
 use guard::call;
 use journal::file::FILE_HEAD;
 use journal::file::Verdict;
-use journal::file::check;
+use journal::reader::open_file;
 use journal::reader::read;
 use journal::record::Found;
 use lines::file_line;
@@ -31,7 +31,7 @@ pub const MOST_PRINTED: usize = 145600;
 pub fn transcript(file: &[u8], buffer: &mut [u8; MOST_PRINTED]) -> usize
     ensures { λ r. ⌜ Prints (now (file .entry)) (now (buffer .entry)) (now (buffer .exit)) r ⌝ }
 {
-    match check(file) {
+    match open_file(file) {
         Verdict::Refused(refusal) => file_line(buffer, 0, refusal),
         Verdict::Readable => {
             let mut registry = [0u32; 8];

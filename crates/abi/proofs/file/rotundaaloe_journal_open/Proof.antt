@@ -7,16 +7,16 @@ use Rattle.abi.proofs.file.rotundaaloe_journal_open.Tie as tie
 returns : tie.Need-returns
 returns c =
     let arm = c .before .before in
-    rw (← arm .before .before .check .ensures, arm .refusal .given .1) (c .refusal-number .ensures, refl)
+    rw (← arm .before .before .open-file .ensures, arm .refusal .given .1) (c .refusal-number .ensures, refl)
 
 returns-2 : tie.Need-returns-2
-returns-2 c = rw (← c .before .before .check .ensures, c .enum-told .given .1) (refl, refl)
+returns-2 c = rw (← c .before .before .open-file .ensures, c .enum-told .given .1) (refl, refl)
 
 pub rotundaaloe-journal-open-spec : {M : Type 1} → statement M
 rotundaaloe-journal-open-spec =
     tie.close
     (tie.spec
-    (λ c κs. search needs)  -- check-requires
+    (λ c κs. search needs)  -- open-file-requires
     (λ c. search needs)  -- enum-known-refusal
     (λ c κs. search needs)  -- refusal-number-requires
     (λ c. search needs)  -- enum-told
