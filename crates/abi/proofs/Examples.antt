@@ -1,9 +1,9 @@
--- By computing, and by what division leaves. Assumes nothing.
+-- By computing, and by what division leaves.
 use mathlib.Core.Path.{_≡_, refl}
 use Prim.Native.Nat.{ℕ, _+_, _*_, _/_, _%_, _<_}
 use native.Mathlib.Omega.{arith}
 use Rattle.model.specs.Answers.{answerNumber, answerValue}
-use Rattle.abi.specs.Examples.{CodeTakenApart, Examples}
+use Rattle.abi.specs.Theorems.Examples.{CodeTakenApart, Examples}
 
 apart : (m n : ℕ) → n < 65536 → ((m * 65536 + n) / 65536 ≡ m) × ((m * 65536 + n) % 65536 ≡ n)
 apart m n h = (omega arith, omega arith)

@@ -1,4 +1,4 @@
--- The cursor steps from whole record to whole record, and stays at the end: by induction on the number of calls. Assumes nothing.
+-- The cursor steps from whole record to whole record, and stays at the end: by induction on the number of calls.
 use Prim.Native.Nat.{ℕ, zero, suc, _+_}
 use mathlib.Core.Path.{_≡_, refl}
 use mathlib.Core.Bool.{true}
@@ -7,7 +7,7 @@ use native.Mathlib.Omega.{arith}
 use lib.ListN.{length, take, drop, length-drop}
 use lib.Seq.{length-take-le}
 use borrow.Author.Tests.{eqb-true}
-use Rattle.call.proofs.Truth.{and-left, and-right}
+use Rattle.base.proofs.Truth.{and-left, and-right}
 use Rattle.journal.specs.declared.file.Refusal.{Refusal}
 use Rattle.journal.specs.declared.file.Refusal.the-variants.{Full, NotJournal, OtherVersion, Corrupt}
 use Rattle.journal.specs.declared.file.Verdict.{Verdict}
@@ -15,9 +15,9 @@ use Rattle.journal.specs.declared.file.Verdict.the-variants.{Readable, Refused}
 use Rattle.journal.specs.Format.{fileHeadSize, countAt}
 use Rattle.journal.specs.Verdicts.{refusalNumber, verdictNumber}
 use Rattle.journal.specs.Reading.{word, nextOf, wholeAt, wholeFrom, recordsFrom, recordsOf, verdictOf}
-use Rattle.journal.proofs.Finding.{found-record, found-end}
+use Rattle.journal.proofs.RecordSizes.{found-record, found-end}
 use Rattle.journal.proofs.Files.{whole, open-file}
-use Rattle.abi.specs.FilesInOrder.{nextCalls, leftFor, FilesInOrder}
+use Rattle.abi.specs.Theorems.FilesInOrder.{nextCalls, leftFor, FilesInOrder}
 
 -- only a readable file is numbered 0
 number-readable : (v : Verdict) → verdictNumber v ≡ 0 → v ≡ Readable

@@ -1,4 +1,4 @@
 pub mod Outcomes
-pub mod Telling
 pub mod FilesInOrder
 pub mod Examples
+pub mod AnswerCodes

@@ -1,4 +1,4 @@
--- The answer of each outcome: the number and the rows that a caller in C gets. Assumes nothing.
+-- The answer of each outcome: the number and the rows that a caller in C gets.
 use mathlib.Core.Path.{_≡_, refl, ap, ap₂, _∙_}
 use mathlib.Core.Bool.{cond}
 use mathlib.Core.List.{List, [], map}
@@ -8,15 +8,15 @@ use lib.Dec.{eqb}
 use lib.ListN.{length, getD, List·getD-map}
 use Rattle.product.specs.Sum.{mostProducts}
 use Rattle.product.specs.Cells.{rowsOf}
-use Rattle.product.proofs.Lists.{read, read-all}
-use Rattle.product.proofs.Filling.{rows-length}
+use Rattle.base.proofs.Parts.{read, read-all}
+use Rattle.product.proofs.FilledRows.{rows-length}
 use Rattle.formula.specs.declared.text.Issued.{Issued}
 use Rattle.formula.specs.declared.text.Row.{Row}
 use Rattle.formula.specs.declared.text.Compiled.{Compiled}
 use Rattle.formula.specs.Outcome.{Outcome, accepted, malformed, tooWide, unsatisfiable, outcomeOf, refusalNumber, verdictOf, sumIn, rowWith, compiledOf}
 use Rattle.formula.proofs.Opening.{laws}
 use Rattle.abi.specs.Answers.{numberIn, rowsIn}
-use Rattle.abi.specs.Steps.{cellsAt, eightCells}
+use Rattle.abi.specs.Internal.{cellsAt, eightCells}
 
 cells-at : (l : List (List ℕ)) (i : ℕ) → cellsAt (map rowWith l) i ≡ getD l i []
 cells-at l i = ap (λ (r : Row). r .cells) (List·getD-map rowWith l i [])

@@ -1,4 +1,4 @@
--- How a caller in C sees an answer of the guard: one number, with the arrays afterwards. Assumes nothing.
+-- How a caller in C sees an answer of the guard: one number, with the arrays afterwards.
 use mathlib.Core.Path.{_≡_}
 use mathlib.Core.List.{List}
 use Prim.Native.Nat.{ℕ, _+_, _*_}

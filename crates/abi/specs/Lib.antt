@@ -1,6 +1,5 @@
 pub mod Answers
-pub mod Steps
 pub mod Files
-pub mod FilesInOrder
 pub mod Calls
-pub mod Examples
+pub mod Theorems
+pub mod Internal

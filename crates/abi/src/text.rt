@@ -4,7 +4,7 @@ ghost use mathlib.Core.Path.{_≡_};
 ghost use mathlib.Core.Bool.{cond};
 ghost use Rattle.formula.specs.Outcome.{outcomeOf};
 ghost use Rattle.abi.specs.Answers.{issuedWith, numberIn, rowsIn};
-ghost use Rattle.abi.specs.Steps.{eightCells};
+ghost use Rattle.abi.specs.Internal.{eightCells};
 use formula::text::Issued;
 use formula::text::Row;
 use formula::text::compile;

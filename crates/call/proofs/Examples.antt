@@ -1,7 +1,7 @@
--- Every example is computed. Assumes nothing.
+-- Every example is computed.
 use mathlib.Core.Path.{refl}
 use Rattle.call.specs.Calls.{decodedOf, recordFits}
-use Rattle.call.specs.Examples.{Examples}
+use Rattle.call.specs.Theorems.Examples.{Examples}
 
 pub examples : Examples
 unfolding decodedOf recordFits

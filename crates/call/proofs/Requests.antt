@@ -1,5 +1,5 @@
 -- Each row of the table fixes the letter, and the fields that it does not name to 0: one induction over the table, for any property of the request that
--- is found. The other way round the call of a request is decoded by computing. Assumes nothing.
+-- is found. The other way round the call of a request is decoded by computing.
 use mathlib.Core.Path.{_≡_, refl, sym, subst}
 use mathlib.Core.Bool.{Bool, true, false, cond, _&&_, _||_}
 use mathlib.Core.List.{List, [], _∷_}
@@ -12,10 +12,10 @@ use Rattle.call.specs.declared.request.Request.{Request}
 use Rattle.call.specs.declared.request.Request.the-variants.{NewUser, StartThread, EndThread, NewSegment, NewKey, GiveKey, TakeKey, AddLock, DropLock, CallSegment, ReturnCall, Access}
 use Rattle.call.specs.declared.request.Decoded.{Decoded}
 use Rattle.call.specs.declared.request.Decoded.the-variants.{WellFormed, Corrupt}
-use Rattle.call.proofs.Truth.{and-left, and-right}
-use Rattle.call.specs.Calls.{letterU, letterS, letterE, letterN, letterK, letterG, letterT, letterL, letterD, letterC, letterR, letterA}
-use Rattle.call.specs.Calls.{Call, callWith, Row, table, unnamedZero, textNamed, decodedIn, decodedOf}
-use Rattle.call.specs.Requests.{callOf, RequestsExactly}
+use Rattle.base.proofs.Truth.{and-left, and-right}
+use Rattle.call.specs.Calls.{letterU, letterS, letterE, letterN, letterK, letterG, letterT, letterL, letterD, letterC, letterR, letterA, Call, callWith, Row, table, unnamedZero, textNamed, decodedIn, decodedOf}
+use Rattle.call.specs.Requests.{callOf}
+use Rattle.call.specs.Theorems.Requests.{RequestsExactly}
 
 -- ---- what a row's tests say
 

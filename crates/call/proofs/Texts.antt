@@ -1,4 +1,4 @@
--- A record's text is short; and once the text has the right length, the fields are judged as without one. Assumes nothing.
+-- A record's text is short; and once the text has the right length, the fields are judged as without one.
 use mathlib.Core.Path.{_≡_, refl, sym, ap, _∙_}
 use mathlib.Core.Bool.{Bool, true, false, cond, _&&_, _||_, or-true, and-false}
 use mathlib.Core.List.{List, [], _∷_}
@@ -9,7 +9,7 @@ use borrow.Author.Tests.{eqb-true, leb-true}
 use Rattle.call.specs.declared.request.Request.{Request}
 use Rattle.call.specs.declared.request.Decoded.{Decoded}
 use Rattle.call.specs.declared.request.Decoded.the-variants.{WellFormed, Corrupt}
-use Rattle.call.proofs.Truth.{and-right}
+use Rattle.base.proofs.Truth.{and-right}
 use Rattle.call.specs.Calls.{Row, table, textNamed, decodedIn, isWellFormed, decodedOf, textFits, recordFits}
 
 short : (lock : Bool) (n : ℕ) → cond lock (leb 1 n && leb n 96) (eqb n 0) ≡ true → n ≤ 96

@@ -1,5 +1,5 @@
 -- Document 01, 'Twelve calls': a call is a letter, three fields and a text; the table of the letters with the fields that each names; and, from
--- 'Desk file', the calls that a record can hold. Assumes nothing.
+-- 'Desk file', the calls that a record can hold.
 use mathlib.Core.Bool.{Bool, true, false, cond, _&&_, _||_}
 use mathlib.Core.List.{List, [], _∷_}
 use Prim.Native.Nat.{ℕ}

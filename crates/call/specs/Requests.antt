@@ -1,13 +1,10 @@
 -- There is one request for each well formed call, and one well formed call for each request (and text, of a lock). Proved in `proofs/Requests.antt`.
--- Assumes nothing.
-use mathlib.Core.Path.{_≡_}
+--
 use mathlib.Core.List.{List, []}
-use mathlib.Core.Logic.{_↔_}
 use Prim.Native.Nat.{ℕ}
 use Rattle.call.specs.declared.request.Request.{Request}
 use Rattle.call.specs.declared.request.Request.the-variants.{NewUser, StartThread, EndThread, NewSegment, NewKey, GiveKey, TakeKey, AddLock, DropLock, CallSegment, ReturnCall, Access}
-use Rattle.call.specs.declared.request.Decoded.the-variants.{WellFormed}
-use Rattle.call.specs.Calls.{Call, callWith, decoded}
+use Rattle.call.specs.Calls.{Call, callWith}
 use Rattle.call.specs.Calls.{letterU, letterS, letterE, letterN, letterK, letterG, letterT, letterL, letterD, letterC, letterR, letterA}
 
 -- the call of a request; t is the text of a lock
@@ -24,7 +21,3 @@ callOf (DropLock a b) t = callWith letterD a b 0 []
 callOf (CallSegment a b) t = callWith letterC a b 0 []
 callOf (ReturnCall a) t = callWith letterR a 0 0 []
 callOf (Access a b c) t = callWith letterA a b c []
-
-abbrev pub RequestsExactly : Type 0
-RequestsExactly =
-    (x : Call) (q : Request) → (decoded x ≡ WellFormed q) ↔ (x ≡ callOf q (x .text))

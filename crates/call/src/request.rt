@@ -1,7 +1,7 @@
 // A call's letter and fields as a request.
 ghost use mathlib.Core.Path.{_≡_};
 ghost use Rattle.call.specs.Calls.{unnamedZero, decodedOf};
-ghost use Rattle.call.specs.Steps.{lineOf};
+ghost use Rattle.call.specs.Internal.{lineOf};
 
 // A well formed call, with the fields that its letter names; beside each stands its letter and document 01's word.
 // The text of a lock is not in it.

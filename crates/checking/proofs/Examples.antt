@@ -1,9 +1,9 @@
--- By computing. Assumes nothing.
+-- By computing.
 use mathlib.Core.Path.{refl}
 use Rattle.product.specs.Atom.{orderOf, compareAtoms}
 use Rattle.product.specs.Product.{opens}
 use Rattle.checking.specs.Deciding.{checkOf}
-use Rattle.checking.specs.Examples.{Examples}
+use Rattle.checking.specs.Theorems.Examples.{Examples}
 
 pub examples : Examples
 unfolding orderOf compareAtoms opens checkOf

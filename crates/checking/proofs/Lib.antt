@@ -1,4 +1,4 @@
-pub mod Codes
-pub mod Turns
-pub mod Deciding
 pub mod Examples
+pub mod DecidingRow
+pub mod KeyCells
+pub mod LoopSteps

@@ -1,18 +1,16 @@
--- Document 01, 'Operations and the check', on a thread's table and the table of a segment's product rows: what the check answers. Assumes nothing.
-use mathlib.Core.Path.{_≡_}
+-- Document 01, 'Operations and the check', on a thread's table and the table of a segment's product rows: what the check answers.
 use mathlib.Core.Bool.{Bool, cond}
 use mathlib.Core.List.{map}
 use mathlib.Core.Option.{Option}
 use Prim.Native.Nat.{ℕ}
-use Rattle.model.specs.declared.answer.Refusal.{Refusal}
 use Rattle.model.specs.declared.answer.Refusal.the-variants.{Denied as DeniedBy, NotGranted as NoneGrants}
 use Rattle.model.specs.declared.answer.Answer.{Answer}
 use Rattle.model.specs.declared.answer.Answer.the-variants.{Accepted, Refused}
-use Rattle.model.specs.Answers.{answerNumber, answerValue}
-use Rattle.model.specs.Lists.{first, isSome}
+use Rattle.base.specs.Lists.{first, isSome}
 use Rattle.model.specs.Operations.{denies, grants, isOperation}
 use Rattle.model.specs.Threads.{KeySet, keySet}
-use Rattle.model.specs.Model.{LockProduct, opensFor, lockOf}
+use Rattle.model.specs.State.{LockProduct}
+use Rattle.model.specs.Refusals.{opensFor, lockOf}
 use Rattle.model.specs.Cells.{Table, cell, rowAt, numberCell, userCell, framesOf, depthOf, usedRows, productIn}
 use Rattle.checking.specs.declared.Checked.{Checked}
 use Rattle.checking.specs.declared.Checked.the-variants.{Granted, Denied, NotGranted}
@@ -52,7 +50,3 @@ abbrev pub answerOf : Checked → Answer
 answerOf (Granted lock) = Accepted lock
 answerOf (Denied lock) = Refused (DeniedBy lock)
 answerOf NotGranted = Refused NoneGrants
-
--- which has the same number and value. Proved in `proofs/Deciding.antt`.
-abbrev pub SameNumbers : Type 0
-SameNumbers = (k : Checked) → (answerNumber (answerOf k) ≡ checkedNumber k) × (answerValue (answerOf k) ≡ checkedValue k)

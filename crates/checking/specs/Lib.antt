@@ -1,3 +1,3 @@
 pub mod Deciding
-pub mod Steps
-pub mod Examples
+pub mod Theorems
+pub mod Internal

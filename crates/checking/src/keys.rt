@@ -5,7 +5,7 @@ ghost use Prim.Native.Nat.{_≤_};
 ghost use Rattle.product.specs.Atom.{agrees, atomOf};
 ghost use Rattle.model.specs.Cells.{literalIn};
 ghost use Rattle.checking.specs.Deciding.{keysAt};
-ghost use Rattle.checking.specs.Steps.{hasCode, inherited, listable, Clamped};
+ghost use Rattle.checking.specs.Internal.{hasCode, inherited, listable, Clamped};
 use model::arrays::BARRED_LISTED;
 use model::arrays::BARRED_OWN;
 use model::arrays::DEFINED_CODES;

@@ -3,7 +3,7 @@ ghost use mathlib.Core.Path.{_≡_};
 ghost use Prim.Native.Nat.{_+_, _≤_};
 ghost use lib.ListN.{length};
 ghost use Rattle.checking.specs.Deciding.{checkOf, answerOf};
-ghost use Rattle.checking.specs.Steps.{openingOf, headChecked, codeChecked, deniesFrom};
+ghost use Rattle.checking.specs.Internal.{openingOf, headChecked, codeChecked, deniesFrom};
 use crate::keys::agrees;
 use crate::keys::clamp;
 use crate::keys::literal_in;

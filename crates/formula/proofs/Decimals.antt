@@ -1,5 +1,5 @@
 -- The reader of a number and the spelling of one undo each other. Read digit by digit, a number is ten times what was read and the next
--- digit; spelt, it is what is spelt of its tenth part and the last digit. Assumes nothing.
+-- digit; spelt, it is what is spelt of its tenth part and the last digit.
 use mathlib.Core.Path.{_≡_, refl, ap, sym, _∙_}
 use mathlib.Core.Bool.{Bool, true, false, not, cond, _&&_}
 use mathlib.Core.List.{List, [], _∷_, _++_, append-assoc}
@@ -9,9 +9,9 @@ use native.Mathlib.Omega.{arith}
 use lib.Dec.{ltb, leb, eqb}
 use lib.ListN.{getD}
 use borrow.Author.Tests.{ltb-true, ltb-false, leb-true, eqb-true, eqb-false, lt-ltb, le-ltb, le-leb, ne-eqb}
-use Rattle.product.proofs.Truth.{and-both}
+use Rattle.base.proofs.Truth.{and-both}
 use Rattle.formula.specs.Spelling.{digits, decimal}
-use Rattle.formula.specs.Reader.{digit, readDigits, readNumber}
+use Rattle.formula.specs.Internal.Reader.{digit, readDigits, readNumber}
 
 pub digit-range : (b : ℕ) → digit b ≡ true → (48 ≤ b) × (b ≤ 57)
 digit-range b h = let e = and-both (leb 48 b) (leb b 57) h in (leb-true 48 b (e .0), leb-true b 57 (e .1))

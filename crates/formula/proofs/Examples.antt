@@ -1,4 +1,4 @@
--- Each answer is computed. Assumes nothing.
+-- Each answer is computed.
 use mathlib.Core.Path.{refl}
 use Rattle.product.specs.Atom.{orderOf, compareAtoms, compareLiterals}
 use Rattle.product.specs.Product.{opens, insert, union, clashes, contradictory, sameProduct}
@@ -8,10 +8,11 @@ use Rattle.product.specs.Held.{member}
 use Rattle.formula.specs.Text.{issuedTo}
 use Rattle.formula.specs.Tree.{holds}
 use Rattle.formula.specs.Nodes.{products, fits, listOf}
-use Rattle.formula.specs.Reader.{readDigits, readNumber, readAtom, readNots, readText}
+use Rattle.formula.specs.Internal.Reader.{readDigits, readNumber, readAtom, readNots, readText}
 use Rattle.formula.specs.Outcome.{outcomeOf}
-use Rattle.formula.specs.Opening.{textHolds}
-use Rattle.formula.specs.Examples.{bytes, Examples, FurtherExamples}
+use Rattle.formula.specs.Meaning.{textHolds}
+use Rattle.base.specs.Bytes.{bytes}
+use Rattle.formula.specs.Theorems.Examples.{Examples, FurtherExamples}
 
 pub examples : Examples
 unfolding bytes outcomeOf issuedTo readText readNots readAtom readNumber readDigits listOf products fits fitsNode narrow firsts consistent present sameProduct joinAll joinEach union insert contradictory clashes compareLiterals compareAtoms orderOf keyCode codeOf

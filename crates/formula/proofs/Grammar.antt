@@ -1,14 +1,14 @@
 -- A text is malformed exactly where it is in the grammar as no formula, and it is in the grammar as one formula at most: the reader, which
--- is a function, answers each. Assumes nothing.
+-- is a function, answers each.
 use mathlib.Core.Path.{_≡_, refl, sym, _∙_}
 use mathlib.Core.Bool.{false}
 use Rattle.formula.specs.Tree.{ors, Tree}
 use Rattle.formula.specs.Text.{issuedTo, Text}
 use Rattle.formula.specs.Nodes.{listOf}
 use Rattle.formula.specs.Outcome.{Outcome, malformed}
-use Rattle.formula.specs.Grammar.{MalformedExactly, Unambiguous}
-use Rattle.formula.proofs.Reading.{reader-complete}
-use Rattle.formula.proofs.Judging.{text-spells, outcome-text, Judged, formula, none-such, judged, judged-formed}
+use Rattle.formula.specs.Theorems.Grammar.{MalformedExactly, Unambiguous}
+use Rattle.formula.proofs.ReaderCorrect.{reader-complete}
+use Rattle.formula.proofs.Outcomes.{text-spells, outcome-text, Judged, formula, none-such, judged, judged-formed}
 
 pub malformed-exactly : MalformedExactly
 malformed-exactly i s = (λ e t h. judged-formed (listOf false t) (sym (outcome-text i s h) ∙ e), λ n. go (judged i s) n)

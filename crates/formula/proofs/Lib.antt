@@ -1,12 +1,12 @@
 pub mod Decimals
-pub mod Reading
 pub mod Nodes
-pub mod Judging
 pub mod Grammar
 pub mod Width
 pub mod Unsatisfiable
 pub mod Opening
 pub mod Examples
 pub mod Numerals
-pub mod Walking
-pub mod Answering
+pub mod CompiledAnswers
+pub mod Outcomes
+pub mod ReaderCorrect
+pub mod ReaderSteps

@@ -1,6 +1,6 @@
 -- The products of a node: for which valuations they open, that none is contradictory, that each is in order, and that their atoms are the
 -- tree's. Each is an induction on the tree over the law for AND and OR. And a node's list, or none, is made of its parts' lists.
--- Assumes nothing.
+--
 use mathlib.Core.Path.{_≡_, refl, sym, _∙_}
 use mathlib.Core.Bool.{Bool, true, false, not, cond, _&&_, _||_, and-true, or-false, Bool·not-not}
 use mathlib.Core.List.{[], _∷_, _++_}
@@ -14,10 +14,10 @@ use Rattle.product.specs.declared.literal.Literal.the-variants.{Plain, Barred}
 use Rattle.product.specs.Atom.{Atom, atomOf}
 use Rattle.product.specs.Product.{Product, opens, clashes, contradictory, All, no-more, and-more}
 use Rattle.product.specs.Sum.{Sum, opensAny, joinAll, conjoin, disjoin, narrow, fitsNode, joined}
-use Rattle.product.proofs.Truth.{and-both, and-last, both-and, true-false}
-use Rattle.product.proofs.Every.{all-append, all-union, all-tidy, all-join, Consistent, tidy-consistent}
-use Rattle.product.proofs.Opening.{any-conjoin, any-disjoin, plains, any-own}
-use Rattle.product.proofs.Ordered.{Ordered, ordered-single, ordered-conjoin, ordered-disjoin}
+use Rattle.base.proofs.Truth.{and-both, and-last, both-and, true-false}
+use Rattle.product.proofs.EveryLiteral.{all-append, all-union, all-tidy, all-join, Consistent, tidy-consistent}
+use Rattle.product.proofs.Valuations.{any-conjoin, any-disjoin, plains, any-own}
+use Rattle.product.proofs.OrderedProducts.{Ordered, ordered-single, ordered-conjoin, ordered-disjoin}
 use Rattle.formula.specs.Tree.{Level, nots, ands, ors, Tree, atom, negate, bracket, factor, and, term, or, holds}
 use Rattle.formula.specs.Text.{everyAtom}
 use Rattle.formula.specs.Nodes.{literal, joinAnd, joinOr, products, fits, listOf}

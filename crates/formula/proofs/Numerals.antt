@@ -1,4 +1,4 @@
--- Reading a number at a place of a text: the digits one by one, and the ways that a number begins. Assumes nothing.
+-- Reading a number at a place of a text: the digits one by one, and the ways that a number begins.
 use mathlib.Core.Path.{_≡_}
 use mathlib.Core.Bool.{Bool, true, false, cond, _&&_}
 use mathlib.Core.List.{List, [], _∷_}
@@ -9,8 +9,8 @@ use native.Mathlib.Omega.{arith}
 use lib.Dec.{eqb}
 use lib.ListN.{length, getD, drop}
 use lib.Seq.{drop-cons, getD-drop}
-use Rattle.product.proofs.Lists.{head-drop}
-use Rattle.formula.specs.Reader.{digit, readDigits, readNumber}
+use Rattle.base.proofs.Parts.{head-drop}
+use Rattle.formula.specs.Internal.Reader.{digit, readDigits, readNumber}
 use Rattle.formula.proofs.Decimals.{digits-end as digits-over}
 
 -- a number does not fall with its digits

@@ -1,4 +1,4 @@
--- The opening law of an accepted text, its bounds, and with them the laws of the compiler. Assumes nothing.
+-- The opening law of an accepted text, its bounds, and with them the laws of the compiler.
 use mathlib.Core.Path.{_≡_, refl, sym, ap, _∙_}
 use mathlib.Core.Bool.{true, false}
 use mathlib.Core.List.{List, [], _∷_}
@@ -15,20 +15,21 @@ use Rattle.product.specs.Product.{All, no-more, and-more}
 use Rattle.product.specs.Sum.{Sum, opensAny, mostProducts, mostLiterals, narrow, fitsNode}
 use Rattle.product.specs.Code.{numberLimit, Numbered}
 use Rattle.product.specs.Held.{opensSum}
-use Rattle.product.proofs.Truth.{and-both}
-use Rattle.product.proofs.Every.{all-mapped}
-use Rattle.product.proofs.Storing.{sum-back}
-use Rattle.product.proofs.Ordered.{Ordered, ordered-once}
+use Rattle.base.proofs.Truth.{and-both}
+use Rattle.product.proofs.EveryLiteral.{all-mapped}
+use Rattle.product.proofs.StoredSums.{sum-back}
+use Rattle.product.proofs.OrderedProducts.{Ordered, ordered-once}
 use Rattle.formula.specs.declared.text.Issued.{Issued}
 use Rattle.formula.specs.Tree.{ors, Tree}
 use Rattle.formula.specs.Text.{Text, issuedOf, issuedTo, allIssued}
 use Rattle.formula.specs.Nodes.{products, fits}
 use Rattle.formula.specs.Outcome.{Outcome, accepted, tooWide, judgeList, outcomeOf}
 use Rattle.formula.specs.Compiler.{Kept, Bounded, everything, Laws}
-use Rattle.formula.specs.Opening.{Opened, OpeningLaw, AcceptedWhere, textHolds, HoldsSpelt, StoredLaw, StoredOpens}
-use Rattle.formula.proofs.Reading.{reader-complete}
+use Rattle.formula.specs.Theorems.Opening.{Opened, OpeningLaw, AcceptedWhere, HoldsSpelt, StoredLaw, StoredOpens}
+use Rattle.formula.specs.Meaning.{textHolds}
+use Rattle.formula.proofs.ReaderCorrect.{reader-complete}
 use Rattle.formula.proofs.Nodes.{opening, every-atom, every-more, products-ordered, products-atoms, products-witness, fits-node}
-use Rattle.formula.proofs.Judging.{outcome-text, Judged, formula, none-such, judged, list-fits, judged-fits, judged-accepted}
+use Rattle.formula.proofs.Outcomes.{outcome-text, Judged, formula, none-such, judged, list-fits, judged-fits, judged-accepted}
 
 -- the bounds
 

@@ -1,12 +1,13 @@
 -- A text is unsatisfiable exactly where it is in the grammar, every node fits and no valuation makes its formula true: then its list is
--- empty, since each product of a list opens for some valuation. Assumes nothing.
+-- empty, since each product of a list opens for some valuation.
 use mathlib.Core.Path.{_≡_, _∙_}
 use Prim.Native.Nat.{ℕ}
 use native.Mathlib.Omega.{arith}
 use Rattle.formula.specs.Outcome.{Outcome, tooWide, unsatisfiable}
-use Rattle.formula.specs.Unsatisfiable.{Never, UnsatisfiableExactly}
+use Rattle.formula.specs.Refusals.{Never}
+use Rattle.formula.specs.Theorems.Unsatisfiable.{UnsatisfiableExactly}
 use Rattle.formula.proofs.Nodes.{products-empty}
-use Rattle.formula.proofs.Judging.{outcome-text, Judged, formula, none-such, judged, list-fits, judged-fits, judged-unsatisfiable}
+use Rattle.formula.proofs.Outcomes.{outcome-text, Judged, formula, none-such, judged, list-fits, judged-fits, judged-unsatisfiable}
 
 pub unsatisfiable-exactly : UnsatisfiableExactly
 unsatisfiable-exactly i s =

@@ -1,5 +1,5 @@
 -- What a layer above may use of the compiler of formula texts, and all of it. Document 01, 'Lock text': the desk's
--- layer rests on this law, not on the text. Assumes nothing.
+-- layer rests on this law, not on the text.
 use mathlib.Core.Path.{_≡_}
 use mathlib.Core.Bool.{Bool, true}
 use mathlib.Core.List.{List}
@@ -12,6 +12,7 @@ use Rattle.product.specs.Code.{numberLimit, Numbered}
 use Rattle.formula.specs.declared.text.Issued.{Issued}
 use Rattle.formula.specs.Text.{issuedTo}
 use Rattle.formula.specs.Outcome.{Outcome, accepted}
+use Rattle.formula.specs.Meaning.{Meaning}
 
 abbrev pub Compiler : Type 0
 Compiler = Issued → List ℕ → Outcome
@@ -28,10 +29,6 @@ pub record Bounded (ps : Sum) : Type 0 where
   pub filled : 1 ≤ length ps
   pub few : length ps ≤ mostProducts
   pub each : All Kept ps
-
--- What a text means: whether its formula is true of a key set, whatever keys were handed out when it was compiled.
-abbrev pub Meaning : Type 0
-Meaning = (Atom → Bool) → List ℕ → Bool
 
 -- every key there can be is handed out
 abbrev pub everything : Issued

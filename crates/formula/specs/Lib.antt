@@ -2,12 +2,10 @@ pub mod Tree
 pub mod Spelling
 pub mod Text
 pub mod Nodes
-pub mod Reader
+pub mod Meaning
 pub mod Outcome
+pub mod Refusals
 pub mod Compiler
-pub mod Grammar
-pub mod Width
-pub mod Unsatisfiable
-pub mod Opening
-pub mod Examples
-pub mod Steps
+pub mod Notation
+pub mod Theorems
+pub mod Internal

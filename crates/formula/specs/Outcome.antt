@@ -1,5 +1,5 @@
 -- What compiling a formula text answers: its products, or a refusal. Document 01, 'Lock text' and refusals 11 to 13.
--- Assumes nothing.
+--
 use mathlib.Core.Bool.{false, cond}
 use mathlib.Core.List.{List, [], _∷_, map}
 use mathlib.Core.Option.{Option, none, some}
@@ -16,7 +16,7 @@ use Rattle.formula.specs.declared.text.Compiled.{Compiled}
 use Rattle.formula.specs.Tree.{ors, Tree}
 use Rattle.formula.specs.Text.{issuedTo, mostBytes}
 use Rattle.formula.specs.Nodes.{listOf}
-use Rattle.formula.specs.Reader.{readText}
+use Rattle.formula.specs.Internal.Reader.{readText}
 
 -- document 01: accepted, misspelt, too wide, void
 pub data Outcome : Type 0 where

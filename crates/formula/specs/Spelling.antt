@@ -1,4 +1,4 @@
--- How a tree is spelt, in ASCII and with no blanks. Document 01, 'Lock text'. Assumes nothing.
+-- How a tree is spelt, in ASCII and with no blanks. Document 01, 'Lock text'.
 use mathlib.Core.Bool.{cond}
 use mathlib.Core.List.{List, [], _∷_, _++_}
 use Prim.Native.Nat.{ℕ, zero, suc, _+_, _/_, _%_}

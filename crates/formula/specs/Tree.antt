@@ -1,4 +1,4 @@
--- Formulas as trees, when a tree holds, and how deep its brackets go. Document 01, 'Lock text'. Assumes nothing.
+-- Formulas as trees, when a tree holds, and how deep its brackets go. Document 01, 'Lock text'.
 use mathlib.Core.Bool.{Bool, not, _&&_, _||_}
 use Prim.Native.Nat.{ℕ, suc, max}
 use Rattle.product.specs.Atom.{Atom}

@@ -3,8 +3,8 @@ ghost use mathlib.Core.Path.{_≡_};
 ghost use mathlib.Core.Option.{some};
 ghost use Prim.Native.Nat.{_≤_};
 ghost use lib.ListN.{getD, drop, length};
-ghost use Rattle.formula.specs.Reader.{digit, readDigits, readNumber};
-ghost use Rattle.formula.specs.Steps.{NumberReads};
+ghost use Rattle.formula.specs.Internal.Reader.{digit, readDigits, readNumber};
+ghost use Rattle.formula.specs.Internal.Readers.{NumberReads};
 
 // A number of 16 bits and the place after it, or none.
 pub(crate) enum Numeral {

@@ -1,7 +1,7 @@
 // From a formula text (document 01: lock text) to its products.
 ghost use mathlib.Core.Path.{_≡_};
 ghost use Rattle.formula.specs.Outcome.{refusalNumber, compiledOf};
-ghost use Rattle.formula.specs.Steps.{refusedOf, eightRows};
+ghost use Rattle.formula.specs.Internal.Readers.{refusedOf, eightRows};
 use crate::reader::Read;
 use crate::reader::read_or;
 use product::sum::MOST_PRODUCTS;

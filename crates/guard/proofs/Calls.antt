@@ -1,4 +1,4 @@
--- From a call to its request and back. Assumes nothing.
+-- From a call to its request and back.
 use mathlib.Core.Path.{_≡_}
 use mathlib.Core.List.{List}
 use Prim.Native.Nat.{ℕ}
@@ -8,7 +8,8 @@ use Rattle.call.specs.Calls.{Call, decoded}
 use Rattle.model.specs.declared.answer.Refusal.the-variants.{Corrupt}
 use Rattle.model.specs.declared.answer.Answer.{Answer}
 use Rattle.model.specs.declared.answer.Answer.the-variants.{Refused}
-use Rattle.model.specs.Cells.{Cells, stepCells}
+use Rattle.model.specs.Cells.{Cells}
+use Rattle.model.specs.Stores.{stepCells}
 use Rattle.model.specs.Serving.{Serves, Answers}
 
 module _ (d d′ : Cells) (r : Answer) where

@@ -1,4 +1,4 @@
--- Lists of bytes, element by element; joined and cut. Assumes nothing.
+-- Lists of bytes, element by element; joined and cut.
 use Prim.Native.Nat.{ℕ, zero, suc, _<_}
 use mathlib.Core.List.{List, [], _∷_, _++_}
 use native.Mathlib.Omega.{arith}

@@ -1,4 +1,4 @@
--- Every append is one of the five cases, and each case has its answer; so the answer tells the case. Assumes nothing.
+-- Every append is one of the five cases, and each case has its answer; so the answer tells the case.
 use Prim.Native.Nat.{ℕ, _<_, _≤_}
 use mathlib.Core.Path.{_≡_, refl, sym, ap, subst, _∙_}
 use mathlib.Core.Bool.{Bool, true, false, not, _||_, or-true}
@@ -17,8 +17,8 @@ use Rattle.journal.specs.declared.append.Appended.the-variants.{Length, 
 use Rattle.journal.specs.Format.{mostBytes, isFit}
 use Rattle.journal.specs.Reading.{verdictOf}
 use Rattle.journal.specs.Appending.{lengthWith, appendAnswer}
-use Rattle.journal.specs.Declines.{DeclinedBy, beyond, file, unfit, full, DeclinedExactly, AcceptedExactly}
-use Rattle.journal.proofs.Answering as cases
+use Rattle.journal.specs.Theorems.Declines.{DeclinedBy, beyond, file, unfit, full, DeclinedExactly, AcceptedExactly}
+use Rattle.journal.proofs.AppendAnswers as cases
 use Rattle.journal.proofs.Files.{new-length, accepted, shut-file}
 
 module _ (d : List ℕ) (len : ℕ) (r : Call) where

@@ -1,4 +1,4 @@
--- Short files are computed. The long ones are not written out: their length is counted by induction, and the theorems on files do the rest. Assumes nothing.
+-- Short files are computed. The long ones are not written out: their length is counted by induction, and the theorems on files do the rest.
 use Prim.Native.Nat.{ℕ, zero, suc, _+_, _*_, _<_, _≤_}
 use mathlib.Core.Path.{_≡_, refl, ap, subst, _∙_}
 use mathlib.Core.Bool.{true}
@@ -16,8 +16,8 @@ use Rattle.journal.specs.declared.append.Appended.the-variants.{Declined
 use Rattle.journal.specs.Format.{allBytes, fileHead, fileBytes, mostBytes, isFit, Recordable, AllRecordable}
 use Rattle.journal.specs.Reading.{wholeAt, foundAt, wholeFrom, recordsFrom, recordsOf, verdictOf}
 use Rattle.journal.specs.Appending.{appendAnswer, withRecord, emptyAnswer}
-use Rattle.journal.specs.Declines.{full}
-use Rattle.journal.specs.Examples.{usersThen, eightBytes, longest, oneMore, callU, Examples, AppendExamples, NumberExamples}
+use Rattle.journal.specs.Theorems.Declines.{full}
+use Rattle.journal.specs.Theorems.Examples.{usersThen, eightBytes, longest, oneMore, callU, Examples, AppendExamples, NumberExamples}
 use Rattle.journal.proofs.ByteLists.{all-are}
 use Rattle.journal.proofs.ReadsBack.{file-length, written-readable}
 use Rattle.journal.proofs.Declines.{declined-exactly}

@@ -1,4 +1,4 @@
--- What a whole record, a readable file and an accepted append are, taken apart into facts with names. Assumes nothing.
+-- What a whole record, a readable file and an accepted append are, taken apart into facts with names.
 use Prim.Native.Nat.{ℕ, zero, suc, _+_, _*_, _<_, _≤_}
 use mathlib.Core.Path.{_≡_, refl, ap}
 use mathlib.Core.Bool.{true, not, _&&_}
@@ -10,16 +10,16 @@ use lib.Dec.{leb, ltb, eqb}
 use lib.Seq.{getD-take, length-take-le}
 use borrow.Author.Tests.{eqb-true, leb-true, ltb-false, eq-eqb, le-ltb, not-false}
 use Rattle.call.specs.Calls.{Call, recordFits}
-use Rattle.call.specs.Conditions.{firstRefusal}
+use Rattle.base.specs.Conditions.{firstRefusal}
 use Rattle.journal.specs.declared.file.Refusal.{Refusal}
 use Rattle.journal.specs.declared.file.Verdict.the-variants.{Readable}
 use Rattle.journal.specs.declared.append.Appended.the-variants.{Length}
 use Rattle.journal.specs.Format.{mostBytes, isFit}
 use Rattle.journal.specs.Reading.{word, nextOf, wholeAt, wholeFrom, marked, current, fileConditions, verdict, verdictOf}
 use Rattle.journal.specs.Appending.{lengthWith, ownConditions, appendConditions, answer, appendAnswer}
-use Rattle.call.proofs.Truth.{and-left, and-right, neither}
-use Rattle.call.proofs.Conditions.{AllFail, all-fail, fail-parts, none-first}
-use Rattle.journal.proofs.Judging.{readable-none}
+use Rattle.base.proofs.Truth.{and-left, and-right, neither}
+use Rattle.base.proofs.Conditions.{AllFail, all-fail, fail-parts, none-first}
+use Rattle.journal.proofs.FileVerdicts.{readable-none}
 
 -- ---- a whole record, and several
 

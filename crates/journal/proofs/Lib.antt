@@ -1,7 +1,3 @@
-pub mod Storing
-pub mod Finding
-pub mod Judging
-pub mod Answering
 pub mod Files
 pub mod ReadsBack
 pub mod ReadsInOrder
@@ -11,4 +7,8 @@ pub mod Declines
 pub mod Refuses
 pub mod Examples
 pub mod ByteLists
-pub mod Held
+pub mod AppendAnswers
+pub mod FileVerdicts
+pub mod ReaderParts
+pub mod RecordSizes
+pub mod StoredBytes

@@ -1,4 +1,4 @@
--- A record that stands in a file is read back where it stands; by induction so is a list of them. Assumes nothing.
+-- A record that stands in a file is read back where it stands; by induction so is a list of them.
 use Prim.Native.Nat.{ℕ, _+_, _*_, _<_, _≤_}
 use mathlib.Core.Path.{_≡_, refl, sym, ap, ap₂, subst₂, _∙_}
 use mathlib.Core.Bool.{true}
@@ -12,7 +12,7 @@ use Rattle.call.specs.Calls.{Call}
 use Rattle.journal.specs.Format.{low, high, recordBytes, allBytes, fileHead, fileBytes, Recordable, AllRecordable, mostBytes, isFit}
 use Rattle.journal.specs.Reading.{word, recordOf, nextOf, wholeAt, wholeFrom, recordsFrom, recordsOf, verdictOf}
 use Rattle.journal.specs.declared.file.Verdict.the-variants.{Readable}
-use Rattle.journal.specs.ReadsBack.{WrittenReadable, WrittenBytes, RecordsBack}
+use Rattle.journal.specs.Theorems.ReadsBack.{WrittenReadable, WrittenBytes, RecordsBack}
 use Rattle.call.proofs.Texts.{text-short}
 use Rattle.journal.proofs.ByteLists.{Each, each, all-are, each-append}
 use Rattle.journal.proofs.Files.{shut-file}

@@ -1,4 +1,4 @@
--- A cursor steps from whole record to whole record, and stays at the end: by induction on the number of calls. Assumes nothing.
+-- A cursor steps from whole record to whole record, and stays at the end: by induction on the number of calls.
 use Prim.Native.Nat.{ℕ, zero, suc, _+_, _-_}
 use mathlib.Core.Path.{_≡_, refl}
 use mathlib.Core.Bool.{true}
@@ -6,11 +6,11 @@ use mathlib.Core.List.{List, [], map}
 use native.Mathlib.Omega.{arith}
 use lib.ListN.{length}
 use borrow.Author.Tests.{eqb-true}
-use Rattle.call.proofs.Truth.{and-left, and-right}
+use Rattle.base.proofs.Truth.{and-left, and-right}
 use Rattle.journal.specs.Format.{fileHeadSize, countAt}
 use Rattle.journal.specs.Reading.{word, nextOf, wholeAt, wholeFrom, recordsFrom, recordsOf}
-use Rattle.journal.specs.ReadsInOrder.{nextAnswers, answerIn, recordsThenEnd, ReadsInOrder}
-use Rattle.journal.proofs.Finding.{found-record, found-end}
+use Rattle.journal.specs.Theorems.ReadsInOrder.{nextAnswers, answerIn, recordsThenEnd, ReadsInOrder}
+use Rattle.journal.proofs.RecordSizes.{found-record, found-end}
 use Rattle.journal.proofs.Files.{open-file}
 
 at-end : (n : ℕ) (s : List ℕ) → map (answerIn s) (nextAnswers n s (length s)) ≡ recordsThenEnd n []

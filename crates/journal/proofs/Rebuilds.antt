@@ -1,5 +1,5 @@
 -- The buffer is always a file and what follows it: `fileBytes ps ++ q`. One append stores the count inside the head and the record over the front of q;
--- by induction so does a list of them. Assumes nothing.
+-- by induction so does a list of them.
 use Prim.Native.Nat.{ℕ, _+_, _-_, _≤_}
 use mathlib.Core.Path.{_≡_, refl, sym, ap, subst, subst₂, _∙_}
 use mathlib.Core.Bool.{true, false, not, _||_}
@@ -15,10 +15,10 @@ use Rattle.journal.specs.declared.append.Appended.the-variants.{Length}
 use Rattle.journal.specs.Format.{Bytes, recordBytes, allBytes, fileHead, fileBytes, mostBytes, isFit}
 use Rattle.journal.specs.Reading.{recordsOf, verdictOf}
 use Rattle.journal.specs.Appending.{lengthWith, appendAnswer, withRecord, emptyAnswer}
-use Rattle.journal.specs.Rebuilds.{AddsOne, Buffer, emptied, appendOne, appendAll, holding, Rebuilds, AppendsAll}
+use Rattle.journal.specs.Theorems.Rebuilds.{AddsOne, Buffer, emptied, appendOne, appendAll, holding, Rebuilds, AppendsAll}
 use Rattle.journal.proofs.ByteLists.{bytes-take}
 use Rattle.journal.proofs.Files.{new-length, accepted, open-file, shut-file}
-use Rattle.journal.proofs.Answering.{accepts}
+use Rattle.journal.proofs.AppendAnswers.{accepts}
 use Rattle.journal.proofs.ReadsBack.{AllFit, all-fit, fit-readable, word-value, file-length, records-back}
 use Rattle.journal.proofs.WritesBack.{writes-back, records-recordable}
 

@@ -1,4 +1,4 @@
--- Every file is readable or one of the five cases, and each case has its verdict; so the verdict tells the case. Assumes nothing.
+-- Every file is readable or one of the five cases, and each case has its verdict; so the verdict tells the case.
 use Prim.Native.Nat.{ℕ, _≤_}
 use mathlib.Core.Path.{_≡_, refl, sym, subst, _∙_}
 use mathlib.Core.Bool.{Bool, true, false}
@@ -12,10 +12,9 @@ use Rattle.journal.specs.declared.file.Refusal.{Refusal}
 use Rattle.journal.specs.declared.file.Refusal.the-variants.{NotJournal, OtherVersion, Corrupt}
 use Rattle.journal.specs.declared.file.Verdict.{Verdict}
 use Rattle.journal.specs.declared.file.Verdict.the-variants.{Readable, Refused}
-use Rattle.journal.specs.Format.{Bytes, mostBytes}
+use Rattle.journal.specs.Format.{Bytes, mostBytes, Written}
 use Rattle.journal.specs.Reading.{word, wholeFrom, marked, verdictOf}
-use Rattle.journal.specs.WritesBack.{Written}
-use Rattle.journal.specs.Refuses.{Marked, RefusedBy, unmarked, short, version, long, broken, RefusedExactly}
+use Rattle.journal.specs.Theorems.Refuses.{Marked, RefusedBy, unmarked, short, version, long, broken, RefusedExactly}
 use Rattle.journal.proofs.Files.{mark-of, shut-file}
 use Rattle.journal.proofs.WritesBack.{head-three, readable-exactly}
 

@@ -1,4 +1,4 @@
--- The bytes of a word, of a record and of all records that were read are those that stood there; the head's seven bytes too. Assumes nothing.
+-- The bytes of a word, of a record and of all records that were read are those that stood there; the head's seven bytes too.
 use Prim.Native.Nat.{ℕ, zero, suc, _+_, _<_, _≤_}
 use mathlib.Core.Path.{_≡_, refl, sym, ap, subst, _∙_}
 use mathlib.Core.Bool.{true}
@@ -10,9 +10,9 @@ use borrow.Author.Tests.{eqb-true}
 use Rattle.journal.specs.declared.file.Verdict.the-variants.{Readable}
 use Rattle.journal.specs.Format.{Bytes, low, high, recordBytes, allBytes, fileBytes, mostBytes, AllRecordable}
 use Rattle.journal.specs.Reading.{word, recordOf, nextOf, wholeAt, wholeFrom, recordsFrom, recordsOf, verdictOf}
-use Rattle.journal.specs.WritesBack.{WritesBack, ReadableExactly}
+use Rattle.journal.specs.Theorems.WritesBack.{WritesBack, ReadableExactly}
 use Rattle.journal.proofs.ByteLists.{bytes-take, bytes-drop}
-use Rattle.call.proofs.Truth.{and-left, and-right}
+use Rattle.base.proofs.Truth.{and-left, and-right}
 use Rattle.journal.proofs.Files.{Whole, whole, Mark, mark-of, File, open-file}
 use Rattle.journal.proofs.ReadsBack.{written-readable}
 

@@ -1,5 +1,5 @@
 -- Appending one record to a file (document 01: desk file) in a buffer (document 01: lent buffer): the answer, and every byte of the buffer afterwards.
--- Document 01's section 'Desk file'. Assumes nothing.
+-- Document 01's section 'Desk file'.
 use mathlib.Core.Bool.{not, cond, _||_}
 use mathlib.Core.List.{List, [], _∷_, _++_}
 use mathlib.Core.Option.{Option, none, some}
@@ -8,13 +8,12 @@ use lib.ListN.{length, take}
 use lib.Dec.{ltb}
 use lib.Seq.{sets}
 use Rattle.call.specs.Calls.{Call}
-use Rattle.call.specs.Conditions.{Condition, when, firstRefusal}
+use Rattle.base.specs.Conditions.{Condition, when, firstRefusal}
 use Rattle.journal.specs.declared.file.Refusal.{Refusal}
 use Rattle.journal.specs.declared.file.Refusal.the-variants.{Full, Corrupt}
 use Rattle.journal.specs.declared.append.Appended.{Appended}
 use Rattle.journal.specs.declared.append.Appended.the-variants.{Length, Declined}
-use Rattle.journal.specs.Format.{wordBytes, recordBytes, isFit}
-use Rattle.journal.specs.Format.{recordHeadSize, fileHeadSize, countAt, fileBytes, mostBytes}
+use Rattle.journal.specs.Format.{wordBytes, recordBytes, isFit, recordHeadSize, fileHeadSize, countAt, fileBytes, mostBytes}
 use Rattle.journal.specs.Reading.{word, fileConditions}
 
 -- the length of the file with the record

@@ -1,9 +1,9 @@
 -- The journal (document 01: desk file), as it is written: the bytes of a record, and of a file with a list of records. A record is a call. Document 01's
--- section 'Desk file'. Assumes nothing.
+-- section 'Desk file'.
 use mathlib.Core.Path.{_≡_}
 use mathlib.Core.Bool.{Bool, true}
 use mathlib.Core.List.{List, [], _∷_, _++_}
-use Prim.Native.Nat.{ℕ, _/_, _%_, _<_}
+use Prim.Native.Nat.{ℕ, _/_, _%_, _<_, _≤_}
 use lib.ListN.{length, getD}
 use Rattle.call.specs.Calls.{Call, recordFits}
 
@@ -105,3 +105,9 @@ pub record Recordable (r : Call) : Type 0 where
 abbrev pub AllRecordable : List Call → Type 0
 AllRecordable [] = Unit {0}
 AllRecordable (r ∷ rs) = Recordable r × AllRecordable rs
+
+pub record Written (s : List ℕ) : Type 0 where
+  pub records : List Call
+  pub recordable : AllRecordable records
+  pub bytes : s ≡ fileBytes records
+  pub most : length s ≤ mostBytes

@@ -2,11 +2,5 @@ pub mod Format
 pub mod Verdicts
 pub mod Reading
 pub mod Appending
-pub mod Steps
-pub mod ReadsBack
-pub mod ReadsInOrder
-pub mod WritesBack
-pub mod Rebuilds
-pub mod Declines
-pub mod Refuses
-pub mod Examples
+pub mod Theorems
+pub mod Internal

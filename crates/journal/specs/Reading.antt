@@ -1,5 +1,5 @@
 -- The journal (document 01: desk file), as it is read: a file is a list of bytes, and a cursor is a place in it. What stands at a cursor, the records of a
--- file, and the first refusal of a file. Document 01's section 'Desk file'. Assumes nothing.
+-- file, and the first refusal of a file. Document 01's section 'Desk file'.
 use mathlib.Core.Bool.{Bool, cond, not, _&&_}
 use mathlib.Core.List.{List, [], _∷_}
 use mathlib.Core.Option.{Option, none, some}
@@ -7,7 +7,7 @@ use Prim.Native.Nat.{ℕ, zero, suc, _+_, _*_}
 use lib.ListN.{length, getD, take, drop}
 use lib.Dec.{leb, ltb, eqb}
 use Rattle.call.specs.Calls.{Call, recordFits}
-use Rattle.call.specs.Conditions.{Condition, when, firstRefusal}
+use Rattle.base.specs.Conditions.{Condition, when, firstRefusal}
 use Rattle.journal.specs.declared.record.Entry.{Entry}
 use Rattle.journal.specs.declared.record.Found.{Found}
 use Rattle.journal.specs.declared.record.Found.the-variants.{Record, End, Damaged}
@@ -15,8 +15,7 @@ use Rattle.journal.specs.declared.file.Refusal.{Refusal}
 use Rattle.journal.specs.declared.file.Refusal.the-variants.{NotJournal, OtherVersion, Corrupt}
 use Rattle.journal.specs.declared.file.Verdict.{Verdict}
 use Rattle.journal.specs.declared.file.Verdict.the-variants.{Readable, Refused}
-use Rattle.journal.specs.Format.{aAt, bAt, cAt, textLengthAt, recordHeadSize, fileHeadSize}
-use Rattle.journal.specs.Format.{markK, markL, markD, fileVersion, versionAt, countAt, mostBytes}
+use Rattle.journal.specs.Format.{aAt, bAt, cAt, textLengthAt, recordHeadSize, fileHeadSize, markK, markL, markD, fileVersion, versionAt, countAt, mostBytes}
 
 -- the 16 bits at i, low byte first
 abbrev pub word : List ℕ → ℕ → ℕ

@@ -5,7 +5,7 @@ ghost use lib.ListN.{length};
 ghost use Rattle.call.specs.Calls.{callWith, mostText};
 ghost use Rattle.journal.specs.Format.{recordHeadSize, fileHeadSize, countAt};
 ghost use Rattle.journal.specs.Reading.{word};
-ghost use Rattle.journal.specs.Steps.{mostWord};
+ghost use Rattle.journal.specs.Internal.{mostWord};
 ghost use Rattle.journal.specs.Appending.{appendAnswer, withRecord, bufferAfter, emptyAnswer, emptyAfter};
 use crate::bytes::store;
 use crate::bytes::word_at;

@@ -5,7 +5,7 @@ ghost use lib.ListN.{length};
 ghost use Rattle.journal.specs.Format.{fileHeadSize, countAt};
 ghost use Rattle.journal.specs.Verdicts.{refusalNumber};
 ghost use Rattle.journal.specs.Reading.{word, wholeFrom, marked, verdictOf};
-ghost use Rattle.journal.specs.Steps.{versionRead, headVerdict};
+ghost use Rattle.journal.specs.Internal.{versionRead, headVerdict};
 use crate::bytes::word_at;
 use crate::record::record_size;
 

@@ -1,7 +1,7 @@
 // The record at a cursor (document 01: record): its letter, fields and text.
 ghost use mathlib.Core.Path.{_≡_};
 ghost use Rattle.journal.specs.Reading.{foundAt};
-ghost use Rattle.journal.specs.Steps.{sizeAt};
+ghost use Rattle.journal.specs.Internal.{sizeAt};
 use crate::bytes::word_at;
 use call::record::fits;
 

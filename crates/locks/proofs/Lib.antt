@@ -1,7 +1,7 @@
 pub mod Tests
-pub mod Scanning
-pub mod Packing
-pub mod Homes
 pub mod LiteralCells
-pub mod Adding
-pub mod Compiling
+pub mod AddedRows
+pub mod CompiledRows
+pub mod KeptRows
+pub mod LockSegments
+pub mod UsedRows

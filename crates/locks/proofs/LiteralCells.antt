@@ -1,4 +1,4 @@
--- The row of a compiled product: the literal of each of the compiler's numbers has its cell, and a product is stored as its row. Assumes nothing.
+-- The row of a compiled product: the literal of each of the compiler's numbers has its cell, and a product is stored as its row.
 use mathlib.Core.Path.{_≡_, refl, sym, ap, ap₂, _∙_}
 use mathlib.Core.List.{[], _∷_, _++_, map, append-assoc}
 use Prim.Native.Nat.{ℕ, zero, suc, _+_, _-_, _*_, _≤_, _<_}
@@ -13,12 +13,13 @@ use Rattle.product.specs.declared.literal.Literal.the-variants.{Barred}
 use Rattle.product.specs.Product.{Product, All, no-more, and-more}
 use Rattle.product.specs.Code.{codeOf, literalOf, Numbered}
 use Rattle.product.specs.Cells.{sizeOf, rowOf}
-use Rattle.product.proofs.Storing.{literal-back}
+use Rattle.product.proofs.StoredSums.{literal-back}
 use Rattle.formula.specs.Compiler.{Kept}
-use Rattle.model.specs.Lists.{each}
-use Rattle.model.specs.Cells.{Row, cell, keyCell, barredBy, literalCell, head, productRow}
-use Rattle.model.proofs.Lists.{caseBool, each-suc, each-same}
-use Rattle.locks.specs.Steps.{Below, SizeOf, cellIn, rowFrom}
+use Rattle.base.specs.Lists.{each}
+use Rattle.model.specs.Cells.{Row, cell, keyCell, barredBy, literalCell, head}
+use Rattle.model.specs.Stores.{productRow}
+use Rattle.base.proofs.Lists.{caseBool, each-suc, each-same}
+use Rattle.locks.specs.Internal.{Below, SizeOf, cellIn, rowFrom}
 
 -- ---- what the code makes
 

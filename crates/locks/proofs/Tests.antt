@@ -1,4 +1,4 @@
--- What a test that was made on a function's answer says of what the answer is. Assumes nothing.
+-- What a test that was made on a function's answer says of what the answer is.
 use mathlib.Core.Path.{_≡_, refl, sym, _∙_}
 use mathlib.Core.Bool.{Bool, true, false, not}
 

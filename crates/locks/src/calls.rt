@@ -4,7 +4,7 @@ ghost use Prim.Native.Nat.{_<_};
 ghost use Rattle.call.specs.declared.request.Request.the-variants.{AddLock, DropLock};
 ghost use Rattle.model.specs.Cells.{registryIs, makersAre, segmentsAre, locksAre, _and_};
 ghost use Rattle.model.specs.Serving.{ServesText, ServesLent};
-ghost use Rattle.locks.specs.Steps.{setLimit, issuedIn, LockJudged, LockStored};
+ghost use Rattle.locks.specs.Internal.{setLimit, issuedIn, LockJudged, LockStored};
 use crate::rows::add_rows;
 use crate::rows::drop_rows;
 use crate::rows::home;

@@ -3,7 +3,7 @@ ghost use mathlib.Core.Path.{_≡_};
 ghost use Prim.Native.Nat.{_<_};
 ghost use Rattle.product.specs.Cells.{rowCells};
 ghost use Rattle.model.specs.Cells.{keyCell, barredBy, literalCell};
-ghost use Rattle.locks.specs.Steps.{Below, keyCellLimit, barredLimit, setLimit, cellIn, SizeOf, rowFrom};
+ghost use Rattle.locks.specs.Internal.{Below, keyCellLimit, barredLimit, setLimit, cellIn, SizeOf, rowFrom};
 use model::arrays::BARRED_LISTED;
 use model::arrays::BARRED_OWN;
 use model::arrays::DEFINED_CODES;

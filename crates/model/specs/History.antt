@@ -1,5 +1,5 @@
 -- Document 01, 'The history', line by line: what is read from a list of calls, each with its answer or refusal. Nothing of the state is fed to it.
--- Assumes nothing.
+--
 use mathlib.Core.Bool.{Bool, true, false, _&&_, not, cond}
 use mathlib.Core.List.{List, [], _∷_, _++_}
 use mathlib.Core.Option.{none}
@@ -11,12 +11,13 @@ use Rattle.call.specs.declared.request.Request.{Request}
 use Rattle.call.specs.declared.request.Request.the-variants.{NewUser, StartThread, EndThread, NewSegment, NewKey, GiveKey, TakeKey, AddLock, DropLock, CallSegment, ReturnCall, Access}
 use Rattle.call.specs.declared.request.Decoded.{Decoded}
 use Rattle.call.specs.declared.request.Decoded.the-variants.{WellFormed, Corrupt as NotWellFormed}
-use Rattle.call.specs.Calls.{Call, decoded}
+use Rattle.call.specs.Calls.{Call, decoded, letterU, letterS, letterN, letterK}
 use Rattle.model.specs.declared.answer.Answer.{Answer}
 use Rattle.model.specs.declared.answer.Answer.the-variants.{Accepted, Refused}
 use Rattle.model.specs.Answers.{isAccepted}
-use Rattle.model.specs.Lists.{Map, put, remove, adjust, keep, orDefault, tailOf}
+use Rattle.base.specs.Lists.{Map, put, remove, adjust, keep, orDefault, tailOf}
 use Rattle.model.specs.Threads.{Frame, Thread, sameKey}
+use Rattle.formula.specs.declared.text.Issued.{Issued}
 
 -- a segment handed out
 pub record Entry : Type 0 where
@@ -131,3 +132,12 @@ countFrom letter n (e ∷ es) = countFrom letter (cond (counts letter e) (suc n)
 
 abbrev pub acceptedOf : ℕ → List Event → ℕ
 acceptedOf letter es = countFrom letter 0 es
+
+-- field a of each accepted K, in order
+abbrev pub makersOf : List Event → List ℕ
+makersOf [] = []
+makersOf (e ∷ es) = let rest = makersOf es in cond (counts letterK e) (e .call .a ∷ rest) rest
+
+-- the keys that the accepted U, S, N and K handed out
+abbrev pub issuedBy : List Event → Issued
+issuedBy es = record { users = acceptedOf letterU es; threads = acceptedOf letterS es; segments = acceptedOf letterN es; defined = acceptedOf letterK es }

@@ -1,4 +1,4 @@
--- Document 01's letters, for worked examples: each is the call with its fields. And the answers that they are to get. Assumes nothing.
+-- Document 01's letters, for worked examples: each is the call with its fields. And the answers that they are to get.
 use mathlib.Core.Path.{_≡_}
 use mathlib.Core.List.{List, [], map}
 use Prim.Native.Nat.{ℕ}

@@ -1,4 +1,4 @@
--- Document 01, 'Twelve calls': 'Most at a time', and how many numbers are handed out. Assumes nothing.
+-- Document 01, 'Twelve calls': 'Most at a time', and how many numbers are handed out.
 use mathlib.Core.Bool.{Bool}
 use Prim.Native.Nat.{ℕ}
 use lib.Dec.{ltb}

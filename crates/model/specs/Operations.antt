@@ -1,4 +1,4 @@
--- Document 01, 'Operations and the check': operations, sets of them, and which of them a segment takes. Assumes nothing.
+-- Document 01, 'Operations and the check': operations, sets of them, and which of them a segment takes.
 use mathlib.Core.Bool.{Bool, _&&_, _||_, not, cond}
 use Prim.Native.Nat.{ℕ, _/_, _%_}
 use lib.Bits.{bitAnd}

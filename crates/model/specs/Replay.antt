@@ -1,11 +1,13 @@
 -- Lists of calls: each gets what the one before it left, in the arrays and in the model, and each call stands with its answer in a list of
--- events. Assumes nothing.
+-- events.
 use mathlib.Core.List.{List, [], _∷_}
 use Rattle.formula.specs.Compiler.{Compiler}
 use Rattle.call.specs.Calls.{Call}
 use Rattle.model.specs.declared.answer.Answer.{Answer}
-use Rattle.model.specs.Model.{State, step}
-use Rattle.model.specs.Cells.{Cells, stepCells, emptyCells}
+use Rattle.model.specs.State.{State}
+use Rattle.model.specs.Model.{step}
+use Rattle.model.specs.Cells.{Cells, emptyCells}
+use Rattle.model.specs.Stores.{stepCells}
 use Rattle.model.specs.History.{Event, event, History, history}
 
 module _ (compile : Compiler) where

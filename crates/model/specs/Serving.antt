@@ -1,15 +1,16 @@
 -- What the guard's functions promise: the answer and every array afterwards are those of the definitions, whatever numbers are in the arrays, with
--- the compiler that there is. Assumes nothing.
+-- the compiler that there is.
 use mathlib.Core.Path.{_≡_}
 use mathlib.Core.List.{List}
 use Prim.Native.Nat.{ℕ}
 use Rattle.formula.specs.Outcome.{outcomeOf}
 use Rattle.call.specs.declared.request.Request.{Request}
 use Rattle.call.specs.Calls.{Call}
-use Rattle.call.specs.Conditions.{firstRefusal}
+use Rattle.base.specs.Conditions.{firstRefusal}
 use Rattle.model.specs.declared.answer.Answer.{Answer}
-use Rattle.model.specs.Model.{conditions}
-use Rattle.model.specs.Cells.{Cells, stateOf, judgedCells, stepCells}
+use Rattle.model.specs.Refusals.{conditions}
+use Rattle.model.specs.Cells.{Cells, stateOf}
+use Rattle.model.specs.Stores.{judgedCells, stepCells}
 
 -- r is the answer and d are the arrays afterwards
 pub record Gives (o : record { cells : Cells; answer : Answer }) (r : Answer) (d : Cells) : Type 0 where

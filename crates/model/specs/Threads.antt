@@ -1,11 +1,11 @@
--- Document 01, 'Keys' and 'The history': a thread (document 01: run), its frames (its open calls) and its key set. Assumes nothing.
+-- Document 01, 'Keys' and 'The history': a thread (document 01: run), its frames (its open calls) and its key set.
 use mathlib.Core.Bool.{Bool, _||_}
 use mathlib.Core.List.{List}
 use Prim.Native.Nat.{ℕ}
 use Rattle.product.specs.declared.literal.Key.{Key}
 use Rattle.product.specs.declared.literal.Key.the-variants.{User, Thread as ThreadKey}
 use Rattle.product.specs.Atom.{isEqual, compareAtoms}
-use Rattle.model.specs.Lists.{any}
+use Rattle.base.specs.Lists.{any}
 
 -- an open call: its segment, and the key list that it handed over when made
 pub record Frame : Type 0 where

@@ -1,6 +1,6 @@
 -- A number is that of the literal which it stands for, the code reads and writes such numbers, and its tests on keys and literals are those of
 -- their order. The idea: a key's number is a pair of kind and number, read as two digits of base 65,536, and a literal's a pair of key and
--- sign, of base 2. Assumes nothing.
+-- sign, of base 2.
 use mathlib.Core.Path.{_≡_, refl, sym, ap, ap₂, _∙_}
 use mathlib.Core.Bool.{Bool, true, false, not, cond, _&&_, and-true}
 use Prim.Native.Nat.{ℕ, _+_, _*_, _-_, _/_, _%_, _≤_, _<_}
@@ -14,9 +14,9 @@ use Rattle.product.specs.declared.literal.Literal.the-variants.{Plain, B
 use Rattle.product.specs.Atom.{Order, Less, Equal, Greater, isLess, isEqual, kindOf, numberOf, orderOf, thenBy, compareAtoms, atomOf, signOf, compareLiterals}
 use Rattle.product.specs.Product.{same, before, opposed}
 use Rattle.product.specs.Code.{keyCode, codeOf, keyAt, literalAt, literalOf, Encoded}
-use Rattle.product.specs.Steps.{EncodedKey}
-use Rattle.product.proofs.Truth.{and-not-self}
-use Rattle.product.proofs.Numbers.{less-order, equal-order, greater-order, order-cases, order-tests}
+use Rattle.product.specs.Internal.{EncodedKey}
+use Rattle.base.proofs.Truth.{and-not-self}
+use Rattle.product.proofs.NumberOrder.{less-order, equal-order, greater-order, order-cases, order-tests}
 
 -- keys
 

@@ -1,4 +1,4 @@
--- Atoms, which are the keys, their order, and literals. Document 01, 'Keys' and 'Lock text'. Assumes nothing. Products,
+-- Atoms, which are the keys, their order, and literals. Document 01, 'Keys' and 'Lock text'. Products,
 -- sums, trees and nodes use only how two atoms compare, and that only equal ones compare as Equal, so that an atom can
 -- become something else than a key; how it is spelt, numbered and handed out is said elsewhere.
 use mathlib.Core.Bool.{Bool, true, false, not}

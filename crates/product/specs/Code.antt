@@ -1,6 +1,6 @@
 -- The number that a cell of a row holds of a literal: twice the key's, and 1 more where it is barred. The key's is
 -- 65,536 for each kind before its own, and its own number. Literals are compared, joined and asked as literals; a row
--- alone has numbers. Assumes nothing.
+-- alone has numbers.
 use mathlib.Core.Path.{_≡_}
 use mathlib.Core.Bool.{cond}
 use Prim.Native.Nat.{ℕ, _+_, _*_, _-_, _/_, _%_, _<_}

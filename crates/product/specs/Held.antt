@@ -1,5 +1,5 @@
 -- A key set as the numbers of its keys, and whether it opens a sum. Document 01, 'Lock text': a key set opens a product
--- where every plain key is in it and every barred one is not. Assumes nothing.
+-- where every plain key is in it and every barred one is not.
 use mathlib.Core.Bool.{Bool, false, _||_}
 use mathlib.Core.List.{List, [], _∷_}
 use mathlib.Core.Option.{none, some}

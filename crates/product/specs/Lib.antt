@@ -3,7 +3,7 @@ pub mod Product
 pub mod Sum
 pub mod Code
 pub mod Cells
-pub mod Storing
-pub mod Steps
 pub mod Held
-pub mod Examples
+pub mod Notation
+pub mod Theorems
+pub mod Internal

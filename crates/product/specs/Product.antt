@@ -1,4 +1,4 @@
--- Products: sets of literals, kept in order. Document 01, 'Lock text'. Assumes nothing.
+-- Products: sets of literals, kept in order. Document 01, 'Lock text'.
 use mathlib.Core.Bool.{Bool, true, false, not, cond, _&&_, _||_}
 use mathlib.Core.List.{List, [], _∷_}
 use Rattle.product.specs.declared.literal.Literal.{Literal}

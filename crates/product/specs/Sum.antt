@@ -1,4 +1,4 @@
--- Sums: a node's list of products, and how AND and OR join two of them. Document 01, 'Lock text'. Assumes nothing.
+-- Sums: a node's list of products, and how AND and OR join two of them. Document 01, 'Lock text'.
 use mathlib.Core.Bool.{Bool, true, false, cond, _&&_, _||_}
 use mathlib.Core.List.{List, [], _∷_, _++_}
 use mathlib.Core.Option.{Option, none, some}

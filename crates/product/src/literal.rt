@@ -5,7 +5,7 @@ ghost use Prim.Native.Nat.{_<_};
 ghost use Rattle.product.specs.Atom.{kindOf, numberOf, isLess, isEqual, compareAtoms};
 ghost use Rattle.product.specs.Product.{same, before, opposed};
 ghost use Rattle.product.specs.Code.{keyAt, keyLimit, literalOf, Encoded};
-ghost use Rattle.product.specs.Steps.{EncodedKey};
+ghost use Rattle.product.specs.Internal.{EncodedKey};
 
 // Document 01: a key is a kind with a 16-bit number: U user, R run, S segment, D defined by a user.
 pub enum Key {

@@ -6,7 +6,7 @@ ghost use lib.ListN.{getD, drop};
 ghost use Rattle.product.specs.Product.{union, clashes, contradictory, sameProduct};
 ghost use Rattle.product.specs.Sum.{mostLiterals};
 ghost use Rattle.product.specs.Cells.{countCell, productOf};
-ghost use Rattle.product.specs.Steps.{Size, Blank, Row, Inserted, Joined, mostJoined, wideOf};
+ghost use Rattle.product.specs.Internal.{Size, Blank, Row, Inserted, Joined, mostJoined, wideOf};
 use crate::literal;
 use crate::literal::Literal;
 use crate::literal::decode;

@@ -6,7 +6,7 @@ ghost use Prim.Native.Nat.{_≤_};
 ghost use lib.ListN.{length};
 ghost use Rattle.product.specs.Sum.{conjoin, disjoin, joined, present, joinEach, joinAll};
 ghost use Rattle.product.specs.Cells.{productOf, productsOf, sumOf, Written};
-ghost use Rattle.product.specs.Steps.{Blank, Clean, Filled, wideOf, addTo, addEach};
+ghost use Rattle.product.specs.Internal.{Blank, Clean, Filled, wideOf, addTo, addEach};
 use crate::literal::Literal;
 use crate::literal::encode;
 use crate::row;

@@ -1,2 +1,2 @@
-pub mod Gates
-pub mod Asking
+pub mod AccessConditions
+pub mod ArrayTests

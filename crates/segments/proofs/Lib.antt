@@ -1,3 +1,3 @@
-pub mod Judging
-pub mod Naming
-pub mod Removal
+pub mod ArrayTests
+pub mod EditConditions
+pub mod RemovedKey

@@ -1,6 +1,6 @@
 // Document 01: a segment's key list. A row of 8 cells, each a key or none.
 ghost use lib.ListN.{set};
-ghost use Rattle.segments.specs.Steps.{Removed};
+ghost use Rattle.segments.specs.Internal.{Removed};
 use model::arrays::NO_KEY;
 use model::arrays::Row;
 

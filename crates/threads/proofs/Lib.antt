@@ -1,3 +1,3 @@
-pub mod Scanning
-pub mod Finding
-pub mod Room
+pub mod FoundThread
+pub mod FreePlace
+pub mod PlaceScan

@@ -2,9 +2,10 @@
 // remainder by 64 if that was free when it started.
 ghost use mathlib.Core.Path.{_≡_};
 ghost use lib.ListN.{length};
-ghost use Rattle.model.specs.Model.{isFree, isThread};
+ghost use Rattle.model.specs.State.{isFree, isThread};
 ghost use Rattle.model.specs.Cells.{placeIn};
-ghost use Rattle.threads.specs.Steps.{First, Placed};
+ghost use Rattle.threads.specs.Internal.{First};
+ghost use Rattle.threads.specs.Places.{Placed};
 use model::arrays::LIVE;
 use model::arrays::NUMBER;
 use model::arrays::Thread;

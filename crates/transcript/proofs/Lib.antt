@@ -1,3 +1,9 @@
-pub mod Answering
 pub mod ReplayLoop
-pub mod Printing
+pub mod AnsweredRecord
+pub mod Decimals
+pub mod Enough
+pub mod OneTable
+pub mod PrintedFile
+pub mod PutBytes
+pub mod PutLines
+pub mod Trials

@@ -1,4 +1,4 @@
--- Some records are answered and their lines put, and the rest are left: what is put, and the lines of the rest, are all lines. Assumes nothing.
+-- Some records are answered and their lines put, and the rest are left: what is put, and the lines of the rest, are all lines.
 use mathlib.Core.Path.{_≡_, refl, sym, ap, _∙_}
 use mathlib.Core.Bool.{true}
 use mathlib.Core.List.{List, [], _++_, append-assoc, append-nil}
@@ -10,17 +10,18 @@ use lib.ListN.{length, length-append}
 use lib.Seq.{sets, length-sets}
 use borrow.Author.Tests.{eqb-true}
 use Rattle.formula.specs.Outcome.{outcomeOf}
-use Rattle.product.proofs.Truth.{and-both}
+use Rattle.base.proofs.Truth.{and-both}
 use Rattle.journal.specs.declared.file.Verdict.the-variants.{Readable}
 use Rattle.journal.specs.Reading.{word, recordOf, nextOf, wholeAt, recordsFrom, recordsOf, wholeFrom, verdictOf}
 use Rattle.journal.proofs.Files.{whole, open-file, count-small}
-use Rattle.journal.proofs.Storing.{sets-append}
-use Rattle.model.specs.Cells.{Cells, stepCells}
+use Rattle.journal.proofs.StoredBytes.{sets-append}
+use Rattle.model.specs.Cells.{Cells}
+use Rattle.model.specs.Stores.{stepCells}
 use Rattle.model.specs.Replay.{eventsIn}
-use Rattle.lines.specs.Lines.{linesFrom, mostLine}
+use Rattle.transcript.specs.Lines.{linesFrom, mostLine}
 use Rattle.transcript.specs.declared.After.{After}
 use Rattle.transcript.specs.Printing.{mostPrinted}
-use Rattle.transcript.specs.Steps.{lineAt, Answered, Replayed}
+use Rattle.transcript.specs.Internal.{lineAt, Answered, Replayed}
 
 abbrev pub linesOf : List ℕ → Cells → ℕ → ℕ → ℕ → List ℕ
 linesOf s d left i place = linesFrom place (eventsIn outcomeOf d (recordsFrom left s i))

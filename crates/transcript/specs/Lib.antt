@@ -1,2 +1,4 @@
+pub mod Lines
 pub mod Printing
-pub mod Steps
+pub mod Theorems
+pub mod Internal

@@ -1,10 +1,10 @@
--- What is printed for a file, in a lent buffer. Assumes nothing.
+-- What is printed for a file, in a lent buffer.
 use mathlib.Core.Path.{_≡_}
 use mathlib.Core.List.{List}
 use Prim.Native.Nat.{ℕ, _≤_}
 use lib.ListN.{length}
 use lib.Seq.{sets}
-use Rattle.lines.specs.Lines.{printed}
+use Rattle.transcript.specs.Lines.{printed}
 
 -- 7,280 lines of 20 bytes
 abbrev pub mostPrinted : ℕ

@@ -1,23 +1,26 @@
 // All that the office program prints for a file (document 01: 'Office program'): the file's records, answered one
 // after the other from the empty arrays on, a line each; or the file's refusal.
+mod bytes;
+mod lines;
+
 ghost use Prim.Native.Nat.{_+_, _≤_};
 ghost use mathlib.Core.Path.{_≡_};
 ghost use mathlib.Core.Bool.{true};
 ghost use lib.ListN.{length};
 ghost use Rattle.journal.specs.declared.file.Verdict.the-variants.{Readable};
 ghost use Rattle.journal.specs.Reading.{verdictOf, wholeAt};
-ghost use Rattle.lines.specs.Lines.{mostLine};
+ghost use Rattle.transcript.specs.Lines.{mostLine};
 ghost use Rattle.model.specs.Cells.{cellsWith};
 ghost use Rattle.transcript.specs.Printing.{mostPrinted, Prints};
-ghost use Rattle.transcript.specs.Steps.{Answered, Replayed};
+ghost use Rattle.transcript.specs.Internal.{Answered, Replayed};
+use crate::lines::file_line;
+use crate::lines::line;
 use guard::call;
 use journal::file::FILE_HEAD;
 use journal::file::Verdict;
 use journal::reader::open_file;
 use journal::reader::read;
 use journal::record::Found;
-use lines::file_line;
-use lines::line;
 use model::arrays::Locks;
 use model::arrays::Makers;
 use model::arrays::Registry;

@@ -1,4 +1,4 @@
--- The cases of `answerOf`. Assumes nothing.
+-- The cases of `answerOf`.
 use mathlib.Core.Path.{refl}
 use borrow.Author.Needs.{needs}
 use Rattle.checking.proofs.answer.Statement.{statement}

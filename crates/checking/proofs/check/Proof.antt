@@ -1,4 +1,4 @@
--- Of an operation the answer is that by the row that decides; of any other number none opens. Assumes nothing.
+-- Of an operation the answer is that by the row that decides; of any other number none opens.
 use mathlib.Core.Path.{_≡_, sym, ap, _∙_}
 use mathlib.Core.Bool.{Bool, true, false}
 use mathlib.Core.Logic.{⊎-elim}
@@ -6,19 +6,19 @@ use Prim.Native.Nat.{ℕ}
 use lib.Dec.{eqb}
 use borrow.Author.Needs.{needs}
 use borrow.Author.Tests.{eq-eqb, ne-eqb}
-use Rattle.call.proofs.Truth.{or-right}
+use Rattle.base.proofs.Truth.{or-right}
 use Rattle.model.specs.Operations.{execute, isAccess, isOperation}
 use Rattle.model.specs.Cells.{Table}
 use Rattle.checking.specs.declared.Checked.{Checked}
 use Rattle.checking.specs.Deciding.{checkOf}
-use Rattle.checking.specs.Steps.{openingOf, headChecked, codeChecked}
-use Rattle.checking.proofs.Deciding.{answered, no-check}
+use Rattle.checking.specs.Internal.{openingOf, headChecked, codeChecked}
+use Rattle.checking.proofs.DecidingRow.{answered, no-check}
 use Rattle.checking.proofs.check.Statement.{statement}
 use Rattle.checking.proofs.check.Tie as tie
 
 module _ (t w : Table) (n code : ℕ) (r : Checked) (is : r ≡ codeChecked code) (b : Bool) (i : b ≡ isAccess n) where
   accessed : b ≡ true → (x : ℕ) → codeChecked x ≡ headChecked (openingOf t w n) → code ≡ x → r ≡ checkOf t w n
-  accessed e x o j = answered t w n code r (or-right (eqb n execute) (isAccess n) (sym i ∙ e)) (ap codeChecked j ∙ o) is
+  accessed e x o j = answered t w n code r (or-right (eqb n execute) (sym i ∙ e)) (ap codeChecked j ∙ o) is
 
   executed : n ≡ execute → (x : ℕ) → codeChecked x ≡ headChecked (openingOf t w execute) → code ≡ x → r ≡ checkOf t w n
   executed e x o j =

@@ -1,11 +1,11 @@
--- The ranges of `codeChecked`. Assumes nothing.
+-- The ranges of `codeChecked`.
 use mathlib.Core.Path.{_≡_}
 use Prim.Native.Nat.{ℕ, _-_, _≤_, _<_}
 use native.Mathlib.Omega.{arith}
 use borrow.Author.Needs.{needs}
 use borrow.Author.Tests.{lt-ltb, le-ltb}
 use Rattle.checking.specs.declared.Checked.the-variants.{Granted, Denied, NotGranted}
-use Rattle.checking.specs.Steps.{codeChecked}
+use Rattle.checking.specs.Internal.{codeChecked}
 use Rattle.checking.proofs.checked_in.Statement.{statement}
 use Rattle.checking.proofs.checked_in.Tie as tie
 

@@ -1,10 +1,10 @@
--- Whether a deny row comes after row `from` is whether one comes from row p on. Assumes nothing.
+-- Whether a deny row comes after row `from` is whether one comes from row p on.
 use mathlib.Core.Path.{_≡_}
 use Prim.Native.Nat.{_+_, _-_}
 use borrow.Author.Needs.{needs}
 use lib.ListN.{length}
-use Rattle.checking.specs.Steps.{deniesFrom}
-use Rattle.checking.proofs.Turns.{Coming, coming-start, coming-end, coming-stop, coming-hit, coming-on}
+use Rattle.checking.specs.Internal.{deniesFrom}
+use Rattle.checking.proofs.LoopSteps.{Coming, coming-start, coming-end, coming-stop, coming-hit, coming-on}
 use Rattle.checking.proofs.denies_after.Statement.{statement}
 use Rattle.checking.proofs.denies_after.Tie as tie
 

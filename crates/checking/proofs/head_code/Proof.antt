@@ -1,4 +1,4 @@
--- The cases of `headChecked`, and the numbers that stand for them. Assumes nothing.
+-- The cases of `headChecked`, and the numbers that stand for them.
 use mathlib.Core.Path.{_≡_, sym, ap, _∙_}
 use mathlib.Core.Bool.{Bool, true, false}
 use Prim.Native.Nat.{ℕ, _+_, _-_, _/_, _<_, _≤_}
@@ -7,7 +7,7 @@ use borrow.Author.Needs.{needs}
 use borrow.Author.Tests.{eq-eqb, ne-eqb, lt-ltb, le-ltb}
 use Rattle.model.specs.Operations.{shares, deny}
 use Rattle.checking.specs.declared.Checked.the-variants.{Denied}
-use Rattle.checking.specs.Steps.{headChecked, codeChecked}
+use Rattle.checking.specs.Internal.{headChecked, codeChecked}
 use Rattle.checking.proofs.head_code.Statement.{statement}
 use Rattle.checking.proofs.head_code.Tie as tie
 

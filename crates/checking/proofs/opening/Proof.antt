@@ -1,5 +1,5 @@
 -- Outer loop: what decides is what decides from row p on, with the first grant row found before it. Inner loop: the row opens exactly when the
--- literals up to k agree. Assumes nothing.
+-- literals up to k agree.
 use mathlib.Core.Path.{_≡_, refl, ap, _∙_}
 use mathlib.Core.Logic.{⊎-elim}
 use Prim.Native.Nat.{_-_, _≤_, _<_}
@@ -8,8 +8,8 @@ use borrow.Author.Tests.{not-true, not-false}
 use lib.ListN.{length}
 use Rattle.model.specs.Cells.{rowAt}
 use Rattle.checking.specs.Deciding.{keysAt}
-use Rattle.checking.specs.Steps.{openingOf, headChecked}
-use Rattle.checking.proofs.Turns.{Left, left-start, left-listable, left-hit, left-miss, left-end, Rest, rest-start, rest-as, rest-end, rest-stop, rest-idle, rest-shut, rest-denied, rest-found, rest-before, rest-granted}
+use Rattle.checking.specs.Internal.{openingOf, headChecked}
+use Rattle.checking.proofs.LoopSteps.{Left, left-start, left-listable, left-hit, left-miss, left-end, Rest, rest-start, rest-as, rest-end, rest-stop, rest-idle, rest-shut, rest-denied, rest-found, rest-before, rest-granted}
 use Rattle.checking.proofs.opening.Statement.{statement}
 use Rattle.checking.proofs.opening.Tie as tie
 

@@ -1,4 +1,4 @@
--- A well formed call is its request; any other is refused. Assumes nothing.
+-- A well formed call is its request; any other is refused.
 use mathlib.Core.Path.{sym, _∙_}
 use borrow.Author.Needs.{needs}
 use Rattle.guard.proofs.Calls.{as-call, not-well-formed}

@@ -1,4 +1,4 @@
--- Each request is served by its call's function. Assumes nothing.
+-- Each request is served by its call's function.
 use mathlib.Core.Path.{refl}
 use borrow.Author.Needs.{needs}
 use Rattle.guard.proofs.Calls.{as-request, with-text}

@@ -1,4 +1,4 @@
--- The lesser of the count and the array's length. Assumes nothing.
+-- The lesser of the count and the array's length.
 use mathlib.Core.Path.{_≡_}
 use Prim.Native.Nat.{ℕ, min}
 use native.Mathlib.Omega.{arith}
@@ -6,7 +6,8 @@ use borrow.Author.Needs.{needs}
 use lib.ListN.{length, length-take}
 use Rattle.model.specs.Limits.{mostDefined}
 use Rattle.model.specs.Cells.{Row}
-use Rattle.registry.specs.Counts.{Counted, Handed}
+use Rattle.base.specs.Counts.{Counted}
+use Rattle.registry.specs.Counts.{Handed}
 use Rattle.registry.proofs.defined.Statement.{statement}
 use Rattle.registry.proofs.defined.Tie as tie
 

@@ -1,4 +1,4 @@
--- Refused where 32 users are there, else the next number is handed out. Assumes nothing.
+-- Refused where 32 users are there, else the next number is handed out.
 use mathlib.Core.Path.{refl, ap}
 use mathlib.Core.List.{List}
 use Prim.Native.Nat.{ℕ, suc, _+_, _≤_, _<_}
@@ -11,10 +11,12 @@ use Rattle.call.specs.declared.request.Request.the-variants.{NewUser}
 use Rattle.model.specs.declared.answer.Refusal.the-variants.{Full}
 use Rattle.model.specs.declared.answer.Answer.the-variants.{Accepted, Refused}
 use Rattle.model.specs.Limits.{mostUsers}
-use Rattle.model.specs.Model.{conditions, answer}
-use Rattle.model.specs.Cells.{Cells, registryIs, cell, userCount, stateOf, store}
+use Rattle.model.specs.Refusals.{conditions}
+use Rattle.model.specs.Effects.{answer}
+use Rattle.model.specs.Cells.{Cells, registryIs, cell, userCount, stateOf}
+use Rattle.model.specs.Stores.{store}
 use Rattle.model.specs.Serving.{Serves}
-use Rattle.model.proofs.Serving.{serves-refused, serves-accepted}
+use Rattle.model.proofs.Refinement.Serving.{serves-refused, serves-accepted}
 use Rattle.registry.proofs.new_user.Statement.{statement}
 use Rattle.registry.proofs.new_user.Tie as tie
 

@@ -1,4 +1,4 @@
--- What is printed lies within the buffer. Assumes nothing.
+-- What is printed lies within the buffer.
 use mathlib.Core.Path.{sym}
 use borrow.Author.Needs.{needs}
 use native.Mathlib.Omega.{arith}

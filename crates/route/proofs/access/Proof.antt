@@ -1,4 +1,4 @@
--- The gates and nothing else; an access changes nothing. Assumes nothing.
+-- The gates and nothing else; an access changes nothing.
 use mathlib.Core.Path.{_≡_, refl, sym, _∙_}
 use mathlib.Core.Bool.{Bool, true, false, _&&_, _||_}
 use mathlib.Core.List.{List, []}
@@ -8,22 +8,25 @@ use borrow.Author.Needs.{needs}
 use borrow.Author.Tests.{not-true, not-false}
 use Rattle.formula.specs.Outcome.{outcomeOf}
 use Rattle.call.specs.declared.request.Request.the-variants.{Access}
-use Rattle.call.proofs.Truth.{and-left, or-right}
+use Rattle.base.proofs.Truth.{and-left, or-right}
 use Rattle.model.specs.declared.answer.Refusal.the-variants.{NoThread, NoSegment, Unfit}
 use Rattle.model.specs.declared.answer.Answer.{Answer}
 use Rattle.model.specs.declared.answer.Answer.the-variants.{Accepted, Refused}
 use Rattle.model.specs.Limits.{mostThreads, mostSegments}
 use Rattle.model.specs.Operations.{execute, isAccess, takes, isOperation}
-use Rattle.model.specs.Model.{isThread, segmentAt, conditions, answer}
-use Rattle.model.specs.Cells.{Cells, cell, rowAt, tableAt, segmentCount, kindCell, stateOf, store}
+use Rattle.model.specs.State.{isThread, segmentAt}
+use Rattle.model.specs.Refusals.{conditions}
+use Rattle.model.specs.Effects.{answer}
+use Rattle.model.specs.Cells.{Cells, cell, rowAt, tableAt, segmentCount, kindCell, stateOf}
+use Rattle.model.specs.Stores.{store}
 use Rattle.model.specs.Serving.{Serves}
-use Rattle.model.proofs.Serving.{segmentsIn, segment-at, serves-accepted}
-use Rattle.registry.specs.Counts.{Counted}
-use Rattle.threads.specs.Steps.{Placed}
+use Rattle.model.proofs.Refinement.Serving.{segmentsIn, segment-at, serves-accepted}
+use Rattle.base.specs.Counts.{Counted}
+use Rattle.threads.specs.Places.{Placed}
 use Rattle.checking.specs.declared.Checked.{Checked}
 use Rattle.checking.specs.Deciding.{checkOf, answerOf}
-use Rattle.route.proofs.Gates.{gates}
-use Rattle.route.proofs.Asking.{answeredBy, answered, thread-missing, segment-missing, misfit, turned-away, let-through}
+use Rattle.route.proofs.AccessConditions.{gates}
+use Rattle.route.proofs.ArrayTests.{answeredBy, answered, thread-missing, segment-missing, misfit, turned-away, let-through}
 use Rattle.route.proofs.access.Statement.{statement}
 use Rattle.route.proofs.access.Tie as tie
 
@@ -54,7 +57,7 @@ module _ (d : Cells) (text : List ℕ) (a b n i : ℕ) (placed : Placed (d .thre
 
       module _ (e : known && taken ≡ true) where
         known-operation : isOperation n ≡ true
-        known-operation = or-right (eqb n execute) (isAccess n) (sym is-known ∙ and-left known taken e)
+        known-operation = or-right (eqb n execute) (sym is-known ∙ and-left known taken e)
 
         granted : (r : Answer) → r ≡ answeredBy (tableAt (d .threads) i) (tableAt (d .locks) b) n → Serves d (Access a b n) text r d
         unfolding answer store

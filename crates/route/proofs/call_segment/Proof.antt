@@ -1,4 +1,4 @@
--- The gates, then the limit; a call let through stores the segment's list as the newest frame. Assumes nothing.
+-- The gates, then the limit; a call let through stores the segment's list as the newest frame.
 use mathlib.Core.Path.{_≡_, refl, sym, ap, _∙_}
 use mathlib.Core.Bool.{Bool, true, false, cond}
 use mathlib.Core.List.{List, [], _∷_}
@@ -10,24 +10,27 @@ use borrow.Author.Needs.{needs}
 use borrow.Author.Tests.{not-true, not-false}
 use Rattle.formula.specs.Outcome.{outcomeOf}
 use Rattle.call.specs.declared.request.Request.the-variants.{CallSegment}
-use Rattle.call.specs.Conditions.{Condition, when, firstRefusal}
+use Rattle.base.specs.Conditions.{Condition, when, firstRefusal}
 use Rattle.model.specs.declared.answer.Refusal.{Refusal}
 use Rattle.model.specs.declared.answer.Refusal.the-variants.{NoThread, NoSegment, Unfit, Full}
 use Rattle.model.specs.declared.answer.Answer.{Answer}
 use Rattle.model.specs.declared.answer.Answer.the-variants.{Accepted, Refused}
 use Rattle.model.specs.Limits.{mostThreads, mostSegments, mostFrames, passes}
 use Rattle.model.specs.Operations.{execute, grants, takes}
-use Rattle.model.specs.Model.{isThread, segmentAt, threadAt, lockOf, opening, conditions, answer}
-use Rattle.model.specs.Cells.{Row, Table, Cells, threadsAre, cell, rowAt, tableAt, segmentCount, kindCell, listRow, depthOf, pushRow, onTable, stateOf, store}
+use Rattle.model.specs.State.{isThread, segmentAt, threadAt}
+use Rattle.model.specs.Refusals.{lockOf, opening, conditions}
+use Rattle.model.specs.Effects.{answer}
+use Rattle.model.specs.Cells.{Row, Table, Cells, threadsAre, cell, rowAt, tableAt, segmentCount, kindCell, listRow, depthOf, stateOf}
+use Rattle.model.specs.Stores.{pushRow, onTable, store}
 use Rattle.model.specs.Serving.{Serves}
-use Rattle.model.proofs.Checking.{under-limit}
-use Rattle.model.proofs.ThreadTables.{length-frames}
-use Rattle.model.proofs.Serving.{segmentsIn, segment-at, serves-refused, serves-accepted}
-use Rattle.registry.specs.Counts.{Counted}
-use Rattle.threads.specs.Steps.{Placed}
-use Rattle.threads.proofs.Finding.{stands}
-use Rattle.route.proofs.Gates.{gates}
-use Rattle.route.proofs.Asking.{answeredBy, answered, thread-missing, segment-missing, misfit, turned-away, let-through}
+use Rattle.model.proofs.Agreement.HistoryAnswers.{under-limit}
+use Rattle.model.proofs.Refinement.ThreadTables.{length-frames}
+use Rattle.model.proofs.Refinement.Serving.{segmentsIn, segment-at, serves-refused, serves-accepted}
+use Rattle.base.specs.Counts.{Counted}
+use Rattle.threads.specs.Places.{Placed}
+use Rattle.threads.proofs.FoundThread.{stands}
+use Rattle.route.proofs.AccessConditions.{gates}
+use Rattle.route.proofs.ArrayTests.{answeredBy, answered, thread-missing, segment-missing, misfit, turned-away, let-through}
 use Rattle.route.proofs.call_segment.Statement.{statement}
 use Rattle.route.proofs.call_segment.Tie as tie
 

@@ -1,7 +1,7 @@
--- A whole record is found, and answered as its call. Assumes nothing.
+-- A whole record is found, and answered as its call.
 use borrow.Author.Needs.{needs}
 use native.Mathlib.Omega.{arith}
-use Rattle.transcript.proofs.Answering.{not-end, not-damaged, entry-is, text-inside, answered}
+use Rattle.transcript.proofs.AnsweredRecord.{not-end, not-damaged, entry-is, text-inside, answered}
 use Rattle.transcript.proofs.answer.Statement.{statement}
 use Rattle.transcript.proofs.answer.Tie as tie
 

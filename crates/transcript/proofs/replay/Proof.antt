@@ -1,4 +1,4 @@
--- The invariant is that some records are answered and the rest are left; the measure is the bytes that are left. Assumes nothing.
+-- The invariant is that some records are answered and the rest are left; the measure is the bytes that are left.
 use Prim.Native.Nat.{_-_}
 use native.Mathlib.Omega.{arith}
 use lib.ListN.{length}

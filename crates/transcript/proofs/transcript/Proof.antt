@@ -1,8 +1,8 @@
--- A refused file prints its line, a readable one the lines of its records. Assumes nothing.
+-- A refused file prints its line, a readable one the lines of its records.
 use mathlib.Core.Path.{sym, _∙_}
 use borrow.Author.Needs.{needs}
 use native.Mathlib.Omega.{arith}
-use Rattle.transcript.proofs.Printing.{refused-prints, readable-prints}
+use Rattle.transcript.proofs.PrintedFile.{refused-prints, readable-prints}
 use Rattle.transcript.proofs.transcript.Statement.{statement}
 use Rattle.transcript.proofs.transcript.Tie as tie
 

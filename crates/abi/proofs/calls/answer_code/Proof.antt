@@ -1,4 +1,4 @@
--- By the answer's cases. Assumes nothing.
+-- By the answer's cases.
 use mathlib.Core.Path.{_≡_}
 use Prim.Native.Nat.{ℕ, _+_, _*_}
 use native.Mathlib.Omega.{arith}

@@ -1,6 +1,6 @@
--- The access's answer as a number. Assumes nothing.
+-- The access's answer as a number.
 use borrow.Author.Needs.{needs}
-use Rattle.abi.proofs.Telling.{tells}
+use Rattle.abi.proofs.AnswerCodes.{tells}
 use Rattle.abi.proofs.calls.rotundaaloe_access.Statement.{statement}
 use Rattle.abi.proofs.calls.rotundaaloe_access.Tie as tie
 

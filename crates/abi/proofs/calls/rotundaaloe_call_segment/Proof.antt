@@ -1,6 +1,6 @@
--- The call's answer as a number. Assumes nothing.
+-- The call's answer as a number.
 use borrow.Author.Needs.{needs}
-use Rattle.abi.proofs.Telling.{tells}
+use Rattle.abi.proofs.AnswerCodes.{tells}
 use Rattle.abi.proofs.calls.rotundaaloe_call_segment.Statement.{statement}
 use Rattle.abi.proofs.calls.rotundaaloe_call_segment.Tie as tie
 

@@ -1,6 +1,6 @@
--- The return's answer as a number. Assumes nothing.
+-- The return's answer as a number.
 use borrow.Author.Needs.{needs}
-use Rattle.abi.proofs.Telling.{tells}
+use Rattle.abi.proofs.AnswerCodes.{tells}
 use Rattle.abi.proofs.calls.rotundaaloe_return_call.Statement.{statement}
 use Rattle.abi.proofs.calls.rotundaaloe_return_call.Tie as tie
 

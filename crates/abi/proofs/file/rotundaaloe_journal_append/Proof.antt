@@ -1,4 +1,4 @@
--- The answer's number and the size, by its cases; the buffer is as `append` leaves it. Assumes nothing.
+-- The answer's number and the size, by its cases; the buffer is as `append` leaves it.
 use mathlib.Core.Path.{refl}
 use borrow.Author.Needs.{needs}
 use Rattle.abi.proofs.file.rotundaaloe_journal_append.Statement.{statement}

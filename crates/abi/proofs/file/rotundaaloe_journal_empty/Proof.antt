@@ -1,4 +1,4 @@
--- The answer's number, by its cases; the buffer is as `empty` leaves it. Assumes nothing.
+-- The answer's number, by its cases; the buffer is as `empty` leaves it.
 use borrow.Author.Needs.{needs}
 use Rattle.abi.proofs.file.rotundaaloe_journal_empty.Statement.{statement}
 use Rattle.abi.proofs.file.rotundaaloe_journal_empty.Tie as tie

@@ -1,4 +1,4 @@
--- What was found, by its cases: only a record changes the cursor and the values. Assumes nothing.
+-- What was found, by its cases: only a record changes the cursor and the values.
 use mathlib.Core.Path.{refl}
 use borrow.Author.Needs.{needs}
 use Rattle.abi.proofs.file.rotundaaloe_journal_next.Statement.{statement}

@@ -1,4 +1,4 @@
--- The verdict's number and the cursor, by its cases. Assumes nothing.
+-- The verdict's number and the cursor, by its cases.
 use mathlib.Core.Path.{refl}
 use borrow.Author.Needs.{needs}
 use Rattle.abi.proofs.file.rotundaaloe_journal_open.Statement.{statement}

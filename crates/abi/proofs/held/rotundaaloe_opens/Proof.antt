@@ -1,4 +1,4 @@
--- The test is on the answer of `opens`. Assumes nothing.
+-- The test is on the answer of `opens`.
 use borrow.Author.Needs.{needs}
 use mathlib.Core.Path.{sym, ap, _∙_}
 use Rattle.abi.specs.Answers.{bit}

@@ -1,4 +1,4 @@
--- Row by row, computed. Assumes nothing.
+-- Row by row, computed.
 use borrow.Author.Needs.{needs}
 use mathlib.Core.Path.{refl}
 use Rattle.abi.proofs.text.cells_of.Statement.{statement}

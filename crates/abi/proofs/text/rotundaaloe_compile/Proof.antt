@@ -1,4 +1,4 @@
--- A refusal's number is not 0: then the rows stay. The laws of the compiler bound the count. Assumes nothing.
+-- A refusal's number is not 0: then the rows stay. The laws of the compiler bound the count.
 use borrow.Author.Needs.{needs}
 use denote.Ref.{now}
 use mathlib.Core.Path.{_∙_}

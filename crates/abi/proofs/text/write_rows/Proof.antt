@@ -1,4 +1,4 @@
--- By the test. Assumes nothing.
+-- By the test.
 use borrow.Author.Needs.{needs}
 use Rattle.abi.proofs.text.write_rows.Statement.{statement}
 use Rattle.abi.proofs.text.write_rows.Tie as tie

@@ -1,4 +1,4 @@
--- A call that is not well formed is unfit; of one that is, the text's length decides. Assumes nothing.
+-- A call that is not well formed is unfit; of one that is, the text's length decides.
 use mathlib.Core.Path.{sym, _∙_}
 use borrow.Author.Needs.{needs}
 use Rattle.call.proofs.Texts.{not-well, well}

@@ -1,4 +1,4 @@
--- The test on the letter is that of `textFits`. Assumes nothing.
+-- The test on the letter is that of `textFits`.
 use mathlib.Core.Path.{refl}
 use borrow.Author.Tests.{eq-eqb, ne-eqb}
 use Rattle.call.proofs.record.text_fits.Statement.{statement}

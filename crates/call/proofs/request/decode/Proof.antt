@@ -1,7 +1,7 @@
--- What was found says which line the call has, and the tests are those of `judged`. Assumes nothing.
+-- What was found says which line the call has, and the tests are those of `judged`.
 use mathlib.Core.Path.{sym, _∙_}
 use borrow.Author.Needs.{needs}
-use Rattle.call.proofs.Lines.{unknown, known, unfit}
+use Rattle.call.proofs.TableLines.{unknown, known, unfit}
 use Rattle.call.proofs.request.decode.Statement.{statement}
 use Rattle.call.proofs.request.decode.Tie as tie
 

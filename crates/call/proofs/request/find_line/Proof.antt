@@ -1,6 +1,6 @@
--- Each arm has the row of its letter, and the default has none of the twelve. Assumes nothing.
+-- Each arm has the row of its letter, and the default has none of the twelve.
 use borrow.Author.Tests.{ne-eqb}
-use Rattle.call.specs.Steps.{lineOf}
+use Rattle.call.specs.Internal.{lineOf}
 use Rattle.call.proofs.request.find_line.Statement.{statement}
 use Rattle.call.proofs.request.find_line.Tie as tie
 

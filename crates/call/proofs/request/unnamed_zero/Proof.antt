@@ -1,4 +1,4 @@
--- The code says what `unnamedZero` says: by computing. Assumes nothing.
+-- The code says what `unnamedZero` says: by computing.
 use mathlib.Core.Path.{refl}
 use Rattle.call.proofs.request.unnamed_zero.Statement.{statement}
 use Rattle.call.proofs.request.unnamed_zero.Tie as tie

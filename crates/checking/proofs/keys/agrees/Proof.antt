@@ -1,8 +1,8 @@
--- The literal says its sign and the key its kind. Assumes nothing.
+-- The literal says its sign and the key its kind.
 use mathlib.Core.Path.{refl}
 use mathlib.Core.Logic.{⊎-elim}
 use borrow.Author.Needs.{needs}
-use Rattle.checking.proofs.Codes.{user-key, thread-key, segment-key, defined-key, plain-agrees, barred-agrees, plain-listable, barred-listable, defined-low}
+use Rattle.checking.proofs.KeyCells.{user-key, thread-key, segment-key, defined-key, plain-agrees, barred-agrees, plain-listable, barred-listable, defined-low}
 use Rattle.checking.proofs.keys.agrees.Statement.{statement}
 use Rattle.checking.proofs.keys.agrees.Tie as tie
 

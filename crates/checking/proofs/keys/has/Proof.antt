@@ -1,9 +1,9 @@
--- Eight comparisons, joined, ask every cell. Assumes nothing.
+-- Eight comparisons, joined, ask every cell.
 use mathlib.Core.Path.{_≡_}
 use borrow.Author.Needs.{needs}
 use lib.ListN.{length}
 use Rattle.model.specs.Cells.{Row}
-use Rattle.checking.proofs.Codes.{eight-cells}
+use Rattle.checking.proofs.KeyCells.{eight-cells}
 use Rattle.checking.proofs.keys.has.Statement.{statement}
 use Rattle.checking.proofs.keys.has.Tie as tie
 

@@ -1,8 +1,8 @@
--- A frame hands the key over exactly when one of those still to be asked does. Assumes nothing.
+-- A frame hands the key over exactly when one of those still to be asked does.
 use Prim.Native.Nat.{_≤_}
 use borrow.Author.Needs.{needs}
-use Rattle.checking.specs.Steps.{inherited}
-use Rattle.checking.proofs.Turns.{Asked, asked-start, asked-hit, asked-miss, asked-end}
+use Rattle.checking.specs.Internal.{inherited}
+use Rattle.checking.proofs.LoopSteps.{Asked, asked-start, asked-hit, asked-miss, asked-end}
 use Rattle.checking.proofs.keys.inherits.Statement.{statement}
 use Rattle.checking.proofs.keys.inherits.Tie as tie
 

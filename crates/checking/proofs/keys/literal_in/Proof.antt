@@ -1,6 +1,6 @@
--- The range of the cell says which literal it is. Assumes nothing.
+-- The range of the cell says which literal it is.
 use borrow.Author.Needs.{needs}
-use Rattle.checking.proofs.Codes.{plain-segment, plain-defined, barred-segment, barred-defined, plain-user, plain-thread, barred-user, barred-thread}
+use Rattle.checking.proofs.KeyCells.{plain-segment, plain-defined, barred-segment, barred-defined, plain-user, plain-thread, barred-user, barred-thread}
 use Rattle.checking.proofs.keys.literal_in.Statement.{statement}
 use Rattle.checking.proofs.keys.literal_in.Tie as tie
 

@@ -1,4 +1,4 @@
--- The value so far and the digits that are left make the number, which only grows; the measure is the bytes that are left. Assumes nothing.
+-- The value so far and the digits that are left make the number, which only grows; the measure is the bytes that are left.
 use borrow.Author.Needs.{needs}
 use borrow.Author.Tests.{not-true, not-false}
 use denote.Ref.{now}
@@ -10,8 +10,8 @@ use native.Mathlib.Omega.{arith}
 use lib.ListN.{length, drop, getD, drop-of-length-le}
 use Rattle.formula.proofs.Decimals.{digit-range}
 use Rattle.formula.proofs.Numerals.{digits-grow, digits-step, digits-end}
-use Rattle.formula.specs.Steps.{too-large, number}
-use Rattle.formula.specs.Reader.{digit, readDigits}
+use Rattle.formula.specs.Internal.Readers.{too-large, number}
+use Rattle.formula.specs.Internal.Reader.{digit, readDigits}
 use Rattle.formula.proofs.number.read_digits.Statement.{statement}
 use Rattle.formula.proofs.number.read_digits.Tie as tie
 

@@ -1,12 +1,12 @@
--- The three ways that a number begins: no digit, a 0 with another digit after it, any other digit. Assumes nothing.
+-- The three ways that a number begins: no digit, a 0 with another digit after it, any other digit.
 use borrow.Author.Needs.{needs}
 use borrow.Author.Tests.{not-true, not-false}
 use denote.Ref.{now}
 use mathlib.Core.Path.{sym, ap, _∙_}
 use Prim.Native.Nat.{ℕ}
 use Rattle.formula.proofs.Numerals.{number-none, number-padded, number-some}
-use Rattle.formula.specs.Steps.{no-digits}
-use Rattle.formula.specs.Reader.{digit}
+use Rattle.formula.specs.Internal.Readers.{no-digits}
+use Rattle.formula.specs.Internal.Reader.{digit}
 use Rattle.formula.proofs.number.read_number.Statement.{statement}
 use Rattle.formula.proofs.number.read_number.Tie as tie
 

@@ -1,12 +1,12 @@
 -- The cycle of the readers. The measure of each is the bytes that remain, times 4, and a small number that orders the readers at one
--- place. A law of `Walking` for each way through a reader. Assumes nothing.
+-- place. A law of `Walking` for each way through a reader.
 use denote.Ref.{now}
 use borrow.Author.Needs.{needs}
 use mathlib.Core.Path.{_≡_, sym, _∙_}
 use native.Mathlib.Omega.{arith}
 use lib.ListN.{length, getD}
 use Prim.Native.Nat.{ℕ, _<_, _+_, _*_, _-_}
-use Rattle.formula.proofs.Walking.{inside, not-negated, not-bracketed, not-atom, bracket-deep, bracket-failed, bracket-unclosed, bracket-closed, chain-further, chain-failed, chain-begun, chain-stop, chain-broken, chain-grown, andChain, orChain}
+use Rattle.formula.proofs.ReaderSteps.{inside, not-negated, not-bracketed, not-atom, bracket-deep, bracket-failed, bracket-unclosed, bracket-closed, chain-further, chain-failed, chain-begun, chain-stop, chain-broken, chain-grown, andChain, orChain}
 use borrow.Fn.Kinds.{In}
 use borrow.Fn.PlainCycle.{Measures, is, falls, and}
 use Rattle.formula.proofs.reader.more_and.Reads as more-and

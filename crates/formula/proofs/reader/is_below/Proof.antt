@@ -1,4 +1,4 @@
--- A number of 16 bits passes the first test. Assumes nothing.
+-- A number of 16 bits passes the first test.
 use borrow.Author.Tests.{lt-ltb}
 use native.Mathlib.Omega.{arith}
 use Rattle.formula.proofs.reader.is_below.Statement.{statement}

@@ -1,4 +1,4 @@
--- The count of the key's own kind decides. Assumes nothing.
+-- The count of the key's own kind decides.
 use borrow.Author.Needs.{needs}
 use Rattle.formula.specs.Text.{issuedTo}
 use Rattle.formula.proofs.reader.is_issued.Statement.{statement}

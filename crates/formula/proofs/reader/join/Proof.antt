@@ -1,4 +1,4 @@
--- By the test. Assumes nothing.
+-- By the test.
 use borrow.Author.Needs.{needs}
 use Rattle.formula.proofs.reader.join.Statement.{statement}
 use Rattle.formula.proofs.reader.join.Tie as tie

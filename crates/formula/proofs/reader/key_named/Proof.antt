@@ -1,4 +1,4 @@
--- The tests on the letter are those of `keyNamed`. Assumes nothing.
+-- The tests on the letter are those of `keyNamed`.
 use borrow.Author.Tests.{eq-eqb, ne-eqb}
 use Rattle.formula.proofs.reader.key_named.Statement.{statement}
 use Rattle.formula.proofs.reader.key_named.Tie as tie

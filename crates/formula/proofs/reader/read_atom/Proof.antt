@@ -1,9 +1,9 @@
--- A law for each way out (`atom-past` and on). Assumes nothing.
+-- A law for each way out (`atom-past` and on).
 use borrow.Author.Needs.{needs}
 use borrow.Author.Tests.{not-true, not-false}
 use denote.Ref.{now}
 use mathlib.Core.Path.{sym, _∙_}
-use Rattle.formula.proofs.Walking.{atom-past, atom-unread, atom-unnamed, atom-unknown, atom-known, atom-list}
+use Rattle.formula.proofs.ReaderSteps.{atom-past, atom-unread, atom-unnamed, atom-unknown, atom-known, atom-list}
 use Rattle.formula.proofs.reader.read_atom.Statement.{statement}
 use Rattle.formula.proofs.reader.read_atom.Tie as tie
 

@@ -1,4 +1,4 @@
--- By the test. Assumes nothing.
+-- By the test.
 use Rattle.formula.proofs.reader.signed.Statement.{statement}
 use Rattle.formula.proofs.reader.signed.Tie as tie
 

@@ -1,8 +1,8 @@
--- A law of `Answering` for each way out. Assumes nothing.
+-- A law of `Answering` for each way out.
 use borrow.Author.Needs.{needs}
 use denote.Ref.{now}
 use mathlib.Core.Path.{_∙_}
-use Rattle.formula.proofs.Answering.{long-text, text-unread, text-longer, text-wide, text-unsatisfiable, text-accepted}
+use Rattle.formula.proofs.CompiledAnswers.{long-text, text-unread, text-longer, text-wide, text-unsatisfiable, text-accepted}
 use Rattle.formula.proofs.text.compile.Statement.{statement}
 use Rattle.formula.proofs.text.compile.Tie as tie
 

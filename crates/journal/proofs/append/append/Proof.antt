@@ -1,4 +1,4 @@
--- An answer that is a length gives what `store_record` asks; after a refusal the buffer is as it was. Assumes nothing.
+-- An answer that is a length gives what `store_record` asks; after a refusal the buffer is as it was.
 use mathlib.Core.Path.{refl, sym, _∙_}
 use native.Mathlib.Omega.{arith}
 use borrow.Author.Needs.{needs}

@@ -1,11 +1,11 @@
--- A law of `Answering` for each way out. Assumes nothing.
+-- A law of `Answering` for each way out.
 use mathlib.Core.Path.{sym, _∙_}
 use native.Mathlib.Omega.{arith}
 use lib.Seq.{length-take-le}
 use borrow.Author.Needs.{needs}
 use borrow.Author.Tests.{not-false}
 use Rattle.call.proofs.Texts.{text-short}
-use Rattle.journal.proofs.Answering.{beyond, file-refused, unfit, no-room, accepts}
+use Rattle.journal.proofs.AppendAnswers.{beyond, file-refused, unfit, no-room, accepts}
 use Rattle.journal.proofs.append.append_answer.Statement.{statement}
 use Rattle.journal.proofs.append.append_answer.Tie as tie
 

@@ -1,4 +1,4 @@
--- The seven bytes that are stored are the file of no record. Assumes nothing.
+-- The seven bytes that are stored are the file of no record.
 use mathlib.Core.Path.{refl}
 use borrow.Author.Needs.{needs}
 use borrow.Author.Tests.{lt-ltb, le-ltb}

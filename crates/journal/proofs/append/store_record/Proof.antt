@@ -1,6 +1,6 @@
--- The three stores are those of `withRecord`. Assumes nothing.
+-- The three stores are those of `withRecord`.
 use borrow.Author.Needs.{needs}
-use Rattle.journal.proofs.Storing.{stored}
+use Rattle.journal.proofs.StoredBytes.{stored}
 use Rattle.journal.proofs.append.store_record.Statement.{statement}
 use Rattle.journal.proofs.append.store_record.Tie as tie
 

@@ -1,10 +1,10 @@
--- The invariant is that the first `i` elements are stored; the measure is how many are left. Assumes nothing.
+-- The invariant is that the first `i` elements are stored; the measure is how many are left.
 use Prim.Native.Nat.{_≤_, _-_}
 use mathlib.Core.Path.{_≡_, refl, _∙_}
 use native.Mathlib.Omega.{arith}
 use lib.ListN.{length, take}
 use lib.Seq.{sets, take-all}
-use Rattle.journal.proofs.Storing.{store-more, same-after}
+use Rattle.journal.proofs.StoredBytes.{store-more, same-after}
 use Rattle.journal.proofs.bytes.store.Statement.{statement}
 use Rattle.journal.proofs.bytes.store.Tie as tie
 

@@ -1,4 +1,4 @@
--- The two bytes are below 256, so their word fits 16 bits. Assumes nothing.
+-- The two bytes are below 256, so their word fits 16 bits.
 use native.Mathlib.Omega.{arith}
 use Prim.Native.Nat.{_+_}
 use borrow.Author.Needs.{needs}

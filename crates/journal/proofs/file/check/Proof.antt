@@ -1,8 +1,8 @@
--- A refusal of the head is the file's, and otherwise the records decide. Assumes nothing.
+-- A refusal of the head is the file's, and otherwise the records decide.
 use mathlib.Core.Path.{sym, _∙_}
 use denote.Ref.{now}
 use borrow.Author.Needs.{needs}
-use Rattle.journal.proofs.Judging.{head-refused, head-long, records-decide}
+use Rattle.journal.proofs.FileVerdicts.{head-refused, head-long, records-decide}
 use Rattle.journal.proofs.file.check.Statement.{statement}
 use Rattle.journal.proofs.file.check.Tie as tie
 

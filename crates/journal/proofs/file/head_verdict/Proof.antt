@@ -1,4 +1,4 @@
--- At each return the tests on the way choose the condition. Assumes nothing.
+-- At each return the tests on the way choose the condition.
 use mathlib.Core.Path.{refl}
 use borrow.Author.Tests.{lt-ltb, le-ltb}
 use Rattle.journal.proofs.file.head_verdict.Statement.{statement}

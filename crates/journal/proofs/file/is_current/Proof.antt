@@ -1,4 +1,4 @@
--- Five bytes or more have a version. Assumes nothing.
+-- Five bytes or more have a version.
 use borrow.Author.Needs.{needs}
 use borrow.Author.Tests.{lt-leb, le-leb}
 use Rattle.journal.proofs.file.is_current.Statement.{statement}

@@ -1,4 +1,4 @@
--- Three bytes or more are compared with the mark. Assumes nothing.
+-- Three bytes or more are compared with the mark.
 use borrow.Author.Needs.{needs}
 use borrow.Author.Tests.{lt-leb, le-leb}
 use Rattle.journal.proofs.file.is_marked.Statement.{statement}

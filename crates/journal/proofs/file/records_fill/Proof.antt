@@ -1,8 +1,8 @@
--- The invariant is that the records left decide what all of them do; the measure is how many are left. Assumes nothing.
+-- The invariant is that the records left decide what all of them do; the measure is how many are left.
 use mathlib.Core.Path.{_≡_, _∙_}
 use borrow.Author.Needs.{needs}
 use Rattle.journal.specs.Reading.{word, wholeFrom}
-use Rattle.journal.proofs.Finding.{size-end, turn, no-turn, last-turn}
+use Rattle.journal.proofs.RecordSizes.{size-end, turn, no-turn, last-turn}
 use Rattle.journal.proofs.file.records_fill.Statement.{statement}
 use Rattle.journal.proofs.file.records_fill.Tie as tie
 

@@ -1,5 +1,5 @@
 -- A walk of the function's MIR, by hand: the struct behind the `&mut` is opened, `record_at` is called on what it holds, `after` on what was found,
--- and the cursor is stored. The struct is Copy: what it owns is had twice, and one copy is kept for the closing. Assumes nothing.
+-- and the cursor is stored. The struct is Copy: what it owns is had twice, and one copy is kept for the closing.
 use mathlib.Core.Path.{_≡_, refl}
 use Prim.Native.Nat.{ℕ, _<_, _^_}
 use mathlib.Core.List.{[], _∷_, List, head-eq-of-cons-eq}
@@ -44,7 +44,7 @@ use denote.Triple.Walked.{says, Stays, stay-ref, walkOf, goes-ref, Walks, ends-a
 use Rattle.journal.specs.Reading.{cursorAfter}
 use Rattle.journal.specs.declared.reader.Reader.{Reader}
 use Rattle.journal.specs.declared.record.Found.{Found}
-use Rattle.journal.proofs.Held.{found, D, L, fields, Own, RecordAt, call-on, said, apart}
+use Rattle.journal.proofs.ReaderParts.{found, D, L, fields, Own, RecordAt, call-on, said, apart}
 use Rattle.journal.proofs.reader.Reader as T
 use Rattle.journal.proofs.reader.Reader.Laws as T′
 use Rattle.journal.proofs.record.Found as S

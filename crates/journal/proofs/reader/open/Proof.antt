@@ -1,5 +1,5 @@
 -- A walk of the function's MIR, by hand, as of `next`: the struct behind the `&mut` is opened, `check` is called on the slice that it holds, `opened` on
--- the verdict, and the cursor is stored. Assumes nothing.
+-- the verdict, and the cursor is stored.
 use mathlib.Core.Path.{_≡_, refl}
 use Prim.Native.Nat.{ℕ, _<_, _^_}
 use mathlib.Core.List.{[], _∷_, List, head-eq-of-cons-eq}
@@ -44,7 +44,7 @@ use denote.Triple.Walked.{says, Stays, stay-ref, walkOf, goes-ref, Walks, ends-a
 use Rattle.journal.specs.Reading.{cursorOpened}
 use Rattle.journal.specs.declared.reader.Reader.{Reader}
 use Rattle.journal.specs.declared.file.Verdict.{Verdict}
-use Rattle.journal.proofs.Held.{judged, D, L, fields, Own, Check, check-on, check-said, check-apart}
+use Rattle.journal.proofs.ReaderParts.{judged, D, L, fields, Own, Check, check-on, check-said, check-apart}
 use Rattle.journal.proofs.reader.Reader as T
 use Rattle.journal.proofs.reader.Reader.Laws as T′
 use Rattle.journal.proofs.file.Verdict as S

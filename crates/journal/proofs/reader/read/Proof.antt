@@ -1,6 +1,6 @@
 -- A walk of the function's MIR, by hand: the reader that `place` returns is stored in a local, which is lent to `next` by `&mut` for a lifetime that is
 -- made for the call (`Held.antt`'s `lends`, `ends`). In a local MIR erases the lifetime of the struct's type, so the value is shown to have the type at
--- `erased`: what the struct owns does not say the lifetime's name. Assumes nothing.
+-- `erased`: what the struct owns does not say the lifetime's name.
 use mathlib.Core.Path.{_≡_, refl, ap, _∙_}
 use Prim.Native.Nat.{ℕ, _<_, _^_}
 use mathlib.Core.List.{List, [], _∷_}
@@ -43,7 +43,7 @@ use denote.Triple.Clauses.{ensured, lasts}
 use Rattle.journal.specs.Reading.{foundAt, cursorAfter}
 use Rattle.journal.specs.declared.reader.Reader.{Reader}
 use Rattle.journal.specs.declared.record.Found.{Found}
-use Rattle.journal.proofs.Held.{found, Cell, borrowed, Borrowed, Tokens, Kept, lends, ends}
+use Rattle.journal.proofs.ReaderParts.{found, Cell, borrowed, Borrowed, Tokens, Kept, lends, ends}
 use Rattle.journal.proofs.reader.Reader as T
 use Rattle.journal.proofs.reader.Reader.Laws as T′
 use Rattle.journal.proofs.record.Found as S

@@ -1,6 +1,6 @@
--- The size says whether a record is found, and that its head is inside the file. Assumes nothing.
+-- The size says whether a record is found, and that its head is inside the file.
 use borrow.Author.Needs.{needs}
-use Rattle.journal.proofs.Finding.{no-size, size-head, size-end, found-end, found-damaged, found-entry}
+use Rattle.journal.proofs.RecordSizes.{no-size, size-head, size-end, found-end, found-damaged, found-entry}
 use Rattle.journal.proofs.record.record_at.Statement.{statement}
 use Rattle.journal.proofs.record.record_at.Tie as tie
 

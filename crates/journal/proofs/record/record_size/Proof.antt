@@ -1,7 +1,7 @@
--- The tests and the four words say which case of `sizeAt` holds. Assumes nothing.
+-- The tests and the four words say which case of `sizeAt` holds.
 use native.Mathlib.Omega.{arith}
 use borrow.Author.Needs.{needs}
-use Rattle.journal.proofs.Finding.{cut-short, unfit, text-cut, is-whole}
+use Rattle.journal.proofs.RecordSizes.{cut-short, unfit, text-cut, is-whole}
 use Rattle.journal.proofs.record.record_size.Statement.{statement}
 use Rattle.journal.proofs.record.record_size.Tie as tie
 

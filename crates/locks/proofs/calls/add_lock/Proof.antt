@@ -1,4 +1,4 @@
--- A refusal is the first test that fails; the lock's rows go to its segment's. Assumes nothing.
+-- A refusal is the first test that fails; the lock's rows go to its segment's.
 use mathlib.Core.Path.{_≡_, refl, sym, ap, ap₂, _∙_}
 use mathlib.Core.Bool.{true, false, _||_}
 use mathlib.Core.List.{List, [], map}
@@ -19,13 +19,16 @@ use Rattle.model.specs.declared.answer.Answer.{Answer}
 use Rattle.model.specs.declared.answer.Answer.the-variants.{Refused}
 use Rattle.model.specs.Limits.{mostStanding, mostNumbers, passes}
 use Rattle.model.specs.Operations.{takesSet}
-use Rattle.model.specs.Model.{conditions, answer, isSegment, owns, segmentAt, issued}
-use Rattle.model.specs.Cells.{Row, Table, Cells, registryIs, locksAre, cell, rowAt, tableAt, userCount, lockCount, ownerCell, kindCell, usedRows, productIn, countUp, storeRows, productRow, stateOf, store}
+use Rattle.model.specs.Refusals.{conditions}
+use Rattle.model.specs.Effects.{answer}
+use Rattle.model.specs.State.{isSegment, owns, segmentAt, issued}
+use Rattle.model.specs.Cells.{Row, Table, Cells, registryIs, locksAre, cell, rowAt, tableAt, userCount, lockCount, ownerCell, kindCell, usedRows, productIn, stateOf}
+use Rattle.model.specs.Stores.{countUp, storeRows, productRow, store}
 use Rattle.model.specs.Serving.{Serves}
-use Rattle.model.proofs.Serving.{serves-refused, serves-accepted, segmentsIn, is-segment, segment-at}
-use Rattle.locks.specs.Steps.{rowsFrom, issuedIn, isFull, LockJudged, full, stored, malformed-text, wide-text, unsatisfiable-text, accepted-text}
+use Rattle.model.proofs.Refinement.Serving.{serves-refused, serves-accepted, segmentsIn, is-segment, segment-at}
+use Rattle.locks.specs.Internal.{rowsFrom, issuedIn, isFull, LockJudged, full, stored, malformed-text, wide-text, unsatisfiable-text, accepted-text}
 use Rattle.locks.proofs.Tests.{test-fails, test-holds}
-use Rattle.locks.proofs.Compiling.{operations-low, issued-is, Judged, judged, sum-kept, rows-stored}
+use Rattle.locks.proofs.CompiledRows.{operations-low, issued-is, Judged, judged, sum-kept, rows-stored}
 use denote.Ref.{now}
 use borrow.Author.Needs.{needs}
 use Rattle.locks.proofs.calls.add_lock.Statement.{statement}

@@ -1,4 +1,4 @@
--- A refusal is the first test that fails; the lock's rows go from its segment's. Assumes nothing.
+-- A refusal is the first test that fails; the lock's rows go from its segment's.
 use mathlib.Core.Path.{_≡_, sym, ap, _∙_}
 use mathlib.Core.Bool.{true, false}
 use mathlib.Core.List.{List}
@@ -11,14 +11,17 @@ use Rattle.call.specs.declared.request.Request.{Request}
 use Rattle.call.specs.declared.request.Request.the-variants.{DropLock}
 use Rattle.model.specs.declared.answer.Refusal.the-variants.{UnknownUser, NoLock, NotOwner}
 use Rattle.model.specs.declared.answer.Answer.the-variants.{Accepted, Refused}
-use Rattle.model.specs.Model.{conditions, answer, owns, homeOf, segmentAt, isOfLock}
-use Rattle.model.specs.Lists.{keep}
-use Rattle.model.specs.Cells.{Table, Cells, locksAre, cell, rowAt, tableAt, userCount, ownerCell, onTable, dropRows, stateOf, store}
+use Rattle.model.specs.Refusals.{conditions}
+use Rattle.model.specs.Effects.{answer}
+use Rattle.model.specs.State.{owns, homeOf, segmentAt, isOfLock}
+use Rattle.base.specs.Lists.{keep}
+use Rattle.model.specs.Cells.{Table, Cells, locksAre, cell, rowAt, tableAt, userCount, ownerCell, stateOf}
+use Rattle.model.specs.Stores.{onTable, dropRows, store}
 use Rattle.model.specs.Serving.{Serves}
-use Rattle.model.proofs.Serving.{serves-refused, serves-accepted, segmentsIn, segment-at}
-use Rattle.locks.specs.Steps.{homeIn, HomeFound, Dropped}
+use Rattle.model.proofs.Refinement.Serving.{serves-refused, serves-accepted, segmentsIn, segment-at}
+use Rattle.locks.specs.Internal.{homeIn, HomeFound, Dropped}
 use Rattle.locks.proofs.Tests.{test-fails, test-holds}
-use Rattle.locks.proofs.Homes.{home-is, no-home, has-home, count-at}
+use Rattle.locks.proofs.LockSegments.{home-is, no-home, has-home, count-at}
 use borrow.Author.Needs.{needs}
 use Rattle.locks.proofs.calls.drop_lock.Statement.{statement}
 use Rattle.locks.proofs.calls.drop_lock.Tie as tie

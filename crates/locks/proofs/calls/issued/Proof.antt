@@ -1,5 +1,5 @@
--- Each count, as it is read. Assumes nothing.
-use Rattle.locks.proofs.Compiling.{issued-made}
+-- Each count, as it is read.
+use Rattle.locks.proofs.CompiledRows.{issued-made}
 use denote.Ref.{now}
 use borrow.Author.Needs.{needs}
 use Rattle.locks.proofs.calls.issued.Statement.{statement}

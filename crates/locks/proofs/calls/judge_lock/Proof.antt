@@ -1,5 +1,5 @@
--- By the verdict. Assumes nothing.
-use Rattle.locks.specs.Steps.{malformed-text, wide-text, unsatisfiable-text, accepted-text}
+-- By the verdict.
+use Rattle.locks.specs.Internal.{malformed-text, wide-text, unsatisfiable-text, accepted-text}
 use borrow.Author.Needs.{needs}
 use Rattle.locks.proofs.calls.judge_lock.Statement.{statement}
 use Rattle.locks.proofs.calls.judge_lock.Tie as tie

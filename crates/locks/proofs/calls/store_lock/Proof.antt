@@ -1,6 +1,6 @@
--- Each limit is a test, and the lock's rows are stored where the used ones end. Assumes nothing.
-use Rattle.locks.specs.Steps.{full}
-use Rattle.locks.proofs.Compiling.{too-many, no-number, lock-stored}
+-- Each limit is a test, and the lock's rows are stored where the used ones end.
+use Rattle.locks.specs.Internal.{full}
+use Rattle.locks.proofs.CompiledRows.{too-many, no-number, lock-stored}
 use borrow.Author.Needs.{needs}
 use Rattle.locks.proofs.calls.store_lock.Statement.{statement}
 use Rattle.locks.proofs.calls.store_lock.Tie as tie

@@ -1,4 +1,4 @@
--- By the test. Assumes nothing.
+-- By the test.
 use Rattle.locks.proofs.LiteralCells.{no-cell, a-cell}
 use borrow.Author.Needs.{needs}
 use Rattle.locks.proofs.cells.cell_at.Statement.{statement}

@@ -1,4 +1,4 @@
--- Each kind's number is added to where its cells begin. Assumes nothing.
+-- Each kind's number is added to where its cells begin.
 use mathlib.Core.Path.{refl}
 use Rattle.locks.proofs.LiteralCells.{key-below}
 use borrow.Author.Needs.{needs}

@@ -1,4 +1,4 @@
--- The key's cell, and more where the literal is barred. Assumes nothing.
+-- The key's cell, and more where the literal is barred.
 use Rattle.locks.proofs.LiteralCells.{barred-cell}
 use borrow.Author.Needs.{needs}
 use Rattle.locks.proofs.cells.literal_cell.Statement.{statement}

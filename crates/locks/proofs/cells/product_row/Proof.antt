@@ -1,4 +1,4 @@
--- Cell by cell. Assumes nothing.
+-- Cell by cell.
 use Rattle.locks.proofs.LiteralCells.{row-made}
 use borrow.Author.Needs.{needs}
 use Rattle.locks.proofs.cells.product_row.Statement.{statement}

@@ -1,6 +1,6 @@
--- The rows so far are stored (`Adding`), and then the end. Assumes nothing.
+-- The rows so far are stored (`Adding`), and then the end.
 use Prim.Native.Nat.{_-_, _≤_}
-use Rattle.locks.proofs.Adding.{rowNext, Adding, adding-start, adding-next, adding-end}
+use Rattle.locks.proofs.AddedRows.{rowNext, Adding, adding-start, adding-next, adding-end}
 use borrow.Author.Needs.{needs}
 use Rattle.locks.proofs.rows.add_rows.Statement.{statement}
 use Rattle.locks.proofs.rows.add_rows.Tie as tie

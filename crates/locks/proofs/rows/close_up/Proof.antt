@@ -1,9 +1,9 @@
--- The rows so far are closed up (`Packing`). Assumes nothing.
+-- The rows so far are closed up (`Packing`).
 use mathlib.Core.Logic.{⊎-elim}
 use borrow.Author.Tests.{eq-eqb, ne-eqb}
 use Prim.Native.Nat.{_-_, _≤_}
-use Rattle.locks.specs.Steps.{ClosedUp}
-use Rattle.locks.proofs.Packing.{packing-start, packing-skip, packing-keep, packing-same, packing-whole}
+use Rattle.locks.specs.Internal.{ClosedUp}
+use Rattle.locks.proofs.KeptRows.{packing-start, packing-skip, packing-keep, packing-same, packing-whole}
 use borrow.Author.Needs.{needs}
 use Rattle.locks.proofs.rows.close_up.Statement.{statement}
 use Rattle.locks.proofs.rows.close_up.Tie as tie

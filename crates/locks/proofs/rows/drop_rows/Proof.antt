@@ -1,5 +1,5 @@
--- The used rows that stay are closed up, and the end is marked (`dropped`). Assumes nothing.
-use Rattle.locks.proofs.Packing.{dropped}
+-- The used rows that stay are closed up, and the end is marked (`dropped`).
+use Rattle.locks.proofs.KeptRows.{dropped}
 use borrow.Author.Needs.{needs}
 use Rattle.locks.proofs.rows.drop_rows.Statement.{statement}
 use Rattle.locks.proofs.rows.drop_rows.Tie as tie

@@ -1,4 +1,4 @@
--- After the last row nothing is stored. Assumes nothing.
+-- After the last row nothing is stored.
 use mathlib.Core.Path.{sym}
 use lib.Seq.{set-out}
 use borrow.Author.Needs.{needs}

@@ -1,7 +1,7 @@
--- What is left from row i on has a row of the lock exactly where all have (`Seeking`). Assumes nothing.
+-- What is left from row i on has a row of the lock exactly where all have (`Seeking`).
 use Prim.Native.Nat.{_-_}
 use borrow.Author.Tests.{eq-eqb, ne-eqb}
-use Rattle.locks.proofs.Scanning.{Seeking, seeking-start, seeking-ends, seeking-found, seeking-on, seeking-past}
+use Rattle.locks.proofs.UsedRows.{Seeking, seeking-start, seeking-ends, seeking-found, seeking-on, seeking-past}
 use borrow.Author.Needs.{needs}
 use Rattle.locks.proofs.rows.has_row.Statement.{statement}
 use Rattle.locks.proofs.rows.has_row.Tie as tie

@@ -1,9 +1,9 @@
--- What the whole search finds is what is found from segment s on (`Searching`). Assumes nothing.
+-- What the whole search finds is what is found from segment s on (`Searching`).
 use mathlib.Core.Path.{sym, _∙_}
 use Prim.Native.Nat.{_-_}
 use Rattle.model.specs.Cells.{tableAt}
-use Rattle.locks.specs.Steps.{hasRow}
-use Rattle.locks.proofs.Scanning.{Searching, searching-start, searching-found, searching-on, searching-past}
+use Rattle.locks.specs.Internal.{hasRow}
+use Rattle.locks.proofs.UsedRows.{Searching, searching-start, searching-found, searching-on, searching-past}
 use borrow.Author.Needs.{needs}
 use Rattle.locks.proofs.rows.home.Statement.{statement}
 use Rattle.locks.proofs.rows.home.Tie as tie

@@ -1,7 +1,7 @@
--- The rows so far are used (`Counting`). Assumes nothing.
+-- The rows so far are used (`Counting`).
 use mathlib.Core.Path.{_∙_}
 use Prim.Native.Nat.{_-_}
-use Rattle.locks.proofs.Scanning.{Counting, counting-start, counting-ends, counting-on, counting-past}
+use Rattle.locks.proofs.UsedRows.{Counting, counting-start, counting-ends, counting-on, counting-past}
 use borrow.Author.Needs.{needs}
 use Rattle.locks.proofs.rows.used.Statement.{statement}
 use Rattle.locks.proofs.rows.used.Tie as tie

@@ -1,4 +1,4 @@
--- By the kind. Assumes nothing.
+-- By the kind.
 use borrow.Author.Tests.{eq-eqb, ne-eqb}
 use Rattle.model.proofs.operations.is_taken.Statement.{statement}
 use Rattle.model.proofs.operations.is_taken.Tie as tie

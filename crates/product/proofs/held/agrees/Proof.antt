@@ -1,7 +1,7 @@
--- By the sign. Assumes nothing.
+-- By the sign.
 use borrow.Author.Needs.{needs}
 use denote.Ref.{now}
-use Rattle.product.proofs.Asking.{plain-agrees, barred-agrees}
+use Rattle.product.proofs.KeySets.{plain-agrees, barred-agrees}
 use Rattle.product.proofs.held.agrees.Statement.{statement}
 use Rattle.product.proofs.held.agrees.Tie as tie
 

@@ -1,11 +1,11 @@
--- What is left from place i on has the answer of the whole. Assumes nothing.
+-- What is left from place i on has the answer of the whole.
 use borrow.Author.Needs.{needs}
 use borrow.Author.Tests.{eq-eqb, ne-eqb}
 use mathlib.Core.Path.{_≡_, refl, sym, ap, _∙_}
 use Prim.Native.Nat.{ℕ, _-_}
 use lib.ListN.{getD, drop}
 use denote.Ref.{now}
-use Rattle.product.proofs.Asking.{member-next, member-past}
+use Rattle.product.proofs.KeySets.{member-next, member-past}
 use Rattle.product.specs.Held.{member}
 use Rattle.product.proofs.held.holds.Statement.{statement}
 use Rattle.product.proofs.held.holds.Tie as tie

@@ -1,8 +1,8 @@
--- A sum of more than 8 products is too wide, and opens for no key set. Assumes nothing.
+-- A sum of more than 8 products is too wide, and opens for no key set.
 use borrow.Author.Needs.{needs}
 use mathlib.Core.Path.{sym, ap, _∙_}
 use denote.Ref.{now}
-use Rattle.product.proofs.Filling.{sum-few, sum-wide}
+use Rattle.product.proofs.FilledRows.{sum-few, sum-wide}
 use Rattle.product.specs.Held.{heldBy, opensSum}
 use Rattle.product.proofs.held.opens.Statement.{statement}
 use Rattle.product.proofs.held.opens.Tie as tie

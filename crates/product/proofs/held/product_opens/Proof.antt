@@ -1,4 +1,4 @@
--- What is left from place i on has the answer of the whole. Assumes nothing.
+-- What is left from place i on has the answer of the whole.
 use borrow.Author.Needs.{needs}
 use borrow.Author.Tests.{not-true, not-false}
 use mathlib.Core.Path.{_≡_, refl, sym, _∙_}
@@ -6,7 +6,7 @@ use Prim.Native.Nat.{_-_}
 use native.Mathlib.Omega.{arith}
 use lib.ListN.{drop}
 use denote.Ref.{now}
-use Rattle.product.proofs.Asking.{opens-next, opens-past}
+use Rattle.product.proofs.KeySets.{opens-next, opens-past}
 use Rattle.product.specs.Product.{opens}
 use Rattle.product.specs.Cells.{productOf}
 use Rattle.product.specs.Held.{heldBy}

@@ -1,11 +1,11 @@
--- What is left from row i on has the answer of the whole. Assumes nothing.
+-- What is left from row i on has the answer of the whole.
 use borrow.Author.Needs.{needs}
 use mathlib.Core.Path.{_≡_, refl, sym, _∙_}
 use Prim.Native.Nat.{_-_}
 use native.Mathlib.Omega.{arith}
 use lib.ListN.{drop}
 use denote.Ref.{now}
-use Rattle.product.proofs.Asking.{any-next, any-past}
+use Rattle.product.proofs.KeySets.{any-next, any-past}
 use Rattle.product.specs.Sum.{opensAny}
 use Rattle.product.specs.Cells.{productsOf}
 use Rattle.product.specs.Held.{heldBy}

@@ -1,4 +1,4 @@
--- By the signs. Assumes nothing.
+-- By the signs.
 use borrow.Author.Needs.{needs}
 use Rattle.product.proofs.Codes.{plain-plain-before, plain-barred-before, barred-plain-before, barred-barred-before}
 use Rattle.product.proofs.literal.before.Statement.{statement}

@@ -1,4 +1,4 @@
--- The remainder by 2 is the sign, and the half is the key's number. Assumes nothing.
+-- The remainder by 2 is the sign, and the half is the key's number.
 use borrow.Author.Needs.{needs}
 use borrow.Author.Tests.{eq-eqb, ne-eqb}
 use Rattle.product.specs.Code.{literalAt}

@@ -1,4 +1,4 @@
--- The first digit says the kind. Assumes nothing.
+-- The first digit says the kind.
 use borrow.Author.Needs.{needs}
 use Rattle.product.proofs.Codes.{user-at, thread-at, segment-at, defined-at}
 use Rattle.product.proofs.literal.decode_key.Statement.{statement}

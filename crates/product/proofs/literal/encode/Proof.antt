@@ -1,4 +1,4 @@
--- The key's number, doubled, and 1 more where the literal is barred. Assumes nothing.
+-- The key's number, doubled, and 1 more where the literal is barred.
 use borrow.Author.Needs.{needs}
 use Rattle.product.proofs.Codes.{plain-encoded, barred-encoded}
 use Rattle.product.proofs.literal.encode.Statement.{statement}

@@ -1,4 +1,4 @@
--- Each kind adds 65,536 for every kind before it, and a number of 16 bits stays below that. Assumes nothing.
+-- Each kind adds 65,536 for every kind before it, and a number of 16 bits stays below that.
 use borrow.Author.Needs.{needs}
 use native.Mathlib.Omega.{arith}
 use Rattle.product.specs.declared.literal.Key.the-variants.{User, Thread, Segment, Defined}

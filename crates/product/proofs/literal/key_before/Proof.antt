@@ -1,4 +1,4 @@
--- Kinds decide, and numbers where kinds are equal. Assumes nothing.
+-- Kinds decide, and numbers where kinds are equal.
 use borrow.Author.Needs.{needs}
 use Rattle.product.proofs.Codes.{kind-same, kind-other}
 use Rattle.product.proofs.literal.key_before.Statement.{statement}

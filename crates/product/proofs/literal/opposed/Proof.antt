@@ -1,4 +1,4 @@
--- By the signs. Assumes nothing.
+-- By the signs.
 use borrow.Author.Needs.{needs}
 use Rattle.product.proofs.Codes.{plain-plain-opposed, plain-barred-opposed, barred-plain-opposed, barred-barred-opposed}
 use Rattle.product.proofs.literal.opposed.Statement.{statement}

@@ -1,4 +1,4 @@
--- By the signs. Assumes nothing.
+-- By the signs.
 use borrow.Author.Needs.{needs}
 use Rattle.product.proofs.Codes.{plain-plain-same, plain-barred-same, barred-plain-same, barred-barred-same}
 use Rattle.product.proofs.literal.same.Statement.{statement}

@@ -1,4 +1,4 @@
--- Kinds and numbers are equal. Assumes nothing.
+-- Kinds and numbers are equal.
 use borrow.Author.Needs.{needs}
 use Rattle.product.proofs.Codes.{keys-same}
 use Rattle.product.proofs.literal.same_key.Statement.{statement}

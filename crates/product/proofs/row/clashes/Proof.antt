@@ -1,11 +1,11 @@
--- What is left from place i on has the answer of the whole. Assumes nothing.
+-- What is left from place i on has the answer of the whole.
 use borrow.Author.Needs.{needs}
 use mathlib.Core.Path.{_≡_, refl, sym, _∙_}
 use Prim.Native.Nat.{_-_}
 use native.Mathlib.Omega.{arith}
 use lib.ListN.{drop}
-use Rattle.product.proofs.Placing.{wide-cons, wide-past}
-use Rattle.product.specs.Steps.{wideOf}
+use Rattle.product.proofs.Insertion.{wide-cons, wide-past}
+use Rattle.product.specs.Internal.{wideOf}
 use Rattle.product.specs.Product.{clashes}
 use Rattle.product.proofs.row.clashes.Statement.{statement}
 use Rattle.product.proofs.row.clashes.Tie as tie

@@ -1,9 +1,9 @@
--- The loop carries a literal upwards (`Placing`); the measure is the places that are left. Assumes nothing.
+-- The loop carries a literal upwards (`Placing`); the measure is the places that are left.
 use borrow.Author.Needs.{needs}
 use native.Mathlib.Omega.{arith}
 use mathlib.Core.Logic.{⊎-elim}
 use Prim.Native.Nat.{_-_}
-use Rattle.product.proofs.Placing.{Placing, placing-start, placing-same, placing-put, placing-keep, placing-as, placing-end}
+use Rattle.product.proofs.Insertion.{Placing, placing-start, placing-same, placing-put, placing-keep, placing-as, placing-end}
 use Rattle.product.proofs.row.insert.Statement.{statement}
 use Rattle.product.proofs.row.insert.Tie as tie
 

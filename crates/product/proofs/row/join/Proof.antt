@@ -1,8 +1,8 @@
--- The loop puts the second row's literals among the first's, one by one (`Uniting`). Assumes nothing.
+-- The loop puts the second row's literals among the first's, one by one (`Uniting`).
 use borrow.Author.Needs.{needs}
 use Prim.Native.Nat.{_-_}
 use native.Mathlib.Omega.{arith}
-use Rattle.product.proofs.Widening.{Uniting, uniting-start, uniting-next, uniting-end}
+use Rattle.product.proofs.WideRows.{Uniting, uniting-start, uniting-next, uniting-end}
 use Rattle.product.specs.Cells.{productOf}
 use Rattle.product.proofs.row.join.Statement.{statement}
 use Rattle.product.proofs.row.join.Tie as tie

@@ -1,7 +1,7 @@
--- The first six cells, a 0 and the count are the product's row, since the cells beyond are 0. Assumes nothing.
+-- The first six cells, a 0 and the count are the product's row, since the cells beyond are 0.
 use borrow.Author.Needs.{needs}
 use native.Mathlib.Omega.{arith}
-use Rattle.product.proofs.Widening.{narrowed}
+use Rattle.product.proofs.WideRows.{narrowed}
 use Rattle.product.proofs.row.narrow.Statement.{statement}
 use Rattle.product.proofs.row.narrow.Tie as tie
 

@@ -1,11 +1,11 @@
--- What is left from place i on has the answer of the whole. Assumes nothing.
+-- What is left from place i on has the answer of the whole.
 use borrow.Author.Needs.{needs}
 use mathlib.Core.Path.{_≡_, refl, sym, _∙_}
 use borrow.Author.Tests.{not-true, not-false}
 use Prim.Native.Nat.{_-_}
 use native.Mathlib.Omega.{arith}
 use lib.ListN.{drop}
-use Rattle.product.proofs.Widening.{row-cons, row-past, rows-differ}
+use Rattle.product.proofs.WideRows.{row-cons, row-past, rows-differ}
 use Rattle.product.specs.Cells.{productOf}
 use Rattle.product.specs.Product.{sameProduct}
 use Rattle.product.proofs.row.same.Statement.{statement}

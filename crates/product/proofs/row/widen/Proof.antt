@@ -1,9 +1,9 @@
--- The loop copies: below i the cells are the numbers of the row's literals, from i on they are 0 (`Copied`). Assumes nothing.
+-- The loop copies: below i the cells are the numbers of the row's literals, from i on they are 0 (`Copied`).
 use borrow.Author.Needs.{needs}
 use Prim.Native.Nat.{_-_, _≤_}
 use native.Mathlib.Omega.{arith}
 use mathlib.Core.Path.{refl}
-use Rattle.product.proofs.Widening.{Copied, copied-next, copied-all}
+use Rattle.product.proofs.WideRows.{Copied, copied-next, copied-all}
 use Rattle.product.proofs.row.widen.Statement.{statement}
 use Rattle.product.proofs.row.widen.Tie as tie
 

@@ -1,4 +1,4 @@
--- A law for each way out: `filled-wide`, `filled-skip`, `filled-long`, `filled-full`, `filled-last`. Assumes nothing.
+-- A law for each way out: `filled-wide`, `filled-skip`, `filled-long`, `filled-full`, `filled-last`.
 use borrow.Author.Needs.{needs}
 use native.Mathlib.Omega.{arith}
 use mathlib.Core.Path.{_≡_}
@@ -6,9 +6,9 @@ use mathlib.Core.Bool.{true, false}
 use denote.Ref.{now}
 use Rattle.product.specs.Cells.{productOf, productsOf}
 use Rattle.product.specs.Sum.{present}
-use Rattle.product.proofs.Filling.{filled-wide, filled-skip, filled-long, filled-full, filled-last, clean-length}
-use Rattle.product.proofs.Placing.{wide-length}
-use Rattle.product.specs.Steps.{wideOf}
+use Rattle.product.proofs.FilledRows.{filled-wide, filled-skip, filled-long, filled-full, filled-last, clean-length}
+use Rattle.product.proofs.Insertion.{wide-length}
+use Rattle.product.specs.Internal.{wideOf}
 use Rattle.product.specs.Product.{contradictory}
 use Rattle.product.proofs.sum.add.Statement.{statement}
 use Rattle.product.proofs.sum.add.Tie as tie

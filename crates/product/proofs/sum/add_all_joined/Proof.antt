@@ -1,4 +1,4 @@
--- What is left to add makes the total (`Adding`), a left product with all right ones at a turn. Assumes nothing.
+-- What is left to add makes the total (`Adding`), a left product with all right ones at a turn.
 use borrow.Author.Needs.{needs}
 use mathlib.Core.Path.{ap}
 use mathlib.Core.List.{[]}
@@ -7,9 +7,9 @@ use Prim.Native.Nat.{_+_, _-_}
 use native.Mathlib.Omega.{arith}
 use denote.Ref.{now}
 use lib.ListN.{getD, drop}
-use Rattle.product.proofs.Filling.{Adding, adding-start, adding-more, adding-end}
-use Rattle.product.proofs.Lists.{part-cons, part-past}
-use Rattle.product.specs.Steps.{addEach}
+use Rattle.product.proofs.FilledRows.{Adding, adding-start, adding-more, adding-end}
+use Rattle.base.proofs.Parts.{part-cons, part-past}
+use Rattle.product.specs.Internal.{addEach}
 use Rattle.product.specs.Cells.{productOf, productsOf}
 use Rattle.product.specs.Sum.{Sum, joinEach, joinAll}
 use Rattle.product.proofs.sum.add_all_joined.Statement.{statement}

@@ -1,4 +1,4 @@
--- What is left to add makes the total (`Adding`). Assumes nothing.
+-- What is left to add makes the total (`Adding`).
 use borrow.Author.Needs.{needs}
 use mathlib.Core.Path.{ap}
 use Prim.Native.Nat.{_-_}
@@ -6,9 +6,9 @@ use native.Mathlib.Omega.{arith}
 use mathlib.Core.List.{[]}
 use denote.Ref.{now}
 use lib.ListN.{drop}
-use Rattle.product.proofs.Filling.{Adding, adding-start, adding-next, adding-end}
-use Rattle.product.proofs.Lists.{part-cons, part-past}
-use Rattle.product.specs.Steps.{addEach}
+use Rattle.product.proofs.FilledRows.{Adding, adding-start, adding-next, adding-end}
+use Rattle.base.proofs.Parts.{part-cons, part-past}
+use Rattle.product.specs.Internal.{addEach}
 use Rattle.product.specs.Cells.{productOf, productsOf, sumOf}
 use Rattle.product.specs.Sum.{joinEach}
 use Rattle.product.proofs.sum.add_joined.Statement.{statement}

@@ -1,7 +1,7 @@
--- Up to 8 products the rows are the sum's cells already; beyond, they are cleared. Assumes nothing.
+-- Up to 8 products the rows are the sum's cells already; beyond, they are cleared.
 use borrow.Author.Needs.{needs}
 use denote.Ref.{now}
-use Rattle.product.proofs.Filling.{finished, blanked}
+use Rattle.product.proofs.FilledRows.{finished, blanked}
 use Rattle.product.proofs.sum.finish.Statement.{statement}
 use Rattle.product.proofs.sum.finish.Tie as tie
 

@@ -1,11 +1,11 @@
--- What is left from row i on has the answer of the whole. Assumes nothing.
+-- What is left from row i on has the answer of the whole.
 use borrow.Author.Needs.{needs}
 use mathlib.Core.Path.{_≡_, refl, sym, _∙_}
 use Prim.Native.Nat.{_-_}
 use native.Mathlib.Omega.{arith}
 use lib.ListN.{drop}
 use denote.Ref.{now}
-use Rattle.product.proofs.Filling.{present-next, present-past}
+use Rattle.product.proofs.FilledRows.{present-next, present-past}
 use Rattle.product.specs.Cells.{productOf, productsOf}
 use Rattle.product.specs.Sum.{present}
 use Rattle.product.proofs.sum.present.Statement.{statement}

@@ -1,4 +1,4 @@
--- One row of one literal. Assumes nothing.
+-- One row of one literal.
 use borrow.Author.Needs.{needs}
 use mathlib.Core.Path.{refl, ap}
 use mathlib.Core.List.{[], _∷_}

@@ -1,4 +1,4 @@
--- Refused in the order of the table, else the list is stored closed up with the key at its end. Assumes nothing.
+-- Refused in the order of the table, else the list is stored closed up with the key at its end.
 use mathlib.Core.Path.{_≡_, refl, sym, ap, ap₂, _∙_}
 use mathlib.Core.Bool.{Bool, true, false, not, _&&_}
 use mathlib.Core.List.{List}
@@ -15,17 +15,20 @@ use Rattle.call.specs.declared.request.Request.the-variants.{GiveKey}
 use Rattle.model.specs.declared.answer.Refusal.the-variants.{NotOwner, AlreadyPresent, Full}
 use Rattle.model.specs.declared.answer.Answer.the-variants.{Accepted, Refused}
 use Rattle.model.specs.Limits.{mostListed}
-use Rattle.model.specs.Lists.{keep}
+use Rattle.base.specs.Lists.{keep}
 use Rattle.model.specs.Threads.{isIn}
-use Rattle.model.specs.Model.{conditions, answer, owns, made, segmentAt}
-use Rattle.model.specs.Cells.{Row, Table, Cells, registryIs, makersAre, segmentsAre, _and_, cell, rowAt, tableAt, ownerCell, definedCell, hasKey, keyRow, listRow, stateOf, store}
+use Rattle.model.specs.Refusals.{conditions}
+use Rattle.model.specs.Effects.{answer}
+use Rattle.model.specs.State.{owns, made, segmentAt}
+use Rattle.model.specs.Cells.{Row, Table, Cells, registryIs, makersAre, segmentsAre, _and_, cell, rowAt, tableAt, ownerCell, definedCell, hasKey, keyRow, listRow, stateOf}
+use Rattle.model.specs.Stores.{store}
 use Rattle.model.specs.Serving.{Serves}
-use Rattle.model.proofs.Lists.{length-append-one}
-use Rattle.model.proofs.Serving.{serves-refused, serves-accepted}
-use Rattle.segments.specs.Steps.{Removed}
-use Rattle.segments.proofs.Judging.{owned-by, in-list, list-length, all-stay}
-use Rattle.segments.proofs.Naming.{Names, Named, unknown-user, unknown-segment, unknown-key, named}
-use Rattle.segments.proofs.Removal.{keyRow-snoc}
+use Rattle.base.proofs.Lists.{length-append-one}
+use Rattle.model.proofs.Refinement.Serving.{serves-refused, serves-accepted}
+use Rattle.segments.specs.Internal.{Removed}
+use Rattle.segments.proofs.ArrayTests.{owned-by, in-list, list-length, all-stay}
+use Rattle.segments.proofs.EditConditions.{Names, Named, unknown-user, unknown-segment, unknown-key, named}
+use Rattle.segments.proofs.RemovedKey.{keyRow-snoc}
 use Rattle.segments.proofs.calls.give_key.Statement.{statement}
 use Rattle.segments.proofs.calls.give_key.Tie as tie
 

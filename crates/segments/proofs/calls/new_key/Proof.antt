@@ -1,4 +1,4 @@
--- Refused to a unknown-user and where 1,024 keys are there, else the next number is handed out. Assumes nothing.
+-- Refused to a unknown-user and where 1,024 keys are there, else the next number is handed out.
 use mathlib.Core.Path.{_≡_, ap, ap₂, _∙_}
 use mathlib.Core.Bool.{Bool, true, false, not}
 use mathlib.Core.List.{List}
@@ -13,12 +13,14 @@ use Rattle.call.specs.declared.request.Request.the-variants.{NewKey}
 use Rattle.model.specs.declared.answer.Refusal.the-variants.{UnknownUser, Full}
 use Rattle.model.specs.declared.answer.Answer.the-variants.{Accepted, Refused}
 use Rattle.model.specs.Limits.{mostDefined}
-use Rattle.model.specs.Model.{conditions, answer}
-use Rattle.model.specs.Cells.{Cells, registryIs, makersAre, cell, userCount, definedCount, stateOf, store}
+use Rattle.model.specs.Refusals.{conditions}
+use Rattle.model.specs.Effects.{answer}
+use Rattle.model.specs.Cells.{Cells, registryIs, makersAre, cell, userCount, definedCount, stateOf}
+use Rattle.model.specs.Stores.{store}
 use Rattle.model.specs.Serving.{Serves}
-use Rattle.model.proofs.Serving.{serves-refused, serves-accepted}
+use Rattle.model.proofs.Refinement.Serving.{serves-refused, serves-accepted}
 use Rattle.registry.specs.Counts.{Handed}
-use Rattle.segments.proofs.Judging.{user-test}
+use Rattle.segments.proofs.ArrayTests.{user-test}
 use Rattle.segments.proofs.calls.new_key.Statement.{statement}
 use Rattle.segments.proofs.calls.new_key.Tie as tie
 

@@ -1,4 +1,4 @@
--- Refused to a unknown-user, for a third kind and where 64 segments are there, else the next number is handed out. Assumes nothing.
+-- Refused to a unknown-user, for a third kind and where 64 segments are there, else the next number is handed out.
 use mathlib.Core.Path.{_≡_, ap}
 use mathlib.Core.Bool.{Bool, true, false, not}
 use mathlib.Core.List.{List}
@@ -14,11 +14,13 @@ use Rattle.model.specs.declared.answer.Refusal.the-variants.{UnknownUser, Unfit
 use Rattle.model.specs.declared.answer.Answer.the-variants.{Accepted, Refused}
 use Rattle.model.specs.Limits.{mostSegments}
 use Rattle.model.specs.Operations.{sheet}
-use Rattle.model.specs.Model.{conditions, answer}
-use Rattle.model.specs.Cells.{Cells, registryIs, segmentsAre, locksAre, cell, userCount, segmentCount, newSegment, onTable, endRows, stateOf, store}
+use Rattle.model.specs.Refusals.{conditions}
+use Rattle.model.specs.Effects.{answer}
+use Rattle.model.specs.Cells.{Cells, registryIs, segmentsAre, locksAre, cell, userCount, segmentCount, stateOf}
+use Rattle.model.specs.Stores.{newSegment, onTable, endRows, store}
 use Rattle.model.specs.Serving.{Serves}
-use Rattle.model.proofs.Serving.{serves-refused, serves-accepted}
-use Rattle.segments.proofs.Judging.{user-test, segments-there}
+use Rattle.model.proofs.Refinement.Serving.{serves-refused, serves-accepted}
+use Rattle.segments.proofs.ArrayTests.{user-test, segments-there}
 use Rattle.segments.proofs.calls.new_segment.Statement.{statement}
 use Rattle.segments.proofs.calls.new_segment.Tie as tie
 

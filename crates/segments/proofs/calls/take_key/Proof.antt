@@ -1,4 +1,4 @@
--- Refused in the order of the table, else the list is stored closed up without the key. Assumes nothing.
+-- Refused in the order of the table, else the list is stored closed up without the key.
 use mathlib.Core.Path.{_≡_, refl, sym, ap, _∙_}
 use mathlib.Core.Bool.{Bool, true, false, not}
 use mathlib.Core.List.{List}
@@ -11,13 +11,16 @@ use Rattle.call.specs.declared.request.Request.{Request}
 use Rattle.call.specs.declared.request.Request.the-variants.{TakeKey}
 use Rattle.model.specs.declared.answer.Refusal.the-variants.{NotOwner, NotPresent}
 use Rattle.model.specs.declared.answer.Answer.the-variants.{Accepted, Refused}
-use Rattle.model.specs.Model.{conditions, answer, owns}
-use Rattle.model.specs.Cells.{Row, Table, Cells, registryIs, makersAre, segmentsAre, _and_, cell, rowAt, tableAt, ownerCell, definedCell, listRow, stateOf, store}
+use Rattle.model.specs.Refusals.{conditions}
+use Rattle.model.specs.Effects.{answer}
+use Rattle.model.specs.State.{owns}
+use Rattle.model.specs.Cells.{Row, Table, Cells, registryIs, makersAre, segmentsAre, _and_, cell, rowAt, tableAt, ownerCell, definedCell, listRow, stateOf}
+use Rattle.model.specs.Stores.{store}
 use Rattle.model.specs.Serving.{Serves}
-use Rattle.model.proofs.Serving.{serves-refused, serves-accepted}
-use Rattle.segments.specs.Steps.{Removed}
-use Rattle.segments.proofs.Judging.{owned-by, in-list, left-length}
-use Rattle.segments.proofs.Naming.{Names, Named, unknown-user, unknown-segment, unknown-key, named}
+use Rattle.model.proofs.Refinement.Serving.{serves-refused, serves-accepted}
+use Rattle.segments.specs.Internal.{Removed}
+use Rattle.segments.proofs.ArrayTests.{owned-by, in-list, left-length}
+use Rattle.segments.proofs.EditConditions.{Names, Named, unknown-user, unknown-segment, unknown-key, named}
 use Rattle.segments.proofs.calls.take_key.Statement.{statement}
 use Rattle.segments.proofs.calls.take_key.Tie as tie
 

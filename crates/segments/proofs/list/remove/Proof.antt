@@ -1,7 +1,7 @@
--- The loop keeps what it has seen of the list (`Removing`); the measure is the cells that are left. Assumes nothing.
+-- The loop keeps what it has seen of the list (`Removing`); the measure is the cells that are left.
 use borrow.Author.Needs.{needs}
 use Prim.Native.Nat.{_-_}
-use Rattle.segments.proofs.Removal.{Removing, removing-start, removing-none, removing-hit, removing-miss, removing-end}
+use Rattle.segments.proofs.RemovedKey.{Removing, removing-start, removing-none, removing-hit, removing-miss, removing-end}
 use Rattle.segments.proofs.list.remove.Statement.{statement}
 use Rattle.segments.proofs.list.remove.Tie as tie
 

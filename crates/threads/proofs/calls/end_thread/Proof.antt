@@ -1,4 +1,4 @@
--- Refused where the thread isn't live, else its place is free and the answer is its depth. Assumes nothing.
+-- Refused where the thread isn't live, else its place is free and the answer is its depth.
 use mathlib.Core.Path.{_≡_, sym, ap, _∙_}
 use mathlib.Core.List.{List}
 use Prim.Native.Nat.{ℕ, _≤_, _<_}
@@ -7,12 +7,15 @@ use Rattle.call.specs.declared.request.Request.the-variants.{EndThread}
 use Rattle.model.specs.declared.answer.Refusal.the-variants.{NoThread}
 use Rattle.model.specs.declared.answer.Answer.the-variants.{Accepted, Refused}
 use Rattle.model.specs.Limits.{mostThreads}
-use Rattle.model.specs.Model.{isThread, conditions, answer}
-use Rattle.model.specs.Cells.{Cells, threadsAre, tableAt, depthOf, stateOf, onTable, endThread, store}
+use Rattle.model.specs.State.{isThread}
+use Rattle.model.specs.Refusals.{conditions}
+use Rattle.model.specs.Effects.{answer}
+use Rattle.model.specs.Cells.{Cells, threadsAre, tableAt, depthOf, stateOf}
+use Rattle.model.specs.Stores.{onTable, endThread, store}
 use Rattle.model.specs.Serving.{Serves}
-use Rattle.model.proofs.Serving.{serves-refused, serves-accepted}
-use Rattle.threads.specs.Steps.{Placed}
-use Rattle.threads.proofs.Finding.{stands, not-live}
+use Rattle.model.proofs.Refinement.Serving.{serves-refused, serves-accepted}
+use Rattle.threads.specs.Places.{Placed}
+use Rattle.threads.proofs.FoundThread.{stands, not-live}
 use Rattle.threads.proofs.calls.end_thread.Statement.{statement}
 use Rattle.threads.proofs.calls.end_thread.Tie as tie
 

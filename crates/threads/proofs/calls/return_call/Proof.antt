@@ -1,4 +1,4 @@
--- Refused where the thread isn't live or has no frame, else its newest frame is left. Assumes nothing.
+-- Refused where the thread isn't live or has no frame, else its newest frame is left.
 use mathlib.Core.Path.{_≡_, refl, sym, ap, _∙_}
 use mathlib.Core.List.{List}
 use Prim.Native.Nat.{ℕ, zero, suc, _-_, _≤_, _<_}
@@ -10,12 +10,15 @@ use Rattle.model.specs.declared.answer.Refusal.the-variants.{NoThread, NotPrese
 use Rattle.model.specs.declared.answer.Answer.the-variants.{Accepted, Refused}
 use Rattle.model.specs.Limits.{mostThreads}
 use Rattle.model.specs.Threads.{Thread}
-use Rattle.model.specs.Model.{isThread, threadAt, newest, conditions, answer}
-use Rattle.model.specs.Cells.{Table, Cells, threadsAre, cell, rowAt, tableAt, frameCount, depthOf, framesOf, stateOf, setCell, onTable, popRow, store}
+use Rattle.model.specs.State.{isThread, threadAt}
+use Rattle.model.specs.Effects.{newest, answer}
+use Rattle.model.specs.Refusals.{conditions}
+use Rattle.model.specs.Cells.{Table, Cells, threadsAre, cell, rowAt, tableAt, frameCount, depthOf, framesOf, stateOf}
+use Rattle.model.specs.Stores.{setCell, onTable, popRow, store}
 use Rattle.model.specs.Serving.{Serves}
-use Rattle.model.proofs.Serving.{serves-refused, serves-accepted}
-use Rattle.threads.specs.Steps.{Placed}
-use Rattle.threads.proofs.Finding.{stands, not-live}
+use Rattle.model.proofs.Refinement.Serving.{serves-refused, serves-accepted}
+use Rattle.threads.specs.Places.{Placed}
+use Rattle.threads.proofs.FoundThread.{stands, not-live}
 use Rattle.threads.proofs.calls.return_call.Statement.{statement}
 use Rattle.threads.proofs.calls.return_call.Tie as tie
 

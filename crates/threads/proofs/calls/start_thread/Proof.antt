@@ -1,4 +1,4 @@
--- Refused where the user wasn't handed out, or no number or no place is left; else the thread stands at the place for it. Assumes nothing.
+-- Refused where the user wasn't handed out, or no number or no place is left; else the thread stands at the place for it.
 use mathlib.Core.Path.{_≡_, refl, sym, ap, ap₂, _∙_}
 use mathlib.Core.Bool.{true, false, not, _||_}
 use mathlib.Core.List.{List, map}
@@ -13,13 +13,16 @@ use Rattle.call.specs.declared.request.Request.the-variants.{StartThread}
 use Rattle.model.specs.declared.answer.Refusal.the-variants.{UnknownUser, Full}
 use Rattle.model.specs.declared.answer.Answer.the-variants.{Accepted, Refused}
 use Rattle.model.specs.Limits.{mostThreads, mostNumbers, passes}
-use Rattle.model.specs.Model.{isFree, liveIn, conditions, answer}
-use Rattle.model.specs.Cells.{Cells, registryIs, threadsAre, cell, userCount, threadCount, placeIn, stateOf, onTable, startThread, store}
+use Rattle.model.specs.State.{isFree, liveIn}
+use Rattle.model.specs.Refusals.{conditions}
+use Rattle.model.specs.Effects.{answer}
+use Rattle.model.specs.Cells.{Cells, registryIs, threadsAre, cell, userCount, threadCount, placeIn, stateOf}
+use Rattle.model.specs.Stores.{onTable, startThread, store}
 use Rattle.model.specs.Serving.{Serves}
-use Rattle.model.proofs.Serving.{serves-refused, serves-accepted}
-use Rattle.model.proofs.Lists.{caseBool}
-use Rattle.threads.specs.Steps.{Placed}
-use Rattle.threads.proofs.Room.{room, no-room}
+use Rattle.model.proofs.Refinement.Serving.{serves-refused, serves-accepted}
+use Rattle.base.proofs.Lists.{caseBool}
+use Rattle.threads.specs.Places.{Placed}
+use Rattle.threads.proofs.FreePlace.{room, no-room}
 use Rattle.threads.proofs.calls.start_thread.Statement.{statement}
 use Rattle.threads.proofs.calls.start_thread.Tie as tie
 

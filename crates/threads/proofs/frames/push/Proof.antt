@@ -1,4 +1,4 @@
--- Where there is room the list is stored whole, then its own S key and the count. Assumes nothing.
+-- Where there is room the list is stored whole, then its own S key and the count.
 use mathlib.Core.Path.{_≡_, refl, sym, ap, _∙_}
 use mathlib.Core.Bool.{true, false, cond}
 use mathlib.Core.List.{[], _∷_}
@@ -10,7 +10,8 @@ use borrow.Author.Tests.{lt-ltb, le-ltb}
 use lib.Dec.{ltb}
 use lib.ListN.{getD, set}
 use Rattle.model.specs.Limits.{mostFrames}
-use Rattle.model.specs.Cells.{Row, Table, frameCount, depthOf, setCell, pushRow}
+use Rattle.model.specs.Cells.{Row, Table, frameCount, depthOf}
+use Rattle.model.specs.Stores.{setCell, pushRow}
 use Rattle.threads.proofs.frames.push.Statement.{statement}
 use Rattle.threads.proofs.frames.push.Tie as tie
 

@@ -1,10 +1,10 @@
--- The scan: no place before i is free. Assumes nothing.
+-- The scan: no place before i is free.
 use mathlib.Core.Path.{_≡_, sym, _∙_}
 use Prim.Native.Nat.{_-_, _≤_}
 use native.Mathlib.Omega.{arith}
 use borrow.Author.Needs.{needs}
-use Rattle.model.specs.Model.{isFree}
-use Rattle.threads.proofs.Scanning.{Missed, missed-start, missed-hit, missed-more, missed-end}
+use Rattle.model.specs.State.{isFree}
+use Rattle.threads.proofs.PlaceScan.{Missed, missed-start, missed-hit, missed-more, missed-end}
 use Rattle.threads.proofs.place.first_free.Statement.{statement}
 use Rattle.threads.proofs.place.first_free.Tie as tie
 

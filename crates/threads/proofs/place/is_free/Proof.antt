@@ -1,10 +1,10 @@
--- The place is free. Assumes nothing.
+-- The place is free.
 use mathlib.Core.Path.{_≡_}
 use borrow.Author.Needs.{needs}
 use lib.Dec.{eqb}
-use Rattle.model.specs.Model.{isFree}
+use Rattle.model.specs.State.{isFree}
 use Rattle.model.specs.Cells.{Table, cell, rowAt, liveCell, placeIn}
-use Rattle.model.proofs.Lists.{caseBool}
+use Rattle.base.proofs.Lists.{caseBool}
 use Rattle.threads.proofs.place.is_free.Statement.{statement}
 use Rattle.threads.proofs.place.is_free.Tie as tie
 

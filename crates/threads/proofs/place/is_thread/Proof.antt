@@ -1,12 +1,12 @@
--- The place is taken and has the number. Assumes nothing.
+-- The place is taken and has the number.
 use mathlib.Core.Path.{_≡_}
 use mathlib.Core.Bool.{_&&_, not}
 use Prim.Native.Nat.{ℕ}
 use borrow.Author.Needs.{needs}
 use lib.Dec.{eqb}
-use Rattle.model.specs.Model.{isThread}
+use Rattle.model.specs.State.{isThread}
 use Rattle.model.specs.Cells.{Table, cell, rowAt, numberCell, liveCell, placeIn}
-use Rattle.model.proofs.Lists.{caseBool}
+use Rattle.base.proofs.Lists.{caseBool}
 use Rattle.threads.proofs.place.is_thread.Statement.{statement}
 use Rattle.threads.proofs.place.is_thread.Tie as tie
 

@@ -1,5 +1,5 @@
--- Four tests decide, by the kind. Assumes nothing.
-use Rattle.model.proofs.OperationSets.{fits-code, fits-sheet}
+-- Four tests decide, by the kind.
+use Rattle.model.proofs.Refinement.OperationSets.{fits-code, fits-sheet}
 use Rattle.model.proofs.operations.Operations.fits.Statement.{statement}
 use Rattle.model.proofs.operations.Operations.fits.Tie as tie
 

@@ -1,0 +1,52 @@
+-- What a caller in C sees of each kind of answer, with numerals; and that a number of the guard's answer is taken apart again. Proved in
+-- `proofs/Examples.antt`.
+use mathlib.Core.Path.{_≡_}
+use mathlib.Core.Bool.{true, false}
+use mathlib.Core.List.{List, [], _∷_}
+use Prim.Native.Nat.{ℕ, _/_, _%_, _<_}
+use Rattle.product.specs.declared.literal.Literal.the-variants.{Plain, Barred}
+use Rattle.product.specs.declared.literal.Key.the-variants.{User, Defined}
+use Rattle.formula.specs.Outcome.{accepted, malformed, tooWide, unsatisfiable}
+use Rattle.journal.specs.declared.record.Found.the-variants.{Record, End, Damaged}
+use Rattle.model.specs.declared.answer.Refusal.the-variants.{UnknownUser, Full, Denied, Corrupt}
+use Rattle.model.specs.declared.answer.Answer.{Answer}
+use Rattle.model.specs.declared.answer.Answer.the-variants.{Accepted, Refused}
+use Rattle.model.specs.Answers.{answerNumber, answerValue}
+use Rattle.abi.specs.Answers.{issuedWith, numberIn, rowsIn, bit}
+use Rattle.abi.specs.Calls.{answerCode}
+use Rattle.abi.specs.Files.{presentNumber, valuesIn}
+
+-- an answer's number and value, of its code: a value has 16 bits
+abbrev pub CodeTakenApart : Type 0
+CodeTakenApart = (r : Answer) → answerValue r < 65536 → (answerCode r / 65536 ≡ answerNumber r) × (answerCode r % 65536 ≡ answerValue r)
+
+pub record Examples : Type 0 where
+  -- calls: lock 7; 1; 10; 14 by lock 3; 18
+  pub lock-seven : answerCode (Accepted 7) ≡ 7
+  pub unknown-user : answerCode (Refused UnknownUser) ≡ 65536
+  pub full : answerCode (Refused Full) ≡ 655360
+  pub denied : answerCode (Refused (Denied 3)) ≡ 917507
+  pub corrupt : answerCode (Refused Corrupt) ≡ 1179648
+  -- texts: the number of products, or 11, 12 and 13; on a refusal the lent rows stay
+  pub two-products : numberIn (accepted ((Plain (User 0) ∷ []) ∷ (Barred (Defined 1) ∷ []) ∷ [])) ≡ 2
+  pub malformed-number : numberIn malformed ≡ 11
+  pub wide-number : numberIn tooWide ≡ 12
+  pub unsatisfiable-number : numberIn unsatisfiable ≡ 13
+  pub malformed-rows : rowsIn malformed ((5 ∷ []) ∷ []) ≡ (5 ∷ []) ∷ []
+  pub wide-rows : rowsIn tooWide ((5 ∷ []) ∷ []) ≡ (5 ∷ []) ∷ []
+  pub unsatisfiable-rows : rowsIn unsatisfiable ((5 ∷ []) ∷ []) ≡ (5 ∷ []) ∷ []
+  -- counts of keys, in the order in which they are passed
+  pub users : issuedWith 1 2 3 4 .users ≡ 1
+  pub threads : issuedWith 1 2 3 4 .threads ≡ 2
+  pub segments : issuedWith 1 2 3 4 .segments ≡ 3
+  pub defined : issuedWith 1 2 3 4 .defined ≡ 4
+  -- key sets
+  pub opens : bit true ≡ 1
+  pub shut : bit false ≡ 0
+  -- records: 1 and the record's values; the end is 0 and a broken file 18, and the lent values stay
+  pub record-number : presentNumber (Record (record { letter = 76; a = 1; b = 2; c = 3; start = 16; next = 18 })) ≡ 1
+  pub record-values : valuesIn (Record (record { letter = 76; a = 1; b = 2; c = 3; start = 16; next = 18 })) (9 ∷ []) ≡ 76 ∷ 1 ∷ 2 ∷ 3 ∷ 16 ∷ 18 ∷ []
+  pub end-number : presentNumber End ≡ 0
+  pub end-values : valuesIn End (9 ∷ []) ≡ 9 ∷ []
+  pub damaged-number : presentNumber Damaged ≡ 18
+  pub damaged-values : valuesIn Damaged (9 ∷ []) ≡ 9 ∷ []

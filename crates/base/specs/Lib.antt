@@ -1,0 +1,4 @@
+pub mod Lists
+pub mod Conditions
+pub mod Bytes
+pub mod Counts

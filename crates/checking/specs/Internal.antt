@@ -1,0 +1,71 @@
+-- What the crate's private functions promise each other. Nothing here is part of what a reader must believe.
+use mathlib.Core.Path.{_≡_}
+use mathlib.Core.Bool.{Bool, true, false, _&&_, _||_, not, cond}
+use mathlib.Core.Option.{Option}
+use Prim.Native.Nat.{ℕ, zero, suc, _-_, _/_, _≤_, min}
+use lib.Dec.{eqb, ltb}
+use lib.ListN.{drop}
+use Rattle.product.specs.Product.{opens}
+use Rattle.base.specs.Lists.{any, first, isSome, orDefault}
+use Rattle.product.specs.declared.literal.Key.{Key}
+use Rattle.product.specs.declared.literal.Key.the-variants.{User, Thread as ThreadKey, Segment as SegmentKey, Defined}
+use Rattle.model.specs.Limits.{mostFrames, mostSegments}
+use Rattle.model.specs.Operations.{deny, shares}
+use Rattle.model.specs.Threads.{KeySet}
+use Rattle.model.specs.Cells.{Row, Table, cell, rowAt, usedRows, productIn, noKey, definedCell}
+use Rattle.checking.specs.declared.Checked.{Checked}
+use Rattle.checking.specs.declared.Checked.the-variants.{Granted, Denied, NotGranted}
+use Rattle.checking.specs.Deciding.{keysOf}
+
+-- a cell of the row has the code
+abbrev pub hasCode : Row → ℕ → Bool
+hasCode w code = any (λ x. eqb x code) w
+
+-- one of the oldest n frames has it
+unfoldable pub inherited : Table → ℕ → ℕ → Bool
+inherited t zero code = false
+inherited t (suc n) code = hasCode (rowAt t (suc n)) code || inherited t n code
+
+-- an S or a D key has a code of its own in key lists
+abbrev pub listable : Key → Bool
+listable (User n) = true
+listable (ThreadKey n) = true
+listable (SegmentKey n) = ltb n mostSegments
+listable (Defined n) = ltb (definedCell n) noKey
+
+-- a number of frames, read as no more than its limit
+pub record Clamped (frames r : ℕ) : Type 0 where
+  pub count : r ≡ min frames mostFrames
+  -- follows from it, and is said so that callers find the bound
+  pub low : r ≤ mostFrames
+
+abbrev pub isDeny : Row → Bool
+isDeny w = shares (cell w 0) deny
+
+-- a used row from row p on is of a deny lock that stands for n
+abbrev pub deniesFrom : Table → ℕ → ℕ → Bool
+deniesFrom w n p = any (λ v. shares (cell v 0) n && isDeny v) (usedRows (drop p w))
+
+-- ---- the row that decides, for any number n, whose bits are compared with the head's
+
+-- the row is of a lock that stands for n, and opens
+abbrev pub opensRow : KeySet → ℕ → Row → Bool
+opensRow keys n w = shares (cell w 0) n && opens keys (productIn w .product)
+
+abbrev pub headOf : Option Row → ℕ
+headOf o = orDefault 0 (λ w. cell w 0) o
+
+-- its head, 0 where none opens
+unfoldable pub openingOf : Table → Table → ℕ → ℕ
+openingOf t w n =
+    let d = first (λ v. opensRow (keysOf t) n v && isDeny v) (usedRows w) in
+    let g = first (λ v. opensRow (keysOf t) n v && not (isDeny v)) (usedRows w) in
+    cond (isSome d) (headOf d) (headOf g)
+
+-- what the check answers by it
+unfoldable pub headChecked : ℕ → Checked
+headChecked head = cond (eqb head 0) NotGranted (cond (shares head deny) (Denied (head / 65536)) (Granted (head / 65536)))
+
+-- an answer as one number
+unfoldable pub codeChecked : ℕ → Checked
+codeChecked code = cond (ltb code 65536) (Granted code) (cond (ltb code 131072) (Denied (code - 65536)) NotGranted)

@@ -1,0 +1,142 @@
+-- What the model answers, read from a history that agrees with it. Of a fitting C or A of a live thread the conditions before the check fail, and the
+-- check's two locks are the history's; the numbers handed out are the counts.
+use mathlib.Core.Path.{_≡_, refl, sym, ap, _∙_}
+use mathlib.Core.Bool.{Bool, true, false, not, cond, false≢true}
+use mathlib.Core.List.{List}
+use mathlib.Core.Option.{Option, none, some}
+use Prim.Native.Nat.{ℕ, suc}
+use native.Mathlib.Omega.{arith}
+use lib.Dec.{ltb}
+use lib.ListN.{length}
+use borrow.Author.Tests.{lt-ltb, ltb-true, ltb-false, le-ltb}
+use Rattle.formula.specs.Compiler.{Compiler, Laws}
+use Rattle.formula.specs.Meaning.{Meaning}
+use Rattle.call.specs.declared.request.Request.{Request}
+use Rattle.call.specs.declared.request.Request.the-variants.{NewUser, StartThread, EndThread, NewSegment, NewKey, GiveKey, TakeKey, AddLock, DropLock, CallSegment, ReturnCall, Access}
+use Rattle.call.specs.declared.request.Decoded.{Decoded}
+use Rattle.call.specs.declared.request.Decoded.the-variants.{WellFormed}
+use Rattle.call.specs.Calls.{Call, decoded}
+use Rattle.call.specs.Requests.{callOf}
+use Rattle.base.specs.Conditions.{firstRefusal}
+use Rattle.model.specs.declared.answer.Refusal.{Refusal}
+use Rattle.model.specs.declared.answer.Refusal.the-variants.{Full, Denied, NotGranted}
+use Rattle.model.specs.declared.answer.Answer.{Answer}
+use Rattle.model.specs.declared.answer.Answer.the-variants.{Accepted, Refused}
+use Rattle.base.specs.Lists.{first, isSome, mapOption}
+use Rattle.model.specs.Limits.{mostFrames, passes}
+use Rattle.model.specs.Operations.{denies, grants, takes}
+use Rattle.model.specs.Threads.{Thread, keySet}
+use Rattle.model.specs.State.{State, LockProduct, segmentAt, findThread, threadAt, isSegment}
+use Rattle.model.specs.Refusals.{lockOf, opening, conditions}
+use Rattle.model.specs.Effects.{answer, update}
+use Rattle.model.specs.Model.{judged, stepDecoded, step}
+use Rattle.model.specs.History.{History, Entry, Lock, handsOut}
+use Rattle.model.specs.HistoryCheck.{Operation, calls, accesses, requestOf, threadOf, targetOf, operationOf, isKnown, hasRoom, lockOpens, verdict, answerFrom}
+use Rattle.base.proofs.Lists.{caseBool, some-inj, some≢none}
+use Rattle.model.proofs.Agreement.Segments.{entry-low, entry-is}
+use Rattle.model.proofs.Agreement.Locks.{check-agrees}
+use Rattle.model.proofs.Agreement.EveryCall.{Agrees, found-as, thread-as}
+
+-- an accepted call: no condition held, its answer is the model's, and the state is what it changes
+pub record Taken (compile : Compiler) (d : State) (next : Call) (q : Request) (n : ℕ) : Type 0 where
+  pub free : firstRefusal (conditions compile d q (next .text)) ≡ none
+  pub number : n ≡ answer compile d q (next .text)
+  pub state : step compile d next .state ≡ update compile d q (next .text)
+
+pub taken : (compile : Compiler) (d : State) (next : Call) (q : Request) (n : ℕ) → decoded next ≡ WellFormed q → step compile d next .answer ≡ Accepted n
+    → Taken compile d next q n
+unfolding step
+taken compile d next q n e a = by (firstRefusal (conditions compile d q (next .text))) refl (sym (ap (λ (k : Decoded). stepDecoded compile d k (next .text) .answer) e) ∙ a)
+  where
+    by : (o : Option Refusal) → firstRefusal (conditions compile d q (next .text)) ≡ o → judged compile d q (next .text) (firstRefusal (conditions compile d q (next .text))) .answer ≡ Accepted n
+        → Taken compile d next q n
+    by none f h =
+        record {
+          free = f;
+          number = let k : Accepted (answer compile d q (next .text)) ≡ Accepted n = sym (ap (λ (o : Option Refusal). judged compile d q (next .text) o .answer) f) ∙ h in cc;
+          state = ap (λ (k : Decoded). stepDecoded compile d k (next .text) .state) e ∙ ap (λ (o : Option Refusal). judged compile d q (next .text) o .state) f;
+        }
+    by (some r) f h =
+        let k = sym (ap (λ (o : Option Refusal). judged compile d q (next .text) o .answer) f) ∙ h in
+        let z : _≡_ {A = ℕ} 0 1 = cc in absurd (omega arith)
+
+-- an answer, by the first refusal
+abbrev answered : Option Refusal → ℕ → Answer
+answered none n = Accepted n
+answered (some r) n = Refused r
+
+pub judged-answer : (compile : Compiler) (d : State) (q : Request) (text : List ℕ) (o : Option Refusal)
+    → judged compile d q text o .answer ≡ answered o (answer compile d q text)
+judged-answer compile d q text none = refl
+judged-answer compile d q text (some r) = refl
+
+-- the check's conditions and the limit, by the two locks that open
+check-answers : (od og : Option LockProduct) (ld lg : Option Lock) (room : Bool)
+    → mapOption (λ r. r .lock) od ≡ mapOption (λ l. l .number) ld → mapOption (λ r. r .lock) og ≡ mapOption (λ l. l .number) lg
+    → answered (cond (isSome od) (some (Denied (lockOf od))) (cond (not (isSome og)) (some NotGranted) (cond (not room) (some Full) none))) (lockOf og)
+    ≡ verdict ld lg room
+check-answers (some r) og (some l) lg room p q = ap (λ (n : ℕ). Refused (Denied n)) (some-inj p)
+check-answers (some r) og none lg room p q = absurd (some≢none p)
+check-answers none og (some l) lg room p q = absurd (some≢none (sym p))
+check-answers none (some r) none (some l) true p q = ap Accepted (some-inj q)
+check-answers none (some r) none (some l) false p q = refl
+check-answers none (some r) none none room p q = absurd (some≢none q)
+check-answers none none none (some l) room p q = absurd (some≢none (sym q))
+check-answers none none none none room p q = refl
+
+pub under-limit : (most n : ℕ) → passes most (suc n) ≡ not (ltb n most)
+under-limit most n =
+    caseBool (ltb n most)
+    (λ e. simp e (let h = ltb-true n most e in le-ltb most (suc n) (omega arith)))
+    (λ e. simp e (let h = ltb-false n most e in lt-ltb most (suc n) (omega arith)))
+
+module _ (compile : Compiler) (holds : Meaning) (laws : Laws compile holds) (text : List ℕ) (d : State) (h : History) (count : ℕ → ℕ) (c : Agrees compile d h count) where
+  module _ (o : Operation) (t : Thread) (live : h .threads (threadOf o) ≡ some t) (entry : Entry) (out : h .segments (targetOf o) ≡ some entry) where
+    found : findThread (threadOf o) (d .places) ≡ some t
+    found = found-as compile d h count c (threadOf o) ∙ live
+
+    out-test : isSegment d (targetOf o) ≡ true
+    out-test = lt-ltb (targetOf o) (length (d .segments)) (entry-low (d .segments) (h .segments) (c .segments) (targetOf o) entry out)
+
+    kind-is : segmentAt d (targetOf o) .kind ≡ entry .kind
+    kind-is = ap (λ (e : Entry). e .kind) (entry-is (d .segments) (h .segments) (c .segments) (targetOf o) entry out)
+
+    check : (stands : ℕ → ℕ → Bool)
+        → mapOption (λ r. r .lock) (opening d stands (threadOf o) (targetOf o) (operationOf o)) ≡ mapOption (λ l. l .number) (first (lockOpens holds stands o t) (h .locks))
+    unfolding opening
+    check stands =
+        check-agrees compile holds laws (d .segments) (d .lockNumbers) (h .locks) (c .locks) stands (targetOf o) (operationOf o) (keySet (threadOf o) (threadAt d (threadOf o)))
+        ∙ rw (thread-as compile d h count c (threadOf o) t live)
+
+  pub answers-from : (o : Operation) (t : Thread) → h .threads (threadOf o) ≡ some t → (entry : Entry) → h .segments (targetOf o) ≡ some entry
+      → isKnown o ≡ true → takes (entry .kind) (operationOf o) ≡ true
+      → judged compile d (requestOf o) text (firstRefusal (conditions compile d (requestOf o) text)) .answer ≡ answerFrom holds h o t
+  unfolding conditions answer
+  answers-from (calls a b) t live entry out number fits =
+      let o = calls a b in
+      judged-answer compile d (CallSegment a b) text (firstRefusal (conditions compile d (CallSegment a b) text))
+      ∙ simp (found o t live entry out, out-test o t live entry out, kind-is o t live entry out, fits, under-limit mostFrames (length (t .frames)))
+      (check-answers (opening d denies a b 1) (opening d grants a b 1) (first (lockOpens holds denies o t) (h .locks)) (first (lockOpens holds grants o t) (h .locks)) (hasRoom o t) (check o t live entry out denies) (check o t live entry out grants))
+  answers-from (accesses a b n) t live entry out number fits =
+      let o = accesses a b n in
+      judged-answer compile d (Access a b n) text (firstRefusal (conditions compile d (Access a b n) text))
+      ∙ simp (found o t live entry out, out-test o t live entry out, kind-is o t live entry out, fits)
+      (simp number
+      (check-answers (opening d denies a b n) (opening d grants a b n) (first (lockOpens holds denies o t) (h .locks)) (first (lockOpens holds grants o t) (h .locks)) true (check o t live entry out denies) (check o t live entry out grants)))
+
+-- the numbers that U, S, N, K and L answer
+pub counted-as : (compile : Compiler) (text : List ℕ) (d : State) (h : History) (count : ℕ → ℕ) → Agrees compile d h count
+    → (q : Request) → handsOut q ≡ true → answer compile d q text ≡ count (callOf q text .letter)
+unfolding answer
+counted-as compile text d h count c NewUser e = c .counts .0
+counted-as compile text d h count c (StartThread a) e = c .counts .1
+counted-as compile text d h count c (EndThread a) e = absurd (false≢true e)
+counted-as compile text d h count c (NewSegment a b) e = c .counts .2
+counted-as compile text d h count c (NewKey a) e = c .counts .3
+counted-as compile text d h count c (GiveKey a b k) e = absurd (false≢true e)
+counted-as compile text d h count c (TakeKey a b k) e = absurd (false≢true e)
+counted-as compile text d h count c (AddLock a b o) e = c .counts .4
+counted-as compile text d h count c (DropLock a b) e = absurd (false≢true e)
+counted-as compile text d h count c (CallSegment a b) e = absurd (false≢true e)
+counted-as compile text d h count c (ReturnCall a) e = absurd (false≢true e)
+counted-as compile text d h count c (Access a b o) e = absurd (false≢true e)

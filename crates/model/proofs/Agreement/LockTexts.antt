@@ -1,0 +1,296 @@
+-- The conditions of an L are tests on the state, each of which the history tells; the text's verdict is the compiler's, whose laws say where it is
+-- which.
+use mathlib.Core.Path.{_≡_, refl, sym, ap, subst, _∙_}
+use mathlib.Core.Bool.{Bool, true, false, cond, _||_, true≢false}
+use mathlib.Core.List.{List, [], _∷_}
+use mathlib.Core.Logic.{_↔_}
+use mathlib.Core.Option.{Option, none, some}
+use Prim.Native.Nat.{ℕ, suc, _+_, _<_}
+use lib.Dec.{ltb}
+use lib.ListN.{length}
+use borrow.Author.Tests.{ltb-true, ltb-false, lt-ltb, le-ltb, eqb-true, eq-eqb}
+use Rattle.product.specs.Sum.{Sum}
+use Rattle.formula.specs.declared.text.Issued.{Issued}
+use Rattle.formula.specs.Tree.{ors, Tree, holds}
+use Rattle.formula.specs.Text.{Text}
+use Rattle.formula.specs.Nodes.{products, fits}
+use Rattle.formula.specs.Outcome.{Outcome, accepted, malformed, tooWide, unsatisfiable, outcomeOf, sumIn}
+use Rattle.formula.specs.Meaning.{textHolds}
+use Rattle.formula.specs.Refusals.{Never}
+use Rattle.formula.proofs.Grammar.{malformed-exactly, unambiguous}
+use Rattle.formula.proofs.Width.{too-wide-exactly}
+use Rattle.formula.proofs.Opening.{opening-law, accepted-where}
+use Rattle.formula.proofs.Unsatisfiable.{unsatisfiable-exactly}
+use Rattle.call.specs.declared.request.Request.the-variants.{AddLock}
+use Rattle.call.specs.declared.request.Decoded.the-variants.{WellFormed}
+use Rattle.call.specs.Calls.{Call, decoded}
+use Rattle.base.specs.Conditions.{Condition, when, firstRefusal}
+use Rattle.base.proofs.Truth.{neither}
+use Rattle.model.specs.declared.answer.Refusal.{Refusal}
+use Rattle.model.specs.declared.answer.Refusal.the-variants.{UnknownUser, NoSegment, NotOwner, Unfit, Full, Malformed, TooWide, Unsatisfiable}
+use Rattle.model.specs.declared.answer.Answer.the-variants.{Refused}
+use Rattle.model.specs.Answers.{refusalNumber, isAccepted}
+use Rattle.model.specs.Limits.{mostStanding, mostNumbers, passes}
+use Rattle.model.specs.Operations.{takesSet}
+use Rattle.model.specs.Threads.{KeySet}
+use Rattle.model.specs.State.{issued, isUser, isSegment, segmentAt, owns}
+use Rattle.model.specs.Refusals.{unless, isMalformed, isTooWide, isUnsatisfiable, conditions}
+use Rattle.model.specs.Cells.{Cells, stateOf}
+use Rattle.model.specs.Stores.{stepCells}
+use Rattle.model.specs.History.{Event, history, acceptedOf, issuedBy}
+use Rattle.model.specs.Replay.{reached, events}
+use Rattle.model.specs.Theorems.Mirror.{Mirrors}
+use Rattle.model.specs.HistoryLocks.{standingProducts}
+use Rattle.model.specs.Theorems.StoredLocks.{Stores}
+use Rattle.model.specs.Theorems.LockTexts.{Allowed, Satisfiable, Room, TextJudged, LockTexts}
+use Rattle.base.proofs.Lists.{caseBool, clash, isSome-some}
+use Rattle.model.proofs.Refusals.Refusing.{judged-refused, judged-accepted, answer-decoded}
+use Rattle.model.proofs.Agreement.Mirror.{mirror}
+use Rattle.model.proofs.Agreement.StoredLocks.{stored-locks}
+
+-- ---- the conditions, over any tests
+
+abbrev tests : Bool → Bool → Bool → Bool → Outcome → Bool → List (Condition Refusal)
+tests user segment owner fit x over =
+    unless user UnknownUser
+    ∷ unless segment NoSegment
+    ∷ unless owner NotOwner
+    ∷ unless fit Unfit
+    ∷ when (isMalformed x) Malformed
+    ∷ when (isTooWide x) TooWide
+    ∷ when (isUnsatisfiable x) Unsatisfiable
+    ∷ when over Full
+    ∷ []
+
+-- what the text and the limit refuse
+abbrev late : Outcome → Bool → Option Refusal
+late malformed over = some Malformed
+late tooWide over = some TooWide
+late unsatisfiable over = some Unsatisfiable
+late (accepted ps) over = cond over (some Full) none
+
+-- a refusal that the tests before the text do not give
+abbrev isLate : Option Refusal → Bool
+isLate none = true
+isLate (some r) = ltb 7 (refusalNumber r)
+
+reaches-text : (x : Outcome) (over : Bool) → firstRefusal (tests true true true true x over) ≡ late x over
+reaches-text (accepted ps) over = refl
+reaches-text malformed over = refl
+reaches-text tooWide over = refl
+reaches-text unsatisfiable over = refl
+
+passed : (u s o f : Bool) (x : Outcome) (over : Bool) (r : Option Refusal) → isLate r ≡ true → firstRefusal (tests u s o f x over) ≡ r
+    → (u ≡ true) × (s ≡ true) × (o ≡ true) × (f ≡ true)
+passed false s o f x over r l e = clash l (sym (ap isLate e))
+passed true false o f x over r l e = clash l (sym (ap isLate e))
+passed true true false f x over r l e = clash l (sym (ap isLate e))
+passed true true true false x over r l e = clash l (sym (ap isLate e))
+passed true true true true x over r l e = (refl, refl, refl, refl)
+
+late-malformed : (x : Outcome) (over : Bool) → late x over ≡ some Malformed → x ≡ malformed
+late-malformed (accepted ps) true e = cc
+late-malformed (accepted ps) false e = cc
+late-malformed malformed over e = refl
+late-malformed tooWide over e = cc
+late-malformed unsatisfiable over e = cc
+
+late-wide : (x : Outcome) (over : Bool) → late x over ≡ some TooWide → x ≡ tooWide
+late-wide (accepted ps) true e = cc
+late-wide (accepted ps) false e = cc
+late-wide malformed over e = cc
+late-wide tooWide over e = refl
+late-wide unsatisfiable over e = cc
+
+late-unsatisfiable : (x : Outcome) (over : Bool) → late x over ≡ some Unsatisfiable → x ≡ unsatisfiable
+late-unsatisfiable (accepted ps) true e = cc
+late-unsatisfiable (accepted ps) false e = cc
+late-unsatisfiable malformed over e = cc
+late-unsatisfiable tooWide over e = cc
+late-unsatisfiable unsatisfiable over e = refl
+
+late-full : (x : Outcome) (over : Bool) → late x over ≡ some Full → (ps : Sum) × (x ≡ accepted ps) × (over ≡ true)
+late-full (accepted ps) true e = (ps, refl, refl)
+late-full (accepted ps) false e = (ps, refl, cc)
+late-full malformed over e = ([], cc, cc)
+late-full tooWide over e = ([], cc, cc)
+late-full unsatisfiable over e = ([], cc, cc)
+
+late-none : (x : Outcome) (over : Bool) → late x over ≡ none → (ps : Sum) × (x ≡ accepted ps) × (over ≡ false)
+late-none (accepted ps) true e = (ps, refl, cc)
+late-none (accepted ps) false e = (ps, refl, refl)
+late-none malformed over e = ([], cc, cc)
+late-none tooWide over e = ([], cc, cc)
+late-none unsatisfiable over e = ([], cc, cc)
+
+late-over : (ps : Sum) (x : Outcome) (over b : Bool) → x ≡ accepted ps → over ≡ b → late x over ≡ cond b (some Full) none
+late-over ps x over b e f = ap (λ (y : Outcome). late y over) e ∙ ap (λ (t : Bool). cond t (some Full) none) f
+
+abbrev overfull : ℕ → ℕ → ℕ → Bool
+overfull standing more numbers = passes mostStanding (standing + more) || passes mostNumbers (suc numbers)
+
+-- ---- of an L after some events
+
+module _ (es : List Event) (d : Cells) (m : Mirrors es (stateOf d)) (k : Stores outcomeOf textHolds es (stateOf d)) (next : Call) (a b c : ℕ) (e : decoded next ≡ WellFormed (AddLock a b c)) where
+  abbrev text : List ℕ
+  text = next .text
+
+  abbrev verdict : Outcome
+  verdict = outcomeOf (issued (stateOf d)) text
+
+  verdict-as : verdict ≡ outcomeOf (issuedBy es) text
+  verdict-as = ap (λ (i : Issued). outcomeOf i text) (m .handedOut)
+
+  abbrev over : Bool
+  over = overfull (length (segmentAt (stateOf d) b .products)) (length (sumIn verdict)) (stateOf d .lockNumbers)
+
+  abbrev firstOf : Option Refusal
+  firstOf = firstRefusal (conditions outcomeOf (stateOf d) (AddLock a b c) text)
+
+  refused-as : (r : Refusal) → (stepCells outcomeOf d next .answer ≡ Refused r) ↔ (firstOf ≡ some r)
+  refused-as r =
+      let (to, from) = judged-refused outcomeOf d (AddLock a b c) text firstOf r in
+      let same = answer-decoded outcomeOf d next (WellFormed (AddLock a b c)) e in
+      (λ h. to (sym same ∙ h), λ h. same ∙ from h)
+
+  accepted-as : (isAccepted (stepCells outcomeOf d next .answer) ≡ true) ↔ (firstOf ≡ none)
+  accepted-as =
+      let (to, from) = judged-accepted outcomeOf d (AddLock a b c) text firstOf in
+      let same = ap isAccepted (answer-decoded outcomeOf d next (WellFormed (AddLock a b c)) e) in
+      (λ h. to (sym same ∙ h), λ h. same ∙ from h)
+
+  allowed : isUser (stateOf d) a ≡ true → isSegment (stateOf d) b ≡ true → owns (stateOf d) a b ≡ true → takesSet (segmentAt (stateOf d) b .kind) c ≡ true → Allowed es a b c
+  allowed u s o f =
+      let (entry, h) = isSome-some (history es .segments b) (sym (m .segment b) ∙ s) in
+      record {
+        user = subst (λ (n : ℕ). a < n) (ap (λ (i : Issued). i .users) (m .handedOut)) (ltb-true a (stateOf d .users) u);
+        entry = entry;
+        segment = h;
+        owner = sym (m .owner b entry h) ∙ eqb-true _ a o;
+        operations = ap (λ (n : ℕ). takesSet n c) (sym (m .kind b entry h)) ∙ f;
+      }
+
+  -- a late answer is what the text and the limit say, in an L that no earlier number refuses
+  is-late : (r : Option Refusal) → isLate r ≡ true → firstOf ≡ r → Allowed es a b c × (late verdict over ≡ r)
+  unfolding conditions
+  is-late r l h =
+      let (u, s, o, f) = passed (isUser (stateOf d) a) (isSegment (stateOf d) b) (owns (stateOf d) a b) (takesSet (segmentAt (stateOf d) b .kind) c) verdict over r l h in
+      (allowed u s o f, sym (reaches-text verdict over) ∙ sym (same u s o f) ∙ h)
+    where
+      same : isUser (stateOf d) a ≡ true → isSegment (stateOf d) b ≡ true → owns (stateOf d) a b ≡ true → takesSet (segmentAt (stateOf d) b .kind) c ≡ true
+          → firstRefusal (tests (isUser (stateOf d) a) (isSegment (stateOf d) b) (owns (stateOf d) a b) (takesSet (segmentAt (stateOf d) b .kind) c) verdict over) ≡ firstRefusal (tests true true true true verdict over)
+      same u s o f = rw (u, s, o, f)
+
+  -- and the other way round
+  reaches : Allowed es a b c → firstOf ≡ late verdict over
+  unfolding conditions
+  reaches w = same user segment owner fit ∙ reaches-text verdict over
+    where
+      user : isUser (stateOf d) a ≡ true
+      user = lt-ltb a (stateOf d .users) (subst (λ (n : ℕ). a < n) (sym (ap (λ (i : Issued). i .users) (m .handedOut))) (w .user))
+
+      segment : isSegment (stateOf d) b ≡ true
+      segment = m .segment b ∙ rw (w .segment)
+
+      owner : owns (stateOf d) a b ≡ true
+      owner = eq-eqb (segmentAt (stateOf d) b .owner) a (m .owner b (w .entry) (w .segment) ∙ w .owner)
+
+      fit : takesSet (segmentAt (stateOf d) b .kind) c ≡ true
+      fit = ap (λ (n : ℕ). takesSet n c) (m .kind b (w .entry) (w .segment)) ∙ w .operations
+
+      same : isUser (stateOf d) a ≡ true → isSegment (stateOf d) b ≡ true → owns (stateOf d) a b ≡ true → takesSet (segmentAt (stateOf d) b .kind) c ≡ true
+          → firstRefusal (tests (isUser (stateOf d) a) (isSegment (stateOf d) b) (owns (stateOf d) a b) (takesSet (segmentAt (stateOf d) b .kind) c) verdict over) ≡ firstRefusal (tests true true true true verdict over)
+      same u s o f = rw (u, s, o, f)
+
+  -- a refusal of the text, exactly where the compiler gives it
+  by-verdict : {P : Type 0} (r : Refusal) (x : Outcome) → isLate (some r) ≡ true → ((y : Outcome) (t : Bool) → late y t ≡ some r → y ≡ x) → ((t : Bool) → late x t ≡ some r)
+      → (outcomeOf (issuedBy es) text ≡ x) ↔ P
+      → (stepCells outcomeOf d next .answer ≡ Refused r) ↔ (Allowed es a b c × P)
+  by-verdict {P} r x l to from laws = (there, back)
+    where
+      there : stepCells outcomeOf d next .answer ≡ Refused r → Allowed es a b c × P
+      there h = let (w, q) = is-late (some r) l (refused-as r .0 h) in (w, laws .0 (sym verdict-as ∙ to verdict over q))
+
+      back : Allowed es a b c × P → stepCells outcomeOf d next .answer ≡ Refused r
+      back p = refused-as r .1 (reaches (p .0) ∙ ap (λ (y : Outcome). late y over) (verdict-as ∙ laws .1 (p .1)) ∙ from over)
+
+  -- ---- the limits
+
+  over-as : (ps : Sum) → verdict ≡ accepted ps → over ≡ overfull (standingProducts outcomeOf es b) (length ps) (acceptedOf 76 es)
+  over-as ps q =
+      ap (λ (o : Outcome). overfull (length (segmentAt (stateOf d) b .products)) (length (sumIn o)) (stateOf d .lockNumbers)) q
+      ∙ rw (k .count b, m .lockNumbers)
+
+  room-over : (ps : Sum) → verdict ≡ accepted ps → Room es b (length ps) → over ≡ false
+  room-over ps q r = over-as ps q ∙ rw (le-ltb 8 (standingProducts outcomeOf es b + length ps) (r .products), le-ltb 65536 (suc (acceptedOf 76 es)) (r .numbers))
+
+  over-room : (ps : Sum) → verdict ≡ accepted ps → over ≡ false → Room es b (length ps)
+  over-room ps q h =
+      let (p, n) = neither (passes mostStanding (standingProducts outcomeOf es b + length ps)) (passes mostNumbers (suc (acceptedOf 76 es))) (sym (over-as ps q) ∙ h) in
+      record { products = ltb-false 8 (standingProducts outcomeOf es b + length ps) p; numbers = ltb-false 65536 (suc (acceptedOf 76 es)) n }
+
+  -- an accepted text's formula, and the products of such a one
+  satisfiable : (ps : Sum) → verdict ≡ accepted ps → Satisfiable (issuedBy es) text
+  satisfiable ps q = let o = opening-law (issuedBy es) text ps (sym verdict-as ∙ q) in record { tree = o .tree; text = o .text; fit = o .fit; true-for = o .witness }
+
+  accepts : (f : Satisfiable (issuedBy es) text) → verdict ≡ accepted (products false (f .tree))
+  accepts f = verdict-as ∙ accepted-where (issuedBy es) text (f .tree) (f .text) (f .fit) (f .true-for .0) (f .true-for .1)
+
+  full-as : (stepCells outcomeOf d next .answer ≡ Refused Full) ↔ (Allowed es a b c × (f : Satisfiable (issuedBy es) text) × (Room es b (length (products false (f .tree))) → ⊥))
+  full-as = (there, back)
+    where
+      there : stepCells outcomeOf d next .answer ≡ Refused Full → Allowed es a b c × (f : Satisfiable (issuedBy es) text) × (Room es b (length (products false (f .tree))) → ⊥)
+      there h =
+          let (w, q) = is-late (some Full) refl (refused-as Full .0 h) in
+          let (ps, v, o) = late-full verdict over q in
+          let f = satisfiable ps v in
+          (w, f, λ r. true≢false (sym o ∙ room-over (products false (f .tree)) (accepts f) r))
+
+      back : Allowed es a b c × (f : Satisfiable (issuedBy es) text) × (Room es b (length (products false (f .tree))) → ⊥) → stepCells outcomeOf d next .answer ≡ Refused Full
+      back p =
+          let (w, f, none-left) = p in
+          let o : over ≡ true = caseBool over (λ t. t) (λ t. absurd (none-left (over-room (products false (f .tree)) (accepts f) t))) in
+          refused-as Full .1 (reaches w ∙ late-over (products false (f .tree)) verdict over true (accepts f) o)
+
+  made-as : (isAccepted (stepCells outcomeOf d next .answer) ≡ true) ↔ (Allowed es a b c × (f : Satisfiable (issuedBy es) text) × Room es b (length (products false (f .tree))))
+  made-as = (there, back)
+    where
+      there : isAccepted (stepCells outcomeOf d next .answer) ≡ true → Allowed es a b c × (f : Satisfiable (issuedBy es) text) × Room es b (length (products false (f .tree)))
+      there h =
+          let (w, q) = is-late none refl (accepted-as .0 h) in
+          let (ps, v, o) = late-none verdict over q in
+          let f = satisfiable ps v in
+          (w, f, over-room (products false (f .tree)) (accepts f) o)
+
+      back : Allowed es a b c × (f : Satisfiable (issuedBy es) text) × Room es b (length (products false (f .tree))) → isAccepted (stepCells outcomeOf d next .answer) ≡ true
+      back p =
+          let (w, f, room) = p in
+          accepted-as .1 (reaches w ∙ late-over (products false (f .tree)) verdict over false (accepts f) (room-over (products false (f .tree)) (accepts f) room))
+
+  -- ---- the whole
+
+  unsatisfiable-as : (stepCells outcomeOf d next .answer ≡ Refused Unsatisfiable) ↔ (Allowed es a b c × Never (issuedBy es) text)
+  unsatisfiable-as = by-verdict Unsatisfiable unsatisfiable refl late-unsatisfiable (λ t. refl) (unsatisfiable-exactly (issuedBy es) text)
+
+  unsatisfiable-words : Allowed es a b c → (t : Tree ors) → Text (issuedBy es) text t → fits false t ≡ true
+      → (stepCells outcomeOf d next .answer ≡ Refused Unsatisfiable) ↔ ((keys : KeySet) → holds keys t ≡ false)
+  unsatisfiable-words w t h f = (
+    λ q keys.
+        let never = unsatisfiable-as .0 q .1 in
+        ap (λ (u : Tree ors). holds keys u) (unambiguous (issuedBy es) text t (never .tree) h (never .text)) ∙ never .never keys,
+    λ q. unsatisfiable-as .1 (w, record { tree = t; text = h; fit = f; never = q }),
+  )
+
+  judged-as : TextJudged es a b c text (stepCells outcomeOf d next .answer)
+  judged-as =
+      record {
+        malformed = by-verdict Malformed malformed refl late-malformed (λ t. refl) (malformed-exactly (issuedBy es) text);
+        tooWide = by-verdict TooWide tooWide refl late-wide (λ t. refl) (too-wide-exactly (issuedBy es) text);
+        unsatisfiable = unsatisfiable-as;
+        unsatisfiableExactly = unsatisfiable-words;
+        full = full-as;
+        made = made-as;
+      }
+
+pub lock-texts : LockTexts
+lock-texts xs next a b c e = judged-as (events outcomeOf xs) (reached outcomeOf xs) (mirror .state xs) (stored-locks .state xs) next a b c e

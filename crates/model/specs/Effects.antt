@@ -1,0 +1,128 @@
+-- Document 01, 'Twelve calls': what an accepted call changes in the state, and what it answers.
+use mathlib.Core.Bool.{not}
+use mathlib.Core.List.{List, [], _∷_, _++_, map}
+use Prim.Native.Nat.{ℕ, suc}
+use lib.ListN.{length, getD, set}
+use Rattle.product.specs.declared.literal.Key.{Key}
+use Rattle.product.specs.declared.literal.Key.the-variants.{Segment as SegmentKey, Defined}
+use Rattle.product.specs.Product.{Product}
+use Rattle.product.specs.Sum.{Sum}
+use Rattle.formula.specs.Outcome.{sumIn}
+use Rattle.formula.specs.Compiler.{Compiler}
+use Rattle.call.specs.declared.request.Request.{Request}
+use Rattle.call.specs.declared.request.Request.the-variants.{NewUser, StartThread, EndThread, NewSegment, NewKey, GiveKey, TakeKey, AddLock, DropLock, CallSegment, ReturnCall, Access}
+use Rattle.base.specs.Lists.{keep, tailOf}
+use Rattle.model.specs.Operations.{execute, grants}
+use Rattle.model.specs.Threads.{Frame, Thread, sameKey}
+use Rattle.model.specs.State.{LockProduct, Segment, Place, State, segmentAt, issued, isFree, placeFor, placeOf, threadAt, isOfLock, homeOf, free, taken}
+use Rattle.model.specs.Refusals.{opening, lockOf}
+
+-- ---- what an accepted call changes
+
+-- one part put in the place of what was there
+abbrev pub withUsers : State → ℕ → State
+withUsers d users =
+    record { users = users; threadNumbers = d .threadNumbers; lockNumbers = d .lockNumbers; makers = d .makers; segments = d .segments; places = d .places }
+
+abbrev pub withThreadNumbers : State → ℕ → State
+withThreadNumbers d threadNumbers =
+    record { users = d .users; threadNumbers = threadNumbers; lockNumbers = d .lockNumbers; makers = d .makers; segments = d .segments; places = d .places }
+
+abbrev pub withLockNumbers : State → ℕ → State
+withLockNumbers d lockNumbers =
+    record { users = d .users; threadNumbers = d .threadNumbers; lockNumbers = lockNumbers; makers = d .makers; segments = d .segments; places = d .places }
+
+abbrev pub withMakers : State → List ℕ → State
+withMakers d makers =
+    record { users = d .users; threadNumbers = d .threadNumbers; lockNumbers = d .lockNumbers; makers = makers; segments = d .segments; places = d .places }
+
+abbrev pub withSegments : State → List Segment → State
+withSegments d segments =
+    record { users = d .users; threadNumbers = d .threadNumbers; lockNumbers = d .lockNumbers; makers = d .makers; segments = segments; places = d .places }
+
+abbrev pub withPlaces : State → List Place → State
+withPlaces d places =
+    record { users = d .users; threadNumbers = d .threadNumbers; lockNumbers = d .lockNumbers; makers = d .makers; segments = d .segments; places = places }
+
+abbrev pub onSegment : State → ℕ → (Segment → Segment) → State
+onSegment d s f = withSegments d (set (d .segments) s (f (segmentAt d s)))
+
+abbrev pub onThread : (Thread → Thread) → Place → Place
+onThread f free = free
+onThread f (taken k t) = taken k (f t)
+
+-- the place of thread n
+abbrev pub atPlace : State → ℕ → (Place → Place) → State
+atPlace d n f = let i = placeOf n (d .places) in withPlaces d (set (d .places) i (f (getD (d .places) i free)))
+
+-- 'A granted call hands the run the segment's key list as it then is.'
+abbrev pub pushFrame : ℕ → List Key → Thread → Thread
+pushFrame s keys t = record { user = t .user; frames = record { segment = s; keys = keys } ∷ t .frames }
+
+-- 'R leaves the newest open call.'
+abbrev pub popFrame : Thread → Thread
+popFrame t = record { user = t .user; frames = tailOf (t .frames) }
+
+abbrev pub newest : List Frame → ℕ
+newest [] = 0
+newest (f ∷ fs) = f .segment
+
+abbrev pub withKeys : Segment → List Key → Segment
+withKeys g keys = record { owner = g .owner; kind = g .kind; keys = keys; products = g .products }
+
+abbrev pub giveKey : ℕ → Segment → Segment
+giveKey k g = withKeys g (g .keys ++ Defined k ∷ [])
+
+abbrev pub takeKey : ℕ → Segment → Segment
+takeKey k g = withKeys g (keep (λ j. not (sameKey (Defined k) j)) (g .keys))
+
+abbrev pub withProducts : Segment → List LockProduct → Segment
+withProducts g products = record { owner = g .owner; kind = g .kind; keys = g .keys; products = products }
+
+abbrev pub lockProduct : ℕ → ℕ → Product → LockProduct
+lockProduct lock operations p = record { lock = lock; operations = operations; product = p }
+
+abbrev pub addProducts : ℕ → ℕ → Sum → Segment → Segment
+addProducts lock operations ps g = withProducts g (g .products ++ map (lockProduct lock operations) ps)
+
+abbrev pub dropProducts : ℕ → Segment → Segment
+dropProducts n g = withProducts g (keep (λ r. not (isOfLock n r)) (g .products))
+
+module _ (compile : Compiler) where
+  unfoldable pub update : State → Request → List ℕ → State
+  update d NewUser text = withUsers d (suc (d .users))
+  update d (StartThread a) text =
+      let n = d .threadNumbers in
+      let new = taken n (record { user = a; frames = [] }) in
+      withThreadNumbers (withPlaces d (set (d .places) (placeFor n isFree (d .places)) new)) (suc n)
+  update d (EndThread a) text = atPlace d a (λ p. free)
+  update d (NewSegment a b) text =
+      let s = length (d .segments) in
+      withSegments d (d .segments ++ record { owner = a; kind = b; keys = SegmentKey s ∷ []; products = [] } ∷ [])
+  update d (NewKey a) text = withMakers d (d .makers ++ a ∷ [])
+  update d (GiveKey a b c) text = onSegment d b (giveKey c)
+  update d (TakeKey a b c) text = onSegment d b (takeKey c)
+  update d (AddLock a b c) text =
+      let n = d .lockNumbers in
+      let ps = sumIn (compile (issued d) text) in
+      withLockNumbers (onSegment d b (addProducts n c ps)) (suc n)
+  update d (DropLock a b) text = onSegment d (homeOf d b) (dropProducts b)
+  update d (CallSegment a b) text = atPlace d a (onThread (pushFrame b (segmentAt d b .keys)))
+  update d (ReturnCall a) text = atPlace d a (onThread popFrame)
+  update d (Access a b c) text = d
+
+  -- ---- what an accepted call answers
+
+  unfoldable pub answer : State → Request → List ℕ → ℕ
+  answer d NewUser text = d .users
+  answer d (StartThread a) text = d .threadNumbers
+  answer d (EndThread a) text = length (threadAt d a .frames)
+  answer d (NewSegment a b) text = length (d .segments)
+  answer d (NewKey a) text = length (d .makers)
+  answer d (GiveKey a b c) text = length (giveKey c (segmentAt d b) .keys)
+  answer d (TakeKey a b c) text = length (takeKey c (segmentAt d b) .keys)
+  answer d (AddLock a b c) text = d .lockNumbers
+  answer d (DropLock a b) text = length (keep (isOfLock b) (segmentAt d (homeOf d b) .products))
+  answer d (CallSegment a b) text = lockOf (opening d grants a b execute)
+  answer d (ReturnCall a) text = newest (threadAt d a .frames)
+  answer d (Access a b c) text = lockOf (opening d grants a b c)

@@ -1,0 +1,137 @@
+-- Document 01, 'Operations and the check' and the table of refusals: the check, and for each of the twelve calls the list of its refusals,
+-- in the table's order. The compiler of formula texts is a parameter.
+use mathlib.Core.Bool.{Bool, true, false, _&&_, _||_, not}
+use mathlib.Core.List.{List, [], _∷_}
+use mathlib.Core.Option.{Option}
+use Prim.Native.Nat.{ℕ, suc, _+_}
+use lib.Dec.{eqb, ltb}
+use lib.ListN.{length}
+use Rattle.product.specs.declared.literal.Key.the-variants.{Defined}
+use Rattle.product.specs.Product.{opens}
+use Rattle.formula.specs.Outcome.{Outcome, accepted, malformed, tooWide, unsatisfiable, sumIn}
+use Rattle.formula.specs.Compiler.{Compiler}
+use Rattle.call.specs.declared.request.Request.{Request}
+use Rattle.call.specs.declared.request.Request.the-variants.{NewUser, StartThread, EndThread, NewSegment, NewKey, GiveKey, TakeKey, AddLock, DropLock, CallSegment, ReturnCall, Access}
+use Rattle.base.specs.Conditions.{Condition, when}
+use Rattle.model.specs.declared.answer.Refusal.{Refusal}
+use Rattle.model.specs.declared.answer.Refusal.the-variants.{UnknownUser, NoThread, NoSegment, NoKey, NoLock, NotOwner, Unfit, AlreadyPresent, NotPresent, Full, Malformed, TooWide, Unsatisfiable, Denied, NotGranted}
+use Rattle.base.specs.Lists.{first, isSome, orDefault}
+use Rattle.model.specs.Limits.{mostUsers, mostThreads, mostSegments, mostDefined, mostListed, mostStanding, mostFrames, mostNumbers, passes}
+use Rattle.model.specs.Operations.{execute, denies, grants, sheet, takes, isAccess, takesSet}
+use Rattle.model.specs.Threads.{isIn, KeySet, keySet}
+use Rattle.model.specs.State.{LockProduct, State, isUser, isSegment, isKey, segmentAt, owns, made, issued, liveIn, isLive, threadAt, isLock, homeOf}
+
+-- ---- the check
+
+abbrev pub opensFor : (ℕ → ℕ → Bool) → ℕ → KeySet → LockProduct → Bool
+opensFor stands n keys r = stands (r .operations) n && opens keys (r .product)
+
+-- The first product that opens for thread a, of the locks on segment b that stand for operation n, as deny locks or as grant locks. It is the
+-- lowest such lock's: `answer` of `Granting`, `inOrder` of `Numbering`.
+unfoldable pub opening : State → (ℕ → ℕ → Bool) → ℕ → ℕ → ℕ → Option LockProduct
+opening d stands a b n = first (opensFor stands n (keySet a (threadAt d a))) (segmentAt d b .products)
+
+abbrev pub lockOf : Option LockProduct → ℕ
+lockOf o = orDefault 0 (λ r. r .lock) o
+
+-- ---- the table of refusals
+
+abbrev pub unless : Bool → Refusal → Condition Refusal
+unless b r = when (not b) r
+
+abbrev pub isMalformed : Outcome → Bool
+isMalformed (accepted ps) = false
+isMalformed malformed = true
+isMalformed tooWide = false
+isMalformed unsatisfiable = false
+
+abbrev pub isTooWide : Outcome → Bool
+isTooWide (accepted ps) = false
+isTooWide malformed = false
+isTooWide tooWide = true
+isTooWide unsatisfiable = false
+
+abbrev pub isUnsatisfiable : Outcome → Bool
+isUnsatisfiable (accepted ps) = false
+isUnsatisfiable malformed = false
+isUnsatisfiable tooWide = false
+isUnsatisfiable unsatisfiable = true
+
+-- 'If a deny lock opens, the lowest one's number goes with refusal 14. Otherwise .. 15 if none opens.'
+abbrev pub denied : State → ℕ → ℕ → ℕ → Condition Refusal
+denied d a b n = let o = opening d denies a b n in when (isSome o) (Denied (lockOf o))
+
+abbrev pub notGranted : State → ℕ → ℕ → ℕ → Condition Refusal
+notGranted d a b n = unless (isSome (opening d grants a b n)) NotGranted
+
+module _ (compile : Compiler) where
+  -- 'Checked in that order, 10 last.'
+  unfoldable pub conditions : State → Request → List ℕ → List (Condition Refusal)
+  conditions d NewUser text =
+      when (passes mostUsers (suc (d .users))) Full
+      ∷ []
+  conditions d (StartThread a) text =
+      unless (isUser d a) UnknownUser
+      ∷ when (passes mostThreads (suc (liveIn (d .places))) || passes mostNumbers (suc (d .threadNumbers))) Full
+      ∷ []
+  conditions d (EndThread a) text =
+      unless (isLive d a) NoThread
+      ∷ []
+  conditions d (NewSegment a b) text =
+      unless (isUser d a) UnknownUser
+      ∷ when (ltb sheet b) Unfit
+      ∷ when (passes mostSegments (suc (length (d .segments)))) Full
+      ∷ []
+  conditions d (NewKey a) text =
+      unless (isUser d a) UnknownUser
+      ∷ when (passes mostDefined (suc (length (d .makers)))) Full
+      ∷ []
+  conditions d (GiveKey a b c) text =
+      unless (isUser d a) UnknownUser
+      ∷ unless (isSegment d b) NoSegment
+      ∷ unless (isKey d c) NoKey
+      ∷ unless (owns d a b && made d a c) NotOwner
+      ∷ when (isIn (Defined c) (segmentAt d b .keys)) AlreadyPresent
+      ∷ when (passes mostListed (suc (length (segmentAt d b .keys)))) Full
+      ∷ []
+  conditions d (TakeKey a b c) text =
+      unless (isUser d a) UnknownUser
+      ∷ unless (isSegment d b) NoSegment
+      ∷ unless (isKey d c) NoKey
+      ∷ unless (owns d a b) NotOwner
+      ∷ unless (isIn (Defined c) (segmentAt d b .keys)) NotPresent
+      ∷ []
+  conditions d (AddLock a b c) text =
+      unless (isUser d a) UnknownUser
+      ∷ unless (isSegment d b) NoSegment
+      ∷ unless (owns d a b) NotOwner
+      ∷ unless (takesSet (segmentAt d b .kind) c) Unfit
+      ∷ when (isMalformed (compile (issued d) text)) Malformed
+      ∷ when (isTooWide (compile (issued d) text)) TooWide
+      ∷ when (isUnsatisfiable (compile (issued d) text)) Unsatisfiable
+      ∷ when (passes mostStanding (length (segmentAt d b .products) + length (sumIn (compile (issued d) text))) || passes mostNumbers (suc (d .lockNumbers))) Full
+      ∷ []
+  conditions d (DropLock a b) text =
+      unless (isUser d a) UnknownUser
+      ∷ unless (isLock d b) NoLock
+      ∷ unless (owns d a (homeOf d b)) NotOwner
+      ∷ []
+  conditions d (CallSegment a b) text =
+      unless (isLive d a) NoThread
+      ∷ unless (isSegment d b) NoSegment
+      ∷ unless (takes (segmentAt d b .kind) execute) Unfit
+      ∷ denied d a b execute
+      ∷ notGranted d a b execute
+      ∷ when (passes mostFrames (suc (length (threadAt d a .frames)))) Full
+      ∷ []
+  conditions d (ReturnCall a) text =
+      unless (isLive d a) NoThread
+      ∷ when (eqb (length (threadAt d a .frames)) 0) NotPresent
+      ∷ []
+  conditions d (Access a b c) text =
+      unless (isLive d a) NoThread
+      ∷ unless (isSegment d b) NoSegment
+      ∷ unless (isAccess c && takes (segmentAt d b .kind) c) Unfit
+      ∷ denied d a b c
+      ∷ notGranted d a b c
+      ∷ []

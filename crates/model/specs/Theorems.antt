@@ -1,0 +1,11 @@
+pub mod Bounds
+pub mod Examples
+pub mod Granting
+pub mod LockTexts
+pub mod Mirror
+pub mod Numbering
+pub mod Refinement
+pub mod Refusing
+pub mod StoredLocks
+pub mod Trials
+pub mod Widths
