@@ -1,4 +1,5 @@
--- How a caller in C sees the outcome of a formula text (document 01: lock text): one number, and rows of cells; and a truth value.
+-- How a caller in C sees the outcome of a formula text (document 01: lock text): one number, and rows of cells; and a
+-- truth value.
 use mathlib.Core.Bool.{Bool, true, false}
 use mathlib.Core.List.{List}
 use Prim.Native.Nat.{ℕ}

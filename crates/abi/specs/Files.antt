@@ -1,4 +1,5 @@
--- How a caller in C sees the journal's answers: one number, and what is then in the cursor, cells, bytes and size that it lent.
+-- How a caller in C sees the journal's answers: one number, and what is then in the cursor, cells, bytes and size that
+-- it lent.
 use mathlib.Core.List.{List}
 use Prim.Native.Nat.{ℕ}
 use Rattle.call.specs.Calls.{Call}

@@ -58,8 +58,8 @@ read-take d l i (suc n) h = rw (drop-cons l i d (omega arith)) (ap (λ s. getD l
 pub read-all : {A : Type 0} (d : A) (l : List A) (n : ℕ) → length l ≡ n → read d l 0 n ≡ l
 read-all d l n h = read-take d l 0 n (omega arith) ∙ take-all n l (omega arith)
 
--- A loop over the first n elements of an array l, each seen by f: what is left at i, and at the end. Such a loop's invariant says that the
--- answer for the whole is the answer for what is left.
+-- A loop over the first n elements of an array l, each seen by f: what is left at i, and at the end. Such a loop's
+-- invariant says that the answer for the whole is the answer for what is left.
 module _ {X Y : Type 0} (f : X → Y) where
   abbrev pub part : List X → ℕ → List Y
   part l n = map f (take n l)

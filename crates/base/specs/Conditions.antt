@@ -1,5 +1,5 @@
--- Document 01, under the table of refusals: 'Checked in that order'. The first of a list of conditions that holds refuses; over any type of
--- refusals.
+-- Document 01, under the table of refusals: 'Checked in that order'. The first of a list of conditions that holds
+-- refuses; over any type of refusals.
 use mathlib.Core.Bool.{Bool, cond}
 use mathlib.Core.List.{List, [], _∷_}
 use mathlib.Core.Option.{Option, none, some}

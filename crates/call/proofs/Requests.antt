@@ -1,5 +1,5 @@
--- Each row of the table fixes the letter, and the fields that it does not name to 0: one induction over the table, for any property of the request that
--- is found. The other way round the call of a request is decoded by computing.
+-- Each row of the table fixes the letter, and the fields that it does not name to 0: one induction over the table, for
+-- any property of the request that is found. The other way round the call of a request is decoded by computing.
 use mathlib.Core.Path.{_≡_, refl, sym, subst}
 use mathlib.Core.Bool.{Bool, true, false, cond, _&&_, _||_}
 use mathlib.Core.List.{List, [], _∷_}
@@ -9,11 +9,12 @@ use lib.Dec.{eqb, leb}
 use lib.ListN.{length}
 use borrow.Author.Tests.{eqb-true}
 use Rattle.call.specs.declared.request.Request.{Request}
-use Rattle.call.specs.declared.request.Request.the-variants.{NewUser, StartThread, EndThread, NewSegment, NewKey, GiveKey, TakeKey, AddLock, DropLock, CallSegment, ReturnCall, Access}
+use Rattle.call.specs.declared.request.Request.the-variants as request
 use Rattle.call.specs.declared.request.Decoded.{Decoded}
 use Rattle.call.specs.declared.request.Decoded.the-variants.{WellFormed, Corrupt}
 use Rattle.base.proofs.Truth.{and-left, and-right}
-use Rattle.call.specs.Calls.{letterU, letterS, letterE, letterN, letterK, letterG, letterT, letterL, letterD, letterC, letterR, letterA, Call, callWith, Row, table, unnamedZero, textNamed, decodedIn, decodedOf}
+use Rattle.call.specs.Calls.{Call, callWith, Row, table, unnamedZero, textNamed, decodedIn, decodedOf}
+use Rattle.call.specs.Letters as letters
 use Rattle.call.specs.Requests.{callOf}
 use Rattle.call.specs.Theorems.Requests.{RequestsExactly}
 
@@ -32,7 +33,7 @@ module _ (x : Call) where
     pub a : leb 1 k ≡ false → x .a ≡ 0
     pub b : leb 2 k ≡ false → x .b ≡ 0
     pub c : leb 3 k ≡ false → x .c ≡ 0
-    pub text : eqb (x .letter) letterL ≡ false → x .text ≡ []
+    pub text : eqb (x .letter) letters.L ≡ false → x .text ≡ []
 
   no-text : (t : List ℕ) → length t ≡ 0 → t ≡ []
   no-text [] h = refl
@@ -47,7 +48,7 @@ module _ (x : Call) where
         a = λ e. or-zero (leb 1 k) (x .a) e (and-left pa pb ab);
         b = λ e. or-zero (leb 2 k) (x .b) e (and-right pa pb ab);
         c = λ e. or-zero (leb 3 k) (x .c) e (and-right (pa && pb) pc fields);
-        text = λ e. no-text (x .text) (or-zero (eqb (x .letter) letterL) (length (x .text)) e (and-right (pa && pb && pc) (textNamed (x .letter) (length (x .text))) h));
+        text = λ e. no-text (x .text) (or-zero (eqb (x .letter) letters.L) (length (x .text)) e (and-right (pa && pb && pc) (textNamed (x .letter) (length (x .text))) h));
       }
 
   -- ---- what every row says, the row that was found says
@@ -78,27 +79,27 @@ module _ (x : Call) where
   is : {l a b c : ℕ} {t : List ℕ} → x .letter ≡ l → x .a ≡ a → x .b ≡ b → x .c ≡ c → x .text ≡ t → x ≡ callWith l a b c t
   is el ea eb ec et i = record { letter = el i; a = ea i; b = eb i; c = ec i; text = et i }
 
-  not-lock : (l : ℕ) → eqb l letterL ≡ false → x .letter ≡ l → eqb (x .letter) letterL ≡ false
+  not-lock : (l : ℕ) → eqb l letters.L ≡ false → x .letter ≡ l → eqb (x .letter) letters.L ≡ false
   not-lock l h e = rw e h
 
   rows : Each (table (x .a) (x .b) (x .c))
   rows = (
-    λ e z. is e (z .a refl) (z .b refl) (z .c refl) (z .text (not-lock letterU refl e)),
+    λ e z. is e (z .a refl) (z .b refl) (z .c refl) (z .text (not-lock letters.U refl e)),
     (
-      one letterS refl,
+      one letters.S refl,
       (
-        one letterE refl,
+        one letters.E refl,
         (
-          two letterN refl,
+          two letters.N refl,
           (
-            one letterK refl,
+            one letters.K refl,
             (
-              three letterG refl,
+              three letters.G refl,
               (
-                three letterT refl,
+                three letters.T refl,
                 (
                   λ e z. is e refl refl refl refl,
-                  (two letterD refl, (two letterC refl, (one letterR refl, (three letterA refl, tt)))),
+                  (two letters.D refl, (two letters.C refl, (one letters.R refl, (three letters.A refl, tt)))),
                 ),
               ),
             ),
@@ -108,13 +109,13 @@ module _ (x : Call) where
     ),
   )
     where
-      one : (l : ℕ) → eqb l letterL ≡ false → x .letter ≡ l → Zero 1 → x ≡ callWith l (x .a) 0 0 []
+      one : (l : ℕ) → eqb l letters.L ≡ false → x .letter ≡ l → Zero 1 → x ≡ callWith l (x .a) 0 0 []
       one l h e z = is e refl (z .b refl) (z .c refl) (z .text (not-lock l h e))
 
-      two : (l : ℕ) → eqb l letterL ≡ false → x .letter ≡ l → Zero 2 → x ≡ callWith l (x .a) (x .b) 0 []
+      two : (l : ℕ) → eqb l letters.L ≡ false → x .letter ≡ l → Zero 2 → x ≡ callWith l (x .a) (x .b) 0 []
       two l h e z = is e refl refl (z .c refl) (z .text (not-lock l h e))
 
-      three : (l : ℕ) → eqb l letterL ≡ false → x .letter ≡ l → Zero 3 → x ≡ callWith l (x .a) (x .b) (x .c) []
+      three : (l : ℕ) → eqb l letters.L ≡ false → x .letter ≡ l → Zero 3 → x ≡ callWith l (x .a) (x .b) (x .c) []
       three l h e z = is e refl refl refl (z .text (not-lock l h e))
 
 -- ---- the call of a request
@@ -124,18 +125,18 @@ decoded x = decodedOf (x .letter) (x .a) (x .b) (x .c) (length (x .text))
 
 back : (q : Request) (t : List ℕ) → decoded (callOf q t) ≡ WellFormed q
 unfolding decodedOf
-back NewUser t = refl
-back (StartThread a) t = refl
-back (EndThread a) t = refl
-back (NewSegment a b) t = refl
-back (NewKey a) t = refl
-back (GiveKey a b c) t = refl
-back (TakeKey a b c) t = refl
-back (AddLock a b c) t = refl
-back (DropLock a b) t = refl
-back (CallSegment a b) t = refl
-back (ReturnCall a) t = refl
-back (Access a b c) t = refl
+back request.NewUser t = refl
+back (request.StartThread a) t = refl
+back (request.EndThread a) t = refl
+back (request.NewSegment a b) t = refl
+back (request.NewKey a) t = refl
+back (request.GiveKey a b c) t = refl
+back (request.TakeKey a b c) t = refl
+back (request.AddLock a b c) t = refl
+back (request.DropLock a b) t = refl
+back (request.CallSegment a b) t = refl
+back (request.ReturnCall a) t = refl
+back (request.Access a b c) t = refl
 
 pub requests-exactly : RequestsExactly
 unfolding decodedOf

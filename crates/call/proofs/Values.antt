@@ -4,7 +4,7 @@ use mathlib.Core.List.{List, [], _∷_}
 use Prim.Native.Nat.{ℕ}
 use native.Mathlib.Omega.{arith}
 use Rattle.call.specs.declared.request.Request.{Request}
-use Rattle.call.specs.declared.request.Request.the-variants.{NewUser, StartThread, EndThread, NewSegment, NewKey, GiveKey, TakeKey, AddLock, DropLock, CallSegment, ReturnCall, Access}
+use Rattle.call.specs.declared.request.Request.the-variants as request
 use Rattle.call.specs.declared.request.Decoded.{Decoded}
 use Rattle.call.specs.declared.request.Decoded.the-variants.{WellFormed, Corrupt}
 use Rattle.call.specs.Calls.{Call, decoded}
@@ -17,18 +17,18 @@ abbrev valuesOf : Call → List ℕ
 valuesOf x = x .letter ∷ x .a ∷ x .b ∷ x .c ∷ []
 
 any-text : (q : Request) (t : List ℕ) → requestValues q ≡ valuesOf (callOf q t)
-any-text NewUser t = refl
-any-text (StartThread a) t = refl
-any-text (EndThread a) t = refl
-any-text (NewSegment a b) t = refl
-any-text (NewKey a) t = refl
-any-text (GiveKey a b c) t = refl
-any-text (TakeKey a b c) t = refl
-any-text (AddLock a b c) t = refl
-any-text (DropLock a b) t = refl
-any-text (CallSegment a b) t = refl
-any-text (ReturnCall a) t = refl
-any-text (Access a b c) t = refl
+any-text request.NewUser t = refl
+any-text (request.StartThread a) t = refl
+any-text (request.EndThread a) t = refl
+any-text (request.NewSegment a b) t = refl
+any-text (request.NewKey a) t = refl
+any-text (request.GiveKey a b c) t = refl
+any-text (request.TakeKey a b c) t = refl
+any-text (request.AddLock a b c) t = refl
+any-text (request.DropLock a b) t = refl
+any-text (request.CallSegment a b) t = refl
+any-text (request.ReturnCall a) t = refl
+any-text (request.Access a b c) t = refl
 
 pub values-kept : ValuesKept
 values-kept x h = go (decoded x) refl h

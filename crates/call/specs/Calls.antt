@@ -1,14 +1,15 @@
--- Document 01, 'Twelve calls': a call is a letter, three fields and a text; the table of the letters with the fields that each names; and, from
--- 'Desk file', the calls that a record can hold.
+-- Document 01, 'Twelve calls': a call is a letter, three fields and a text; the table of the letters with the fields
+-- that each names; and, from 'Desk file', the calls that a record can hold.
 use mathlib.Core.Bool.{Bool, true, false, cond, _&&_, _||_}
 use mathlib.Core.List.{List, [], _∷_}
 use Prim.Native.Nat.{ℕ}
 use lib.Dec.{eqb, leb}
 use lib.ListN.{length}
 use Rattle.call.specs.declared.request.Request.{Request}
-use Rattle.call.specs.declared.request.Request.the-variants.{NewUser, StartThread, EndThread, NewSegment, NewKey, GiveKey, TakeKey, AddLock, DropLock, CallSegment, ReturnCall, Access}
+use Rattle.call.specs.declared.request.Request.the-variants as request
 use Rattle.call.specs.declared.request.Decoded.{Decoded}
 use Rattle.call.specs.declared.request.Decoded.the-variants.{WellFormed, Corrupt}
+use Rattle.call.specs.Letters as letters
 
 -- a call: its letter's byte, its fields and its text
 pub record Call : Type 0 where
@@ -25,44 +26,6 @@ callWith l a b c t = record { letter = l; a = a; b = b; c = c; text = t }
 abbrev pub mostText : ℕ
 mostText = 96
 
--- ---- the letters' bytes, in ASCII
-
-abbrev pub letterU : ℕ
-letterU = 85
-
-abbrev pub letterS : ℕ
-letterS = 83
-
-abbrev pub letterE : ℕ
-letterE = 69
-
-abbrev pub letterN : ℕ
-letterN = 78
-
-abbrev pub letterK : ℕ
-letterK = 75
-
-abbrev pub letterG : ℕ
-letterG = 71
-
-abbrev pub letterT : ℕ
-letterT = 84
-
-abbrev pub letterL : ℕ
-letterL = 76
-
-abbrev pub letterD : ℕ
-letterD = 68
-
-abbrev pub letterC : ℕ
-letterC = 67
-
-abbrev pub letterR : ℕ
-letterR = 82
-
-abbrev pub letterA : ℕ
-letterA = 65
-
 -- ---- the table
 
 -- a row: the letter's byte, the request, and how many of a, b and c, in their order, it names
@@ -77,18 +40,18 @@ row l q k = record { letter = l; request = q; named = k }
 -- for the fields a, b and c
 abbrev pub table : ℕ → ℕ → ℕ → List Row
 table a b c =
-    row letterU NewUser 0
-    ∷ row letterS (StartThread a) 1
-    ∷ row letterE (EndThread a) 1
-    ∷ row letterN (NewSegment a b) 2
-    ∷ row letterK (NewKey a) 1
-    ∷ row letterG (GiveKey a b c) 3
-    ∷ row letterT (TakeKey a b c) 3
-    ∷ row letterL (AddLock a b c) 3
-    ∷ row letterD (DropLock a b) 2
-    ∷ row letterC (CallSegment a b) 2
-    ∷ row letterR (ReturnCall a) 1
-    ∷ row letterA (Access a b c) 3
+    row letters.U request.NewUser 0
+    ∷ row letters.S (request.StartThread a) 1
+    ∷ row letters.E (request.EndThread a) 1
+    ∷ row letters.N (request.NewSegment a b) 2
+    ∷ row letters.K (request.NewKey a) 1
+    ∷ row letters.G (request.GiveKey a b c) 3
+    ∷ row letters.T (request.TakeKey a b c) 3
+    ∷ row letters.L (request.AddLock a b c) 3
+    ∷ row letters.D (request.DropLock a b) 2
+    ∷ row letters.C (request.CallSegment a b) 2
+    ∷ row letters.R (request.ReturnCall a) 1
+    ∷ row letters.A (request.Access a b c) 3
     ∷ []
 
 -- unnamed fields: 'those not named are 0', all but the first k
@@ -97,7 +60,7 @@ unnamedZero k a b c = (leb 1 k || eqb a 0) && (leb 2 k || eqb b 0) && (leb 3 k |
 
 -- only L names a text, here of n bytes
 abbrev pub textNamed : ℕ → ℕ → Bool
-textNamed letter n = eqb letter letterL || eqb n 0
+textNamed letter n = eqb letter letters.L || eqb n 0
 
 -- 18 for 'an unknown letter, an unnamed field not 0 or a text outside L', else the letter's request
 abbrev pub decodedIn : List Row → ℕ → ℕ → ℕ → ℕ → ℕ → Decoded
@@ -120,7 +83,7 @@ isWellFormed Corrupt = false
 
 -- 'Only L has text, 1 to 96 bytes.'
 abbrev pub textFits : ℕ → ℕ → Bool
-textFits letter n = cond (eqb letter letterL) (leb 1 n && leb n mostText) (eqb n 0)
+textFits letter n = cond (eqb letter letters.L) (leb 1 n && leb n mostText) (eqb n 0)
 
 -- a call that a record can hold: a well formed one, whose text has the right length
 unfoldable pub recordFits : ℕ → ℕ → ℕ → ℕ → ℕ → Bool

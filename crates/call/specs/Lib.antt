@@ -1,3 +1,4 @@
+pub mod Letters
 pub mod Calls
 pub mod Requests
 pub mod Numbers

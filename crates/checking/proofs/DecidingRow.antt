@@ -1,5 +1,5 @@
--- The row that decides is the model's: its lock is that of the first product that opens among the deny locks', else among the grant locks'.
---
+-- The row that decides is the model's: its lock is that of the first product that opens among the deny locks', else
+-- among the grant locks'.
 use mathlib.Core.Path.{_≡_, refl, sym, ap, subst, _∙_}
 use mathlib.Core.Bool.{Bool, true, false, _&&_, not, cond}
 use mathlib.Core.List.{List, [], _∷_}

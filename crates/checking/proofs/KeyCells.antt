@@ -1,5 +1,5 @@
--- The codes that the check compares stand for the keys of the thread's key set: a code of a list tells its key from every other, no list has a U or
--- R key, and a row has a key exactly where a cell has its code.
+-- The codes that the check compares stand for the keys of the thread's key set: a code of a list tells its key from
+-- every other, no list has a U or R key, and a row has a key exactly where a cell has its code.
 use mathlib.Core.Path.{_≡_, refl, sym, ap, ap₂, _∙_}
 use mathlib.Core.Bool.{Bool, true, false, _&&_, _||_, not, cond}
 use mathlib.Core.List.{List, [], _∷_}

@@ -1,4 +1,5 @@
--- Document 01, 'Operations and the check', on a thread's table and the table of a segment's product rows: what the check answers.
+-- Document 01, 'Operations and the check', on a thread's table and the table of a segment's product rows: what the
+-- check answers.
 use mathlib.Core.Bool.{Bool, cond}
 use mathlib.Core.List.{map}
 use mathlib.Core.Option.{Option}
@@ -26,7 +27,8 @@ keysOf t = keysAt t (depthOf t)
 abbrev pub firstOpening : (ℕ → ℕ → Bool) → Table → Table → ℕ → Option LockProduct
 firstOpening stands t w n = first (opensFor stands n (keysOf t)) (map productIn (usedRows w))
 
--- 'If a deny lock opens, the lowest one's number goes with refusal 14. Otherwise the lowest opening grant lock is the answer, and 15 if none opens.'
+-- 'If a deny lock opens, the lowest one's number goes with refusal 14. Otherwise the lowest opening grant lock is the
+-- answer, and 15 if none opens.'
 abbrev pub decide : Option LockProduct → Option LockProduct → Checked
 decide d g = cond (isSome d) (Denied (lockOf d)) (cond (isSome g) (Granted (lockOf g)) NotGranted)
 

@@ -1,5 +1,5 @@
--- The reader of a number and the spelling of one undo each other. Read digit by digit, a number is ten times what was read and the next
--- digit; spelt, it is what is spelt of its tenth part and the last digit.
+-- The reader of a number and the spelling of one undo each other. Read digit by digit, a number is ten times what was
+-- read and the next digit; spelt, it is what is spelt of its tenth part and the last digit.
 use mathlib.Core.Path.{_≡_, refl, ap, sym, _∙_}
 use mathlib.Core.Bool.{Bool, true, false, not, cond, _&&_}
 use mathlib.Core.List.{List, [], _∷_, _++_, append-assoc}

@@ -1,5 +1,5 @@
--- A text is malformed exactly where it is in the grammar as no formula, and it is in the grammar as one formula at most: the reader, which
--- is a function, answers each.
+-- A text is malformed exactly where it is in the grammar as no formula, and it is in the grammar as one formula at
+-- most: the reader, which is a function, answers each.
 use mathlib.Core.Path.{_≡_, refl, sym, _∙_}
 use mathlib.Core.Bool.{false}
 use Rattle.formula.specs.Tree.{ors, Tree}

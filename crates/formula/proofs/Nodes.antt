@@ -1,6 +1,6 @@
--- The products of a node: for which valuations they open, that none is contradictory, that each is in order, and that their atoms are the
--- tree's. Each is an induction on the tree over the law for AND and OR. And a node's list, or none, is made of its parts' lists.
---
+-- The products of a node: for which valuations they open, that none is contradictory, that each is in order, and that
+-- their atoms are the tree's. Each is an induction on the tree over the law for AND and OR. And a node's list, or none,
+-- is made of its parts' lists.
 use mathlib.Core.Path.{_≡_, refl, sym, _∙_}
 use mathlib.Core.Bool.{Bool, true, false, not, cond, _&&_, _||_, and-true, or-false, Bool·not-not}
 use mathlib.Core.List.{[], _∷_, _++_}

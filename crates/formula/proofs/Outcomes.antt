@@ -1,5 +1,5 @@
--- How the outcome of a text comes about: the text is in the grammar as some formula, whose list is judged, or as none, and then it is
--- malformed. Each of the theorems reads this off one way and the other.
+-- How the outcome of a text comes about: the text is in the grammar as some formula, whose list is judged, or as none,
+-- and then it is malformed. Each of the theorems reads this off one way and the other.
 use mathlib.Core.Path.{_≡_, refl, sym, ap, _∙_}
 use mathlib.Core.Bool.{Bool, true, false, cond}
 use mathlib.Core.List.{List, [], _∷_}

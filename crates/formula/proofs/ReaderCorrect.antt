@@ -1,6 +1,6 @@
--- The reader is right. Sound: a tree that it answers is spelt in front of the text, is no deeper than allowed and has known atoms alone.
--- Complete: a tree that is spelt in front of a text is read there, at any fuel that its length asks for; of a row of ANDs or ORs the reader
--- comes to the place after it with the row read so far.
+-- The reader is right. Sound: a tree that it answers is spelt in front of the text, is no deeper than allowed and has
+-- known atoms alone. Complete: a tree that is spelt in front of a text is read there, at any fuel that its length asks
+-- for; of a row of ANDs or ORs the reader comes to the place after it with the row read so far.
 use mathlib.Core.Path.{_≡_, refl, ap, sym, _∙_}
 use mathlib.Core.Bool.{Bool, true, false, cond}
 use mathlib.Core.List.{List, [], _∷_, _++_, append-assoc, append-nil}

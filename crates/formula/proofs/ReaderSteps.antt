@@ -1,5 +1,5 @@
--- The steps of the readers in code: what a reader promises follows from what its callees promise, a law for each way through a reader.
---
+-- The steps of the readers in code: what a reader promises follows from what its callees promise, a law for each way
+-- through a reader.
 use mathlib.Core.Path.{_≡_, refl, ap}
 use mathlib.Core.Bool.{Bool, true, false, not, cond}
 use mathlib.Core.List.{List, [], _∷_}

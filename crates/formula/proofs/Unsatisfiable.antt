@@ -1,5 +1,5 @@
--- A text is unsatisfiable exactly where it is in the grammar, every node fits and no valuation makes its formula true: then its list is
--- empty, since each product of a list opens for some valuation.
+-- A text is unsatisfiable exactly where it is in the grammar, every node fits and no valuation makes its formula true:
+-- then its list is empty, since each product of a list opens for some valuation.
 use mathlib.Core.Path.{_≡_, _∙_}
 use Prim.Native.Nat.{ℕ}
 use native.Mathlib.Omega.{arith}

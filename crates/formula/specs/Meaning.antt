@@ -1,5 +1,5 @@
--- What a text means: whether its formula is true of a key set. The reader by which the formula is found need not be believed:
--- `HoldsSpelt` (Theorems/Opening) says that it is the formula which the text spells.
+-- What a text means: whether its formula is true of a key set. The reader by which the formula is found need not be
+-- believed: `HoldsSpelt` (Theorems/Opening) says that it is the formula which the text spells.
 use mathlib.Core.Bool.{Bool, true, false}
 use mathlib.Core.Option.{Option, none, some}
 use Rattle.product.specs.Atom.{Atom}

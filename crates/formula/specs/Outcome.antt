@@ -1,5 +1,4 @@
 -- What compiling a formula text answers: its products, or a refusal. Document 01, 'Lock text' and refusals 11 to 13.
---
 use mathlib.Core.Bool.{false, cond}
 use mathlib.Core.List.{List, [], _∷_, map}
 use mathlib.Core.Option.{Option, none, some}

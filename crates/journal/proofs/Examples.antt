@@ -1,4 +1,5 @@
--- Short files are computed. The long ones are not written out: their length is counted by induction, and the theorems on files do the rest.
+-- Short files are computed. The long ones are not written out: their length is counted by induction, and the theorems
+-- on files do the rest.
 use Prim.Native.Nat.{ℕ, zero, suc, _+_, _*_, _<_, _≤_}
 use mathlib.Core.Path.{_≡_, refl, ap, subst, _∙_}
 use mathlib.Core.Bool.{true}

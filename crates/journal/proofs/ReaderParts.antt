@@ -1,7 +1,7 @@
--- What a reader holds, and the calls of `record_at` and `check` on it. The struct is Copy: what it owns is had twice, one copy is kept whole, and of the
--- other what src owns goes to the callee, beside the lifetime's token, which comes back.
--- And a reader in a local that is lent by `&mut` for a call: the call's lifetime ν ∷ κ lies within the file's κ, of whose token one half makes that
--- lifetime's and the other is the callee's for 'a.
+-- What a reader holds, and the calls of `record_at` and `check` on it. The struct is Copy: what it owns is had twice,
+-- one copy is kept whole, and of the other what src owns goes to the callee, beside the lifetime's token, which comes
+-- back. And a reader in a local that is lent by `&mut` for a call: the call's lifetime ν ∷ κ lies within the file's κ,
+-- of whose token one half makes that lifetime's and the other is the callee's for 'a.
 use mathlib.Core.Path.{_≡_, refl}
 use Prim.Native.Nat.{ℕ, _<_, _^_}
 use mathlib.Core.List.{List, [], _∷_}

@@ -1,5 +1,5 @@
--- The buffer is always a file and what follows it: `fileBytes ps ++ q`. One append stores the count inside the head and the record over the front of q;
--- by induction so does a list of them.
+-- The buffer is always a file and what follows it: `fileBytes ps ++ q`. One append stores the count inside the head and
+-- the record over the front of q; by induction so does a list of them.
 use Prim.Native.Nat.{ℕ, _+_, _-_, _≤_}
 use mathlib.Core.Path.{_≡_, refl, sym, ap, subst, subst₂, _∙_}
 use mathlib.Core.Bool.{true, false, not, _||_}

@@ -1,5 +1,5 @@
--- The size of the record at a cursor, from what the tests and calls of `record_size` tell, and what it says of the record; the cases of `foundAt`; and a
--- turn of the loop over a file's records.
+-- The size of the record at a cursor, from what the tests and calls of `record_size` tell, and what it says of the
+-- record; the cases of `foundAt`; and a turn of the loop over a file's records.
 use Prim.Native.Nat.{ℕ, zero, suc, _+_, _-_, _<_, _≤_}
 use mathlib.Core.Path.{_≡_, refl, sym, _∙_}
 use mathlib.Core.Bool.{Bool, true, false, cond, not}

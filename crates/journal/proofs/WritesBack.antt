@@ -1,4 +1,5 @@
--- The bytes of a word, of a record and of all records that were read are those that stood there; the head's seven bytes too.
+-- The bytes of a word, of a record and of all records that were read are those that stood there; the head's seven bytes
+-- too.
 use Prim.Native.Nat.{ℕ, zero, suc, _+_, _<_, _≤_}
 use mathlib.Core.Path.{_≡_, refl, sym, ap, subst, _∙_}
 use mathlib.Core.Bool.{true}

@@ -1,5 +1,5 @@
--- Appending one record to a file (document 01: desk file) in a buffer (document 01: lent buffer): the answer, and every byte of the buffer afterwards.
--- Document 01's section 'Desk file'.
+-- Appending one record to a file (document 01: desk file) in a buffer (document 01: lent buffer): the answer, and every
+-- byte of the buffer afterwards. Document 01's section 'Desk file'.
 use mathlib.Core.Bool.{not, cond, _||_}
 use mathlib.Core.List.{List, [], _∷_, _++_}
 use mathlib.Core.Option.{Option, none, some}
@@ -39,7 +39,8 @@ answer n (some f) = Declined f
 unfoldable pub appendAnswer : List ℕ → ℕ → Call → Appended
 appendAnswer d len r = answer (lengthWith len r) (firstRefusal (appendConditions d len r))
 
--- 'the count rises by 1, the record follows the file, no other byte changes': bytes are set at the count's place, and from the file's end on
+-- 'the count rises by 1, the record follows the file, no other byte changes': bytes are set at the count's place, and
+-- from the file's end on
 unfoldable pub withRecord : List ℕ → ℕ → Call → List ℕ
 withRecord d len r = sets (sets d countAt (wordBytes (word d countAt + 1))) len (recordBytes r)
 

@@ -1,5 +1,5 @@
--- The journal (document 01: desk file), as it is written: the bytes of a record, and of a file with a list of records. A record is a call. Document 01's
--- section 'Desk file'.
+-- The journal (document 01: desk file), as it is written: the bytes of a record, and of a file with a list of records.
+-- A record is a call. Document 01's section 'Desk file'.
 use mathlib.Core.Path.{_≡_}
 use mathlib.Core.Bool.{Bool, true}
 use mathlib.Core.List.{List, [], _∷_, _++_}
@@ -93,7 +93,8 @@ mostBytes = 65535
 abbrev pub isFit : Call → Bool
 isFit r = recordFits (r .letter) (r .a) (r .b) (r .c) (length (r .text))
 
--- a call that a file can hold: it is fit and, as every call that code can make, has a letter of 8 bits, fields of 16 and a text of bytes
+-- a call that a file can hold: it is fit and, as every call that code can make, has a letter of 8 bits, fields of 16
+-- and a text of bytes
 pub record Recordable (r : Call) : Type 0 where
   pub fit : isFit r ≡ true
   pub letter-byte : r .letter < 256

@@ -1,5 +1,5 @@
--- The journal (document 01: desk file), as it is read: a file is a list of bytes, and a cursor is a place in it. What stands at a cursor, the records of a
--- file, and the first refusal of a file. Document 01's section 'Desk file'.
+-- The journal (document 01: desk file), as it is read: a file is a list of bytes, and a cursor is a place in it. What
+-- stands at a cursor, the records of a file, and the first refusal of a file. Document 01's section 'Desk file'.
 use mathlib.Core.Bool.{Bool, cond, not, _&&_}
 use mathlib.Core.List.{List, [], _∷_}
 use mathlib.Core.Option.{Option, none, some}
@@ -93,8 +93,8 @@ marked s =
 abbrev pub current : List ℕ → Bool
 current s = eqb (word s versionAt) fileVersion
 
--- 'The order is 16; 18 if under 7 bytes; 17; then 18 for length over the limit, unknown letter, an unnamed field not 0, text length wrong, records
--- cut short, bytes left over.'
+-- 'The order is 16; 18 if under 7 bytes; 17; then 18 for length over the limit, unknown letter, an unnamed field not 0,
+-- text length wrong, records cut short, bytes left over.'
 abbrev pub fileConditions : List ℕ → List (Condition Refusal)
 fileConditions s =
     when (not (marked s)) NotJournal

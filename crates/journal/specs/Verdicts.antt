@@ -1,5 +1,5 @@
--- Document 01's numbers and values of the journal's answers: the verdict on a file, what stands at a cursor, and the answer to an append. The number is
--- that of the refusal, and 0 where nothing is refused.
+-- Document 01's numbers and values of the journal's answers: the verdict on a file, what stands at a cursor, and the
+-- answer to an append. The number is that of the refusal, and 0 where nothing is refused.
 use mathlib.Core.List.{List, [], _∷_}
 use Prim.Native.Nat.{ℕ}
 use Rattle.journal.specs.declared.file.Refusal.{Refusal}

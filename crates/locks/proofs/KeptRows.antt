@@ -1,5 +1,5 @@
--- Closing up in place: rows that stay are stored from row 0 on, never beyond the row that is read, so that every row still to come is as it was.
---
+-- Closing up in place: rows that stay are stored from row 0 on, never beyond the row that is read, so that every row
+-- still to come is as it was.
 use mathlib.Core.Path.{_≡_, refl, sym, ap, ap₂, _∙_}
 use mathlib.Core.Bool.{Bool, true, false, not}
 use mathlib.Core.List.{List, [], _∷_, _++_, append-nil}

@@ -1,4 +1,5 @@
--- The row of a compiled product: the literal of each of the compiler's numbers has its cell, and a product is stored as its row.
+-- The row of a compiled product: the literal of each of the compiler's numbers has its cell, and a product is stored as
+-- its row.
 use mathlib.Core.Path.{_≡_, refl, sym, ap, ap₂, _∙_}
 use mathlib.Core.List.{[], _∷_, _++_, map, append-assoc}
 use Prim.Native.Nat.{ℕ, zero, suc, _+_, _-_, _*_, _≤_, _<_}

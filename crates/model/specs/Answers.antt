@@ -1,5 +1,5 @@
--- Document 01's table of refusals: the number and the second number of each, and whether an answer is one. Refusals 16 and 17 are a file's, and not
--- the guard's.
+-- Document 01's table of refusals: the number and the second number of each, and whether an answer is one. Refusals 16
+-- and 17 are a file's, and not the guard's.
 use mathlib.Core.Bool.{Bool, true, false}
 use Prim.Native.Nat.{ℕ}
 use Rattle.model.specs.declared.answer.Refusal.{Refusal}

@@ -1,13 +1,14 @@
--- The state (document 01: desk) in the arrays that the host lends: their layout, and the state that they hold, whatever numbers
--- are in them.
+-- The state (document 01: desk) in the arrays that the host lends: their layout, and the state that they hold, whatever
+-- numbers are in them.
 --
 -- registry: [u32; 8]               users, threads, segments, defined keys and locks handed out
 -- makers: [u16; 1024]              each defined key's maker
--- segments: [[[u16; 8]; 2]; 64]    row 0: owner, kind; row 1: the key list, first its own S key, which is always its number
--- locks: [[[u32; 8]; 8]; 64]       a segment's products, a row each, to the first row that begins with 0: the lock, the number of literals and the
---                                  operations in one cell, then the literals
--- threads: [[[u16; 8]; 17]; 64]    (document 01: runs) row 0: number, user, number of frames (open calls), and not 0 where it is live; rows 1 to 16: the frames, the oldest first, each
---                                  a copy of its segment's key list, whose first cell is the segment
+-- segments: [[[u16; 8]; 2]; 64]    row 0: owner, kind; row 1: the key list, first its own S key, always its number
+-- locks: [[[u32; 8]; 8]; 64]       a segment's products, a row each, to the first row that begins with 0: the lock, the
+--                                  number of literals and the operations in one cell, then the literals
+-- threads: [[[u16; 8]; 17]; 64]    (document 01: runs) row 0: number, user, number of frames (open calls), and not 0
+--                                  where it is live; rows 1 to 16: the frames, the oldest first, each a copy of its
+--                                  segment's key list, whose first cell is the segment
 use mathlib.Core.Path.{_≡_}
 use mathlib.Core.Bool.{Bool, not, cond}
 use mathlib.Core.List.{List, [], _∷_, _++_, map}
@@ -133,9 +134,11 @@ keysIn w = map keyIn (keep hasKey w)
 abbrev pub keyRow : List ℕ → Row
 keyRow xs = xs ++ replicate (mostListed - length xs) noKey
 
--- ---- literals: S n and D n have the code that they have in a key list, so that the check compares cells, and 32,768 more where they are barred, which
--- no code that a call stores in a list reaches; U n is 131,072 and R n is 262,144 more than n, and 65,536 more than that where they are barred
+-- ---- literals
 
+-- S n and D n have the code that they have in a key list, so that the check compares cells, and 32,768 more where they
+-- are barred, which no code that a call stores in a list reaches; U n is 131,072 and R n is 262,144 more than n, and
+-- 65,536 more than that where they are barred
 abbrev pub keyCell : Key → ℕ
 keyCell (User n) = 131072 + n
 keyCell (ThreadKey n) = 262144 + n

@@ -10,7 +10,7 @@ use Rattle.product.specs.Sum.{Sum}
 use Rattle.formula.specs.Outcome.{sumIn}
 use Rattle.formula.specs.Compiler.{Compiler}
 use Rattle.call.specs.declared.request.Request.{Request}
-use Rattle.call.specs.declared.request.Request.the-variants.{NewUser, StartThread, EndThread, NewSegment, NewKey, GiveKey, TakeKey, AddLock, DropLock, CallSegment, ReturnCall, Access}
+use Rattle.call.specs.declared.request.Request.the-variants as request
 use Rattle.base.specs.Lists.{keep, tailOf}
 use Rattle.model.specs.Operations.{execute, grants}
 use Rattle.model.specs.Threads.{Frame, Thread, sameKey}
@@ -90,39 +90,39 @@ dropProducts n g = withProducts g (keep (λ r. not (isOfLock n r)) (g .products)
 
 module _ (compile : Compiler) where
   unfoldable pub update : State → Request → List ℕ → State
-  update d NewUser text = withUsers d (suc (d .users))
-  update d (StartThread a) text =
+  update d request.NewUser text = withUsers d (suc (d .users))
+  update d (request.StartThread a) text =
       let n = d .threadNumbers in
       let new = taken n (record { user = a; frames = [] }) in
       withThreadNumbers (withPlaces d (set (d .places) (placeFor n isFree (d .places)) new)) (suc n)
-  update d (EndThread a) text = atPlace d a (λ p. free)
-  update d (NewSegment a b) text =
+  update d (request.EndThread a) text = atPlace d a (λ p. free)
+  update d (request.NewSegment a b) text =
       let s = length (d .segments) in
       withSegments d (d .segments ++ record { owner = a; kind = b; keys = SegmentKey s ∷ []; products = [] } ∷ [])
-  update d (NewKey a) text = withMakers d (d .makers ++ a ∷ [])
-  update d (GiveKey a b c) text = onSegment d b (giveKey c)
-  update d (TakeKey a b c) text = onSegment d b (takeKey c)
-  update d (AddLock a b c) text =
+  update d (request.NewKey a) text = withMakers d (d .makers ++ a ∷ [])
+  update d (request.GiveKey a b c) text = onSegment d b (giveKey c)
+  update d (request.TakeKey a b c) text = onSegment d b (takeKey c)
+  update d (request.AddLock a b c) text =
       let n = d .lockNumbers in
       let ps = sumIn (compile (issued d) text) in
       withLockNumbers (onSegment d b (addProducts n c ps)) (suc n)
-  update d (DropLock a b) text = onSegment d (homeOf d b) (dropProducts b)
-  update d (CallSegment a b) text = atPlace d a (onThread (pushFrame b (segmentAt d b .keys)))
-  update d (ReturnCall a) text = atPlace d a (onThread popFrame)
-  update d (Access a b c) text = d
+  update d (request.DropLock a b) text = onSegment d (homeOf d b) (dropProducts b)
+  update d (request.CallSegment a b) text = atPlace d a (onThread (pushFrame b (segmentAt d b .keys)))
+  update d (request.ReturnCall a) text = atPlace d a (onThread popFrame)
+  update d (request.Access a b c) text = d
 
   -- ---- what an accepted call answers
 
   unfoldable pub answer : State → Request → List ℕ → ℕ
-  answer d NewUser text = d .users
-  answer d (StartThread a) text = d .threadNumbers
-  answer d (EndThread a) text = length (threadAt d a .frames)
-  answer d (NewSegment a b) text = length (d .segments)
-  answer d (NewKey a) text = length (d .makers)
-  answer d (GiveKey a b c) text = length (giveKey c (segmentAt d b) .keys)
-  answer d (TakeKey a b c) text = length (takeKey c (segmentAt d b) .keys)
-  answer d (AddLock a b c) text = d .lockNumbers
-  answer d (DropLock a b) text = length (keep (isOfLock b) (segmentAt d (homeOf d b) .products))
-  answer d (CallSegment a b) text = lockOf (opening d grants a b execute)
-  answer d (ReturnCall a) text = newest (threadAt d a .frames)
-  answer d (Access a b c) text = lockOf (opening d grants a b c)
+  answer d request.NewUser text = d .users
+  answer d (request.StartThread a) text = d .threadNumbers
+  answer d (request.EndThread a) text = length (threadAt d a .frames)
+  answer d (request.NewSegment a b) text = length (d .segments)
+  answer d (request.NewKey a) text = length (d .makers)
+  answer d (request.GiveKey a b c) text = length (giveKey c (segmentAt d b) .keys)
+  answer d (request.TakeKey a b c) text = length (takeKey c (segmentAt d b) .keys)
+  answer d (request.AddLock a b c) text = d .lockNumbers
+  answer d (request.DropLock a b) text = length (keep (isOfLock b) (segmentAt d (homeOf d b) .products))
+  answer d (request.CallSegment a b) text = lockOf (opening d grants a b execute)
+  answer d (request.ReturnCall a) text = newest (threadAt d a .frames)
+  answer d (request.Access a b c) text = lockOf (opening d grants a b c)

@@ -1,5 +1,5 @@
--- Document 01, 'The history', line by line: what is read from a list of calls, each with its answer or refusal. Nothing of the state is fed to it.
---
+-- Document 01, 'The history', line by line: what is read from a list of calls, each with its answer or refusal. Nothing
+-- of the state is fed to it.
 use mathlib.Core.Bool.{Bool, true, false, _&&_, not, cond}
 use mathlib.Core.List.{List, [], _∷_, _++_}
 use mathlib.Core.Option.{none}
@@ -8,10 +8,11 @@ use lib.Dec.{eqb}
 use Rattle.product.specs.declared.literal.Key.{Key}
 use Rattle.product.specs.declared.literal.Key.the-variants.{Segment as SegmentKey, Defined}
 use Rattle.call.specs.declared.request.Request.{Request}
-use Rattle.call.specs.declared.request.Request.the-variants.{NewUser, StartThread, EndThread, NewSegment, NewKey, GiveKey, TakeKey, AddLock, DropLock, CallSegment, ReturnCall, Access}
+use Rattle.call.specs.declared.request.Request.the-variants as request
 use Rattle.call.specs.declared.request.Decoded.{Decoded}
 use Rattle.call.specs.declared.request.Decoded.the-variants.{WellFormed, Corrupt as NotWellFormed}
-use Rattle.call.specs.Calls.{Call, decoded, letterU, letterS, letterN, letterK}
+use Rattle.call.specs.Calls.{Call, decoded}
+use Rattle.call.specs.Letters as letters
 use Rattle.model.specs.declared.answer.Answer.{Answer}
 use Rattle.model.specs.declared.answer.Answer.the-variants.{Accepted, Refused}
 use Rattle.model.specs.Answers.{isAccepted}
@@ -63,23 +64,23 @@ listOf h s = orDefault [] (λ e. e .keys) (h .segments s)
 
 -- what an accepted call with answer n writes: 'U, K and A change nothing in it. The others, when accepted:'
 unfoldable pub note : History → Request → List ℕ → ℕ → History
-note h NewUser text n = h
-note h (NewKey a) text n = h
-note h (Access a b c) text n = h
+note h request.NewUser text n = h
+note h (request.NewKey a) text n = h
+note h (request.Access a b c) text n = h
 -- 'S writes the answered run as live, with user a and no open calls. E strikes run a and its open calls.'
-note h (StartThread a) text n = withThreads h (put (h .threads) n (record { user = a; frames = [] }))
-note h (EndThread a) text n = withThreads h (remove (h .threads) a)
+note h (request.StartThread a) text n = withThreads h (put (h .threads) n (record { user = a; frames = [] }))
+note h (request.EndThread a) text n = withThreads h (remove (h .threads) a)
 -- 'N writes the answered segment as handed out, with owner a, kind b and a list of its own S key.'
-note h (NewSegment a b) text n = withEntries h (put (h .segments) n (record { owner = a; kind = b; keys = SegmentKey n ∷ [] }))
+note h (request.NewSegment a b) text n = withEntries h (put (h .segments) n (record { owner = a; kind = b; keys = SegmentKey n ∷ [] }))
 -- 'G adds D key c to segment b's list. T strikes it there.'
-note h (GiveKey a b c) text n = withEntries h (adjust (h .segments) b (onKeys (λ keys. keys ++ Defined c ∷ [])))
-note h (TakeKey a b c) text n = withEntries h (adjust (h .segments) b (onKeys (keep (λ k. not (sameKey (Defined c) k)))))
+note h (request.GiveKey a b c) text n = withEntries h (adjust (h .segments) b (onKeys (λ keys. keys ++ Defined c ∷ [])))
+note h (request.TakeKey a b c) text n = withEntries h (adjust (h .segments) b (onKeys (keep (λ k. not (sameKey (Defined c) k)))))
 -- 'L writes the answered lock as standing, with segment b, operations c and the text's formula. D strikes lock b.'
-note h (AddLock a b c) text n = withLocks h (h .locks ++ record { number = n; segment = b; operations = c; text = text } ∷ [])
-note h (DropLock a b) text n = withLocks h (keep (λ l. not (eqb (l .number) b)) (h .locks))
+note h (request.AddLock a b c) text n = withLocks h (h .locks ++ record { number = n; segment = b; operations = c; text = text } ∷ [])
+note h (request.DropLock a b) text n = withLocks h (keep (λ l. not (eqb (l .number) b)) (h .locks))
 -- 'C writes, as run a's newest open call, segment b with the list that b then has. R strikes run a's newest open call.'
-note h (CallSegment a b) text n = withThreads h (adjust (h .threads) a (onFrames (λ frames. record { segment = b; keys = listOf h b } ∷ frames)))
-note h (ReturnCall a) text n = withThreads h (adjust (h .threads) a (onFrames tailOf))
+note h (request.CallSegment a b) text n = withThreads h (adjust (h .threads) a (onFrames (λ frames. record { segment = b; keys = listOf h b } ∷ frames)))
+note h (request.ReturnCall a) text n = withThreads h (adjust (h .threads) a (onFrames tailOf))
 
 -- 'Refused calls .. change nothing in it.'
 abbrev pub noteAnswer : History → Decoded → List ℕ → Answer → History
@@ -109,18 +110,18 @@ history es = historyFrom emptyHistory es
 
 -- a letter that hands out numbers: U, S, N, K, L
 abbrev pub handsOut : Request → Bool
-handsOut NewUser = true
-handsOut (StartThread a) = true
-handsOut (EndThread a) = false
-handsOut (NewSegment a b) = true
-handsOut (NewKey a) = true
-handsOut (GiveKey a b c) = false
-handsOut (TakeKey a b c) = false
-handsOut (AddLock a b c) = true
-handsOut (DropLock a b) = false
-handsOut (CallSegment a b) = false
-handsOut (ReturnCall a) = false
-handsOut (Access a b c) = false
+handsOut request.NewUser = true
+handsOut (request.StartThread a) = true
+handsOut (request.EndThread a) = false
+handsOut (request.NewSegment a b) = true
+handsOut (request.NewKey a) = true
+handsOut (request.GiveKey a b c) = false
+handsOut (request.TakeKey a b c) = false
+handsOut (request.AddLock a b c) = true
+handsOut (request.DropLock a b) = false
+handsOut (request.CallSegment a b) = false
+handsOut (request.ReturnCall a) = false
+handsOut (request.Access a b c) = false
 
 -- 'the count of that letter's accepted calls'
 abbrev pub counts : ℕ → Event → Bool
@@ -136,8 +137,8 @@ acceptedOf letter es = countFrom letter 0 es
 -- field a of each accepted K, in order
 abbrev pub makersOf : List Event → List ℕ
 makersOf [] = []
-makersOf (e ∷ es) = let rest = makersOf es in cond (counts letterK e) (e .call .a ∷ rest) rest
+makersOf (e ∷ es) = let rest = makersOf es in cond (counts letters.K e) (e .call .a ∷ rest) rest
 
 -- the keys that the accepted U, S, N and K handed out
 abbrev pub issuedBy : List Event → Issued
-issuedBy es = record { users = acceptedOf letterU es; threads = acceptedOf letterS es; segments = acceptedOf letterN es; defined = acceptedOf letterK es }
+issuedBy es = record { users = acceptedOf letters.U es; threads = acceptedOf letters.S es; segments = acceptedOf letters.N es; defined = acceptedOf letters.K es }

@@ -59,9 +59,9 @@ hasRoom (calls a b) t = ltb (length (t .frames)) 16
 hasRoom (accesses a b c) t = true
 
 module _ (holds : Meaning) where
-  -- 'A standing lock stands for it when the lock has that segment and its operations include that number', as a deny lock or as a grant lock.
-  -- 'It opens when its formula holds for the run's key set.' What a text holds for is the formula that it spells: `HoldsSpelt` and `OpeningLaw` of
-  -- crates/formula, `formula` of `Mirror`.
+  -- 'A standing lock stands for it when the lock has that segment and its operations include that number', as a deny
+  -- lock or as a grant lock. 'It opens when its formula holds for the run's key set.' What a text holds for is the
+  -- formula that it spells: `HoldsSpelt` and `OpeningLaw` of crates/formula, `formula` of `Mirror`.
   abbrev pub lockOpens : (ℕ → ℕ → Bool) → Operation → Thread → Lock → Bool
   lockOpens stands o t l =
       eqb (l .segment) (targetOf o) && (stands (l .operations) (operationOf o) && holds (keySet (threadOf o) t) (l .text))
@@ -78,8 +78,8 @@ pub record Granted (holds : Meaning) (h : History) (o : Operation) (t : Thread) 
   pub opens : lockOpens holds grants o t lock ≡ true
   pub room : hasRoom o t ≡ true
 
--- a check's answer: 'If a deny lock opens, the lowest one's number goes with refusal 14. Otherwise the lowest opening grant lock is the answer,
--- and 15 if none opens.' Then comes 10.
+-- a check's answer: 'If a deny lock opens, the lowest one's number goes with refusal 14. Otherwise the lowest opening
+-- grant lock is the answer, and 15 if none opens.' Then comes 10.
 abbrev pub verdict : Option Lock → Option Lock → Bool → Answer
 verdict (some l) g room = Refused (Denied (l .number))
 verdict none none room = Refused NotGranted

@@ -23,8 +23,8 @@ abbrev pub locksOn : List Event → ℕ → List Lock
 locksOn es s = keep (standsOn s) (history es .locks)
 
 module _ (compile : Compiler) where
-  -- A text's products, of the text alone: which keys were handed out when an accepted text was compiled makes no difference (`everywhere` of the
-  -- compiler's laws).
+  -- A text's products, of the text alone: which keys were handed out when an accepted text was compiled makes no
+  -- difference (`everywhere` of the compiler's laws).
   abbrev pub productsOf : List ℕ → Sum
   productsOf text = sumIn (compile everything text)
 

@@ -13,5 +13,5 @@ pub mod History
 pub mod HistoryLocks
 pub mod HistoryCheck
 pub mod Replay
-pub mod Letters
+pub mod Notation
 pub mod Theorems

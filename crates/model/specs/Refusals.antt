@@ -1,5 +1,5 @@
--- Document 01, 'Operations and the check' and the table of refusals: the check, and for each of the twelve calls the list of its refusals,
--- in the table's order. The compiler of formula texts is a parameter.
+-- Document 01, 'Operations and the check' and the table of refusals: the check, and for each of the twelve calls the
+-- list of its refusals, in the table's order. The compiler of formula texts is a parameter.
 use mathlib.Core.Bool.{Bool, true, false, _&&_, _||_, not}
 use mathlib.Core.List.{List, [], _∷_}
 use mathlib.Core.Option.{Option}
@@ -11,7 +11,7 @@ use Rattle.product.specs.Product.{opens}
 use Rattle.formula.specs.Outcome.{Outcome, accepted, malformed, tooWide, unsatisfiable, sumIn}
 use Rattle.formula.specs.Compiler.{Compiler}
 use Rattle.call.specs.declared.request.Request.{Request}
-use Rattle.call.specs.declared.request.Request.the-variants.{NewUser, StartThread, EndThread, NewSegment, NewKey, GiveKey, TakeKey, AddLock, DropLock, CallSegment, ReturnCall, Access}
+use Rattle.call.specs.declared.request.Request.the-variants as request
 use Rattle.base.specs.Conditions.{Condition, when}
 use Rattle.model.specs.declared.answer.Refusal.{Refusal}
 use Rattle.model.specs.declared.answer.Refusal.the-variants.{UnknownUser, NoThread, NoSegment, NoKey, NoLock, NotOwner, Unfit, AlreadyPresent, NotPresent, Full, Malformed, TooWide, Unsatisfiable, Denied, NotGranted}
@@ -26,8 +26,8 @@ use Rattle.model.specs.State.{LockProduct, State, isUser, isSegment, isK
 abbrev pub opensFor : (ℕ → ℕ → Bool) → ℕ → KeySet → LockProduct → Bool
 opensFor stands n keys r = stands (r .operations) n && opens keys (r .product)
 
--- The first product that opens for thread a, of the locks on segment b that stand for operation n, as deny locks or as grant locks. It is the
--- lowest such lock's: `answer` of `Granting`, `inOrder` of `Numbering`.
+-- The first product that opens for thread a, of the locks on segment b that stand for operation n, as deny locks or as
+-- grant locks. It is the lowest such lock's: `answer` of `Granting`, `inOrder` of `Numbering`.
 unfoldable pub opening : State → (ℕ → ℕ → Bool) → ℕ → ℕ → ℕ → Option LockProduct
 opening d stands a b n = first (opensFor stands n (keySet a (threadAt d a))) (segmentAt d b .products)
 
@@ -67,26 +67,26 @@ notGranted d a b n = unless (isSome (opening d grants a b n)) NotGranted
 module _ (compile : Compiler) where
   -- 'Checked in that order, 10 last.'
   unfoldable pub conditions : State → Request → List ℕ → List (Condition Refusal)
-  conditions d NewUser text =
+  conditions d request.NewUser text =
       when (passes mostUsers (suc (d .users))) Full
       ∷ []
-  conditions d (StartThread a) text =
+  conditions d (request.StartThread a) text =
       unless (isUser d a) UnknownUser
       ∷ when (passes mostThreads (suc (liveIn (d .places))) || passes mostNumbers (suc (d .threadNumbers))) Full
       ∷ []
-  conditions d (EndThread a) text =
+  conditions d (request.EndThread a) text =
       unless (isLive d a) NoThread
       ∷ []
-  conditions d (NewSegment a b) text =
+  conditions d (request.NewSegment a b) text =
       unless (isUser d a) UnknownUser
       ∷ when (ltb sheet b) Unfit
       ∷ when (passes mostSegments (suc (length (d .segments)))) Full
       ∷ []
-  conditions d (NewKey a) text =
+  conditions d (request.NewKey a) text =
       unless (isUser d a) UnknownUser
       ∷ when (passes mostDefined (suc (length (d .makers)))) Full
       ∷ []
-  conditions d (GiveKey a b c) text =
+  conditions d (request.GiveKey a b c) text =
       unless (isUser d a) UnknownUser
       ∷ unless (isSegment d b) NoSegment
       ∷ unless (isKey d c) NoKey
@@ -94,14 +94,14 @@ module _ (compile : Compiler) where
       ∷ when (isIn (Defined c) (segmentAt d b .keys)) AlreadyPresent
       ∷ when (passes mostListed (suc (length (segmentAt d b .keys)))) Full
       ∷ []
-  conditions d (TakeKey a b c) text =
+  conditions d (request.TakeKey a b c) text =
       unless (isUser d a) UnknownUser
       ∷ unless (isSegment d b) NoSegment
       ∷ unless (isKey d c) NoKey
       ∷ unless (owns d a b) NotOwner
       ∷ unless (isIn (Defined c) (segmentAt d b .keys)) NotPresent
       ∷ []
-  conditions d (AddLock a b c) text =
+  conditions d (request.AddLock a b c) text =
       unless (isUser d a) UnknownUser
       ∷ unless (isSegment d b) NoSegment
       ∷ unless (owns d a b) NotOwner
@@ -111,12 +111,12 @@ module _ (compile : Compiler) where
       ∷ when (isUnsatisfiable (compile (issued d) text)) Unsatisfiable
       ∷ when (passes mostStanding (length (segmentAt d b .products) + length (sumIn (compile (issued d) text))) || passes mostNumbers (suc (d .lockNumbers))) Full
       ∷ []
-  conditions d (DropLock a b) text =
+  conditions d (request.DropLock a b) text =
       unless (isUser d a) UnknownUser
       ∷ unless (isLock d b) NoLock
       ∷ unless (owns d a (homeOf d b)) NotOwner
       ∷ []
-  conditions d (CallSegment a b) text =
+  conditions d (request.CallSegment a b) text =
       unless (isLive d a) NoThread
       ∷ unless (isSegment d b) NoSegment
       ∷ unless (takes (segmentAt d b .kind) execute) Unfit
@@ -124,11 +124,11 @@ module _ (compile : Compiler) where
       ∷ notGranted d a b execute
       ∷ when (passes mostFrames (suc (length (threadAt d a .frames)))) Full
       ∷ []
-  conditions d (ReturnCall a) text =
+  conditions d (request.ReturnCall a) text =
       unless (isLive d a) NoThread
       ∷ when (eqb (length (threadAt d a .frames)) 0) NotPresent
       ∷ []
-  conditions d (Access a b c) text =
+  conditions d (request.Access a b c) text =
       unless (isLive d a) NoThread
       ∷ unless (isSegment d b) NoSegment
       ∷ unless (isAccess c && takes (segmentAt d b .kind) c) Unfit

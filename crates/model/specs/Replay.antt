@@ -1,5 +1,5 @@
--- Lists of calls: each gets what the one before it left, in the arrays and in the model, and each call stands with its answer in a list of
--- events.
+-- Lists of calls: each gets what the one before it left, in the arrays and in the model, and each call stands with its
+-- answer in a list of events.
 use mathlib.Core.List.{List, [], _∷_}
 use Rattle.formula.specs.Compiler.{Compiler}
 use Rattle.call.specs.Calls.{Call}

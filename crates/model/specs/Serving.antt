@@ -1,5 +1,5 @@
--- What the guard's functions promise: the answer and every array afterwards are those of the definitions, whatever numbers are in the arrays, with
--- the compiler that there is.
+-- What the guard's functions promise: the answer and every array afterwards are those of the definitions, whatever
+-- numbers are in the arrays, with the compiler that there is.
 use mathlib.Core.Path.{_≡_}
 use mathlib.Core.List.{List}
 use Prim.Native.Nat.{ℕ}
@@ -25,8 +25,9 @@ served d q text = judgedCells outcomeOf d q text (firstRefusal (conditions outco
 abbrev pub Serves : Cells → Request → List ℕ → Answer → Cells → Type 0
 Serves d q text r d′ = Gives (served d q text) r d′
 
--- A function that is lent some of the arrays: `lent` puts what it is lent over any other arrays, and `changed` puts what it leaves over those. Every
--- array that `changed` does not name is as it was, and what the arrays that are not lent hold makes no difference.
+-- A function that is lent some of the arrays: `lent` puts what it is lent over any other arrays, and `changed` puts
+-- what it leaves over those. Every array that `changed` does not name is as it was, and what the arrays that are not
+-- lent hold makes no difference.
 abbrev pub ServesText : (Cells → Cells) → Request → List ℕ → Answer → (Cells → Cells) → Type 0
 ServesText lent q text r changed = (d : Cells) → Serves (lent d) q text r (changed (lent d))
 

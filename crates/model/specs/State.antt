@@ -1,4 +1,5 @@
--- The protection state (document 01: desk) as short lists and records, and what is read of it. In what follows d is one.
+-- The protection state (document 01: desk) as short lists and records, and what is read of it. In what follows d is
+-- one.
 use mathlib.Core.Bool.{Bool, true, false, not, cond}
 use mathlib.Core.List.{List, []}
 use mathlib.Core.Option.{Option, none, some}
@@ -18,8 +19,8 @@ pub record LockProduct : Type 0 where
   pub operations : ℕ
   pub product : Product
 
--- a segment handed out: its owner and kind, its key list, and the products of its standing locks, in the order of lock numbers and each lock's
--- in its formula's order
+-- a segment handed out: its owner and kind, its key list, and the products of its standing locks, in the order of lock
+-- numbers and each lock's in its formula's order
 pub record Segment : Type 0 where
   pub owner : ℕ
   pub kind : ℕ
@@ -31,7 +32,8 @@ pub data Place : Type 0 where
   free : Place
   taken : ℕ → Thread → Place
 
--- users, thread numbers and lock numbers handed out; each defined key's maker; each segment; the places for live threads
+-- users, thread numbers and lock numbers handed out; each defined key's maker; each segment; the places for live
+-- threads
 pub record State : Type 0 where
   pub users : ℕ
   pub threadNumbers : ℕ
@@ -83,7 +85,8 @@ abbrev pub isThread : ℕ → Place → Bool
 isThread n free = false
 isThread n (taken k t) = eqb n k
 
--- The place that passes the test, for thread n: the one at n % 64 before all others, then the first. No answer depends on which it is.
+-- The place that passes the test, for thread n: the one at n % 64 before all others, then the first. No answer depends
+-- on which it is.
 abbrev pub placeFor : ℕ → (Place → Bool) → List Place → ℕ
 placeFor n p places = cond (p (getD places (n % mostThreads) free)) (n % mostThreads) (indexOf p places)
 

@@ -1,5 +1,5 @@
--- What an accepted call stores in the arrays, and one call on them. Conditions and answers are those of the state that the arrays hold, so
--- that the table of refusals stands once.
+-- What an accepted call stores in the arrays, and one call on them. Conditions and answers are those of the state that
+-- the arrays hold, so that the table of refusals stands once.
 use mathlib.Core.Bool.{not}
 use mathlib.Core.List.{List, [], _∷_, _++_, map}
 use mathlib.Core.Option.{Option, none, some}
@@ -12,7 +12,7 @@ use Rattle.product.specs.Sum.{Sum}
 use Rattle.formula.specs.Outcome.{sumIn}
 use Rattle.formula.specs.Compiler.{Compiler}
 use Rattle.call.specs.declared.request.Request.{Request}
-use Rattle.call.specs.declared.request.Request.the-variants.{NewUser, StartThread, EndThread, NewSegment, NewKey, GiveKey, TakeKey, AddLock, DropLock, CallSegment, ReturnCall, Access}
+use Rattle.call.specs.declared.request.Request.the-variants as request
 use Rattle.call.specs.declared.request.Decoded.{Decoded}
 use Rattle.call.specs.declared.request.Decoded.the-variants.{WellFormed, Corrupt as NotWellFormed}
 use Rattle.call.specs.Calls.{Call, decoded}
@@ -58,7 +58,8 @@ giveCode s x g = set g 1 (keyRow (keep hasKey (listRow s g) ++ x ∷ []))
 abbrev pub takeCode : ℕ → ℕ → Table → Table
 takeCode s x g = set g 1 (keyRow (keep (λ y. not (eqb x y)) (keep hasKey (listRow s g))))
 
--- L and D: rows from row n on, and the end of the rows after them; eight rows need none, and beyond the last row nothing is stored
+-- L and D: rows from row n on, and the end of the rows after them; eight rows need none, and beyond the last row
+-- nothing is stored
 abbrev pub endRows : Table → ℕ → Table
 endRows t n = setCell t n 0 0
 
@@ -91,30 +92,30 @@ handOut j d = registryIs (countUp (d .registry) j) d
 
 module _ (compile : Compiler) where
   unfoldable pub store : Cells → Request → List ℕ → Cells
-  store d NewUser text = handOut userCount d
-  store d (StartThread a) text =
+  store d request.NewUser text = handOut userCount d
+  store d (request.StartThread a) text =
       let n = cell (d .registry) threadCount in
       let place = placeFor n isFree (stateOf d .places) in
       handOut threadCount (threadsAre (onTable (d .threads) place (startThread n a)) d)
-  store d (EndThread a) text = atThread d a endThread
-  store d (NewSegment a b) text =
+  store d (request.EndThread a) text = atThread d a endThread
+  store d (request.NewSegment a b) text =
       let s = cell (d .registry) segmentCount in
       handOut segmentCount
       (segmentsAre (set (d .segments) s (newSegment s a b))
       (locksAre (onTable (d .locks) s (λ t. endRows t 0)) d))
-  store d (NewKey a) text =
+  store d (request.NewKey a) text =
       let k = cell (d .registry) definedCount in
       handOut definedCount (makersAre (set (d .makers) k a) d)
-  store d (GiveKey a b c) text = segmentsAre (onTable (d .segments) b (giveCode b (definedCell c))) d
-  store d (TakeKey a b c) text = segmentsAre (onTable (d .segments) b (takeCode b (definedCell c))) d
-  store d (AddLock a b c) text =
+  store d (request.GiveKey a b c) text = segmentsAre (onTable (d .segments) b (giveCode b (definedCell c))) d
+  store d (request.TakeKey a b c) text = segmentsAre (onTable (d .segments) b (takeCode b (definedCell c))) d
+  store d (request.AddLock a b c) text =
       let n = cell (d .registry) lockCount in
       let ps = sumIn (compile (issued (stateOf d)) text) in
       handOut lockCount (locksAre (onTable (d .locks) b (addRows n c ps)) d)
-  store d (DropLock a b) text = locksAre (onTable (d .locks) (homeOf (stateOf d) b) (dropRows b)) d
-  store d (CallSegment a b) text = atThread d a (pushRow (listRow b (tableAt (d .segments) b)))
-  store d (ReturnCall a) text = atThread d a popRow
-  store d (Access a b c) text = d
+  store d (request.DropLock a b) text = locksAre (onTable (d .locks) (homeOf (stateOf d) b) (dropRows b)) d
+  store d (request.CallSegment a b) text = atThread d a (pushRow (listRow b (tableAt (d .segments) b)))
+  store d (request.ReturnCall a) text = atThread d a popRow
+  store d (request.Access a b c) text = d
 
   -- ---- one call
 

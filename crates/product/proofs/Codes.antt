@@ -1,6 +1,6 @@
--- A number is that of the literal which it stands for, the code reads and writes such numbers, and its tests on keys and literals are those of
--- their order. The idea: a key's number is a pair of kind and number, read as two digits of base 65,536, and a literal's a pair of key and
--- sign, of base 2.
+-- A number is that of the literal which it stands for, the code reads and writes such numbers, and its tests on keys
+-- and literals are those of their order. The idea: a key's number is a pair of kind and number, read as two digits of
+-- base 65,536, and a literal's a pair of key and sign, of base 2.
 use mathlib.Core.Path.{_≡_, refl, sym, ap, ap₂, _∙_}
 use mathlib.Core.Bool.{Bool, true, false, not, cond, _&&_, and-true}
 use Prim.Native.Nat.{ℕ, _+_, _*_, _-_, _/_, _%_, _≤_, _<_}

@@ -1,5 +1,5 @@
--- How atoms and literals compare: Equal is said of equal ones alone, and Less is a strict order of all of them. Numbers have these laws, and
--- a comparison that is made of two lawful ones, the first difference deciding, has them too.
+-- How atoms and literals compare: Equal is said of equal ones alone, and Less is a strict order of all of them. Numbers
+-- have these laws, and a comparison that is made of two lawful ones, the first difference deciding, has them too.
 use mathlib.Core.Path.{_≡_, refl, ap}
 use mathlib.Core.Bool.{true}
 use native.Mathlib.Omega.{arith}

@@ -1,5 +1,6 @@
--- What holds of every literal of two products holds of every literal of their union; what holds of every product of two sums, or of every
--- union of their products, holds of every product of the joined sums; and no product of a tidied sum is contradictory.
+-- What holds of every literal of two products holds of every literal of their union; what holds of every product of two
+-- sums, or of every union of their products, holds of every product of the joined sums; and no product of a tidied sum
+-- is contradictory.
 use mathlib.Core.Path.{_≡_, refl}
 use mathlib.Core.Bool.{Bool, true, false, cond}
 use mathlib.Core.List.{List, [], _∷_, _++_}

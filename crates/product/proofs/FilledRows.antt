@@ -1,6 +1,5 @@
--- Rows being filled with products. The idea: up to 8 products the rows are at every moment the cells of the sum that they read as, and
--- capping a list at each step is capping it at the end.
---
+-- Rows being filled with products. The idea: up to 8 products the rows are at every moment the cells of the sum that
+-- they read as, and capping a list at each step is capping it at the end.
 use mathlib.Core.Path.{_≡_, refl, sym, ap, _∙_}
 use mathlib.Core.Bool.{Bool, true, false, cond, _&&_, _||_, and-false, and-true}
 use mathlib.Core.List.{List, [], _∷_, _++_, map, map-append}

@@ -1,5 +1,5 @@
--- One literal put among those of sixteen cells. The loop carries a literal upwards: at place i the cells below i are final, and the whole is
--- they, then the carried literal put among the rest.
+-- One literal put among those of sixteen cells. The loop carries a literal upwards: at place i the cells below i are
+-- final, and the whole is they, then the carried literal put among the rest.
 use mathlib.Core.Path.{_≡_, refl, sym, ap, subst, _∙_}
 use mathlib.Core.Bool.{Bool, true, false, cond}
 use mathlib.Core.List.{List, [], _∷_, _++_, append-assoc}

@@ -1,5 +1,5 @@
--- A key set asked element by element: what a loop over keys, over a row's literals or over rows takes off at place i, and what a literal's
--- sign makes of the answer for its key.
+-- A key set asked element by element: what a loop over keys, over a row's literals or over rows takes off at place i,
+-- and what a literal's sign makes of the answer for its key.
 use mathlib.Core.Path.{_≡_, sym, ap, _∙_}
 use mathlib.Core.Bool.{Bool, true, false, not, _&&_, _||_}
 use mathlib.Core.List.{List, []}

@@ -1,5 +1,6 @@
--- Products are kept in order. Inserting keeps literals strictly rising; where none are opposed, rising literals have rising keys; and rising
--- keys are no key twice. So single literals, and what AND and OR make of sums in order, are in order.
+-- Products are kept in order. Inserting keeps literals strictly rising; where none are opposed, rising literals have
+-- rising keys; and rising keys are no key twice. So single literals, and what AND and OR make of sums in order, are in
+-- order.
 use mathlib.Core.Path.{_≡_, refl}
 use mathlib.Core.Bool.{Bool, true, false, not, cond, _&&_}
 use mathlib.Core.List.{[], _∷_}

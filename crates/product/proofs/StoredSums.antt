@@ -1,5 +1,5 @@
--- Literals, products and sums are read back from their numbers: a literal's number is below 524,288 and stands for it, so a row's numbers
--- stand for the product's literals.
+-- Literals, products and sums are read back from their numbers: a literal's number is below 524,288 and stands for it,
+-- so a row's numbers stand for the product's literals.
 use mathlib.Core.Path.{_≡_, refl, ap, ap₂, _∙_}
 use mathlib.Core.List.{List, _∷_, map}
 use mathlib.Core.Option.{some}

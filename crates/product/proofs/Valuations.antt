@@ -1,6 +1,6 @@
--- For which valuations a sum opens: a union where both products do, an AND where both sums do, an OR where one does. Contradictory products
--- open for none and repeats add nothing, so that leaving them out changes nothing; any other product opens where its plain atoms alone
--- hold.
+-- For which valuations a sum opens: a union where both products do, an AND where both sums do, an OR where one does.
+-- Contradictory products open for none and repeats add nothing, so that leaving them out changes nothing; any other
+-- product opens where its plain atoms alone hold.
 use mathlib.Core.Path.{_≡_, refl, ap, sym, _∙_}
 use mathlib.Core.Bool.{Bool, true, false, not, cond, _&&_, _||_, and-self-left, and-true, and-false, or-assoc, or-false}
 use mathlib.Core.List.{[], _∷_, _++_}

@@ -1,4 +1,5 @@
--- C and A ask the same questions in the same order: the thread, the segment, the operation, the deny locks and the grant locks.
+-- C and A ask the same questions in the same order: the thread, the segment, the operation, the deny locks and the
+-- grant locks.
 use mathlib.Core.Path.{_≡_, sym}
 use mathlib.Core.Bool.{Bool, true, false}
 use mathlib.Core.List.{List, _∷_}

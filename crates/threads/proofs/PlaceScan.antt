@@ -1,5 +1,5 @@
--- The scan for the first place that passes a test, and the look at a thread's own place before it. The invariant: no place before i passes.
---
+-- The scan for the first place that passes a test, and the look at a thread's own place before it. The invariant: no
+-- place before i passes.
 use mathlib.Core.Path.{_≡_, refl, sym, ap, _∙_}
 use mathlib.Core.Bool.{Bool, true, false}
 use mathlib.Core.List.{List, [], _∷_, map}

@@ -1,4 +1,5 @@
--- Some records are answered and their lines put, and the rest are left: what is put, and the lines of the rest, are all lines.
+-- Some records are answered and their lines put, and the rest are left: what is put, and the lines of the rest, are all
+-- lines.
 use mathlib.Core.Path.{_≡_, refl, sym, ap, _∙_}
 use mathlib.Core.Bool.{true}
 use mathlib.Core.List.{List, [], _++_, append-assoc, append-nil}

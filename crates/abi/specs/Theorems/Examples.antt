@@ -1,5 +1,5 @@
--- What a caller in C sees of each kind of answer, with numerals; and that a number of the guard's answer is taken apart again. Proved in
--- `proofs/Examples.antt`.
+-- What a caller in C sees of each kind of answer, with numerals; and that a number of the guard's answer is taken apart
+-- again. Proved in `proofs/Examples.antt`.
 use mathlib.Core.Path.{_≡_}
 use mathlib.Core.Bool.{true, false}
 use mathlib.Core.List.{List, [], _∷_}

@@ -1,5 +1,5 @@
--- There is one request for each well formed call, and one well formed call for each request (and text, of a lock); a decoded call's
--- letter and fields are the call's own. Proved in `proofs/Requests.antt` and `proofs/Values.antt`.
+-- There is one request for each well formed call, and one well formed call for each request (and text, of a lock); a
+-- decoded call's letter and fields are the call's own. Proved in `proofs/Requests.antt` and `proofs/Values.antt`.
 use mathlib.Core.Path.{_≡_}
 use mathlib.Core.Logic.{_↔_}
 use Rattle.call.specs.declared.request.Request.{Request}

@@ -1,5 +1,5 @@
--- Outer loop: what decides is what decides from row p on, with the first grant row found before it. Inner loop: the row opens exactly when the
--- literals up to k agree.
+-- Outer loop: what decides is what decides from row p on, with the first grant row found before it. Inner loop: the row
+-- opens exactly when the literals up to k agree.
 use mathlib.Core.Path.{_≡_, refl, ap, _∙_}
 use mathlib.Core.Logic.{⊎-elim}
 use Prim.Native.Nat.{_-_, _≤_, _<_}

@@ -1,5 +1,6 @@
--- Worked examples of the check, on the rows of one thread and of three locks, for every kind of number of an operation; the answers, number and value,
--- are worked out by hand from document 01. Proved in `proofs/Examples.antt`, by computing.
+-- Worked examples of the check, on the rows of one thread and of three locks, for every kind of number of an operation;
+-- the answers, number and value, are worked out by hand from document 01. Proved in `proofs/Examples.antt`, by
+-- computing.
 use mathlib.Core.Path.{_≡_}
 use mathlib.Core.List.{List, [], _∷_, _++_}
 use Prim.Native.Nat.{ℕ}

@@ -1,5 +1,5 @@
--- What the check answers, and the answer of the call or access that is made of it, have the same number and value. Proved in
--- `proofs/DecidingRow.antt`.
+-- What the check answers, and the answer of the call or access that is made of it, have the same number and value.
+-- Proved in `proofs/DecidingRow.antt`.
 use mathlib.Core.Path.{_≡_}
 use Rattle.model.specs.Answers.{answerNumber, answerValue}
 use Rattle.checking.specs.declared.Checked.{Checked}

@@ -1,5 +1,5 @@
--- Appending is refused exactly by the listed conditions, in their order, and is accepted in all the rest (demand 1; document 01: 'Desk file').
--- Proved in `proofs/Declines.antt`.
+-- Appending is refused exactly by the listed conditions, in their order, and is accepted in all the rest (demand 1;
+-- document 01: 'Desk file'). Proved in `proofs/Declines.antt`.
 use mathlib.Core.Path.{_≡_}
 use mathlib.Core.Bool.{true, false}
 use mathlib.Core.List.{List}

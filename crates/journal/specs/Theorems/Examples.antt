@@ -1,5 +1,5 @@
--- Worked examples of files, of appending and of numbers (document 01: 'Desk file', 'Trial desks'), each worked out by hand from document 01. Proved in
--- `proofs/Examples.antt`.
+-- Worked examples of files, of appending and of numbers (document 01: 'Desk file', 'Trial desks'), each worked out by
+-- hand from document 01. Proved in `proofs/Examples.antt`.
 use mathlib.Core.Path.{_≡_}
 use mathlib.Core.List.{List, [], _∷_, _++_}
 use Prim.Native.Nat.{ℕ, zero, suc}
@@ -92,7 +92,8 @@ pub record Examples : Type 0 where
   -- 'bytes left over': one byte, and a whole record where the count is 0
   pub left-over : verdictOf (counted 1 (newUser ++ 0 ∷ [])) ≡ Refused Corrupt
   pub record-left-over : verdictOf (counted 0 newUser) ≡ Refused Corrupt
-  -- ---- at a cursor: the L of 11 bytes above is at 7 with its text from 16 to 18, a file of 18 bytes ends there, and no record is at 8
+  -- ---- at a cursor: the L of 11 bytes above is at 7 with its text from 16 to 18, a file of 18 bytes ends there, and
+  -- no record is at 8
   pub found-record : foundAt (counted 1 (76 ∷ 2 ∷ 1 ∷ 3 ∷ 0 ∷ 1 ∷ 0 ∷ 2 ∷ 0 ∷ 85 ∷ 48 ∷ [])) 7
       ≡ Record (record { letter = 76; a = 258; b = 3; c = 1; start = 16; next = 18 })
   pub found-end : foundAt (counted 1 (76 ∷ 2 ∷ 1 ∷ 3 ∷ 0 ∷ 1 ∷ 0 ∷ 2 ∷ 0 ∷ 85 ∷ 48 ∷ [])) 18 ≡ End

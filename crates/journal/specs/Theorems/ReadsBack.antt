@@ -1,5 +1,5 @@
--- Reading what was written gives the records back (demand 2). The file of any records that a file can hold, if it is not too long, is readable, and its
--- records are those. Proved in `proofs/ReadsBack.antt`.
+-- Reading what was written gives the records back (demand 2). The file of any records that a file can hold, if it is
+-- not too long, is readable, and its records are those. Proved in `proofs/ReadsBack.antt`.
 use mathlib.Core.Path.{_≡_}
 use mathlib.Core.List.{List}
 use Prim.Native.Nat.{_≤_}

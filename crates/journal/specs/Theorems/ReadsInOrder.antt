@@ -1,6 +1,7 @@
--- 'Reading checks the whole file first and answers its records in order, then their end' (document 01: 'Desk file'; demand 2). A reader that `open`
--- answered Readable on answers the file's records in order and then the end, again and again; one that `open` refused, or that was not opened, answers
--- no record, only the end. All of it in the terms of the contracts of `new`, `open` and `next`. Proved in `proofs/ReadsInOrder.antt`.
+-- 'Reading checks the whole file first and answers its records in order, then their end' (document 01: 'Desk file';
+-- demand 2). A reader that `open` answered Readable on answers the file's records in order and then the end, again and
+-- again; one that `open` refused, or that was not opened, answers no record, only the end. All of it in the terms of
+-- the contracts of `new`, `open` and `next`. Proved in `proofs/ReadsInOrder.antt`.
 use mathlib.Core.Path.{_≡_}
 use mathlib.Core.List.{List, [], _∷_, map}
 use Prim.Native.Nat.{ℕ, zero, suc, _-_}

@@ -1,6 +1,6 @@
--- Appending a record to a readable file gives the file of its records with that one at the end, and changes no byte after it. So records appended in
--- order to the empty file give their file, and a readable file's records the same file, in any buffer that holds it (demand 2). Proved in
--- `proofs/Rebuilds.antt`.
+-- Appending a record to a readable file gives the file of its records with that one at the end, and changes no byte
+-- after it. So records appended in order to the empty file give their file, and a readable file's records the same
+-- file, in any buffer that holds it (demand 2). Proved in `proofs/Rebuilds.antt`.
 use mathlib.Core.Path.{_≡_}
 use mathlib.Core.List.{List, [], _∷_, _++_}
 use Prim.Native.Nat.{ℕ, _≤_}
@@ -14,7 +14,8 @@ use Rattle.journal.specs.Appending.{appendAnswer, bufferAfter, lengthAft
 
 -- ---- one record
 
--- The file was the first len bytes of the buffer d and r was appended, so that it now has n bytes: the whole buffer afterwards.
+-- The file was the first len bytes of the buffer d and r was appended, so that it now has n bytes: the whole buffer
+-- afterwards.
 pub record Added (d : List ℕ) (len : ℕ) (r : Call) (n : ℕ) : Type 0 where
   pub size : n ≡ length (fileBytes (recordsOf (take len d) ++ r ∷ []))
   pub bytes : bufferAfter (Length n) d len r ≡ fileBytes (recordsOf (take len d) ++ r ∷ []) ++ drop n d

@@ -1,5 +1,5 @@
--- Every readable file is what its records write (demand 2: 'every readable file included'). So a file is readable exactly where it is written from
--- records that a file can hold, and not too long. Proved in `proofs/WritesBack.antt`.
+-- Every readable file is what its records write (demand 2: 'every readable file included'). So a file is readable
+-- exactly where it is written from records that a file can hold, and not too long. Proved in `proofs/WritesBack.antt`.
 use mathlib.Core.Path.{_≡_}
 use mathlib.Core.List.{List}
 use mathlib.Core.Logic.{_↔_}

@@ -1,5 +1,5 @@
--- The model and the history agree, in four parts: threads, segments, locks and counts. Every call keeps each part, so that they agree after
--- every list of calls from the empty state.
+-- The model and the history agree, in four parts: threads, segments, locks and counts. Every call keeps each part, so
+-- that they agree after every list of calls from the empty state.
 use mathlib.Core.Path.{_≡_, refl, sym, ap, _∙_}
 use mathlib.Core.Bool.{true, false, not, cond, true≢false}
 use mathlib.Core.List.{List, [], _∷_}
@@ -14,7 +14,7 @@ use Rattle.formula.specs.Outcome.{Outcome, accepted, malformed, tooWide, unsati
 use Rattle.formula.specs.Compiler.{Compiler, Laws}
 use Rattle.formula.specs.Meaning.{Meaning}
 use Rattle.call.specs.declared.request.Request.{Request}
-use Rattle.call.specs.declared.request.Request.the-variants.{NewUser, StartThread, EndThread, NewSegment, NewKey, GiveKey, TakeKey, AddLock, DropLock, CallSegment, ReturnCall, Access}
+use Rattle.call.specs.declared.request.Request.the-variants as request
 use Rattle.call.specs.declared.request.Decoded.{Decoded}
 use Rattle.call.specs.declared.request.Decoded.the-variants.{WellFormed, Corrupt as NotWellFormed}
 use Rattle.call.specs.Calls.{Call, decoded}
@@ -38,7 +38,8 @@ use Rattle.model.proofs.Agreement.Places.{AgreeThreads, look, Lives, li
 use Rattle.model.proofs.Agreement.Segments.{AgreeSegments, entryOf, agree-new, agree-adjust, agree-unseen, products-append-one, products-same}
 use Rattle.model.proofs.Agreement.Locks.{AgreeLocks, agree-rows, agree-add, agree-drop}
 
--- the numbers handed out, as the letters U, S, N, K and L were counted; and the live threads, those that S started and E did not end
+-- the numbers handed out, as the letters U, S, N, K and L were counted; and the live threads, those that S started and
+-- E did not end
 abbrev pub AgreeCounts : State → (ℕ → ℕ) → Type 0
 AgreeCounts d count =
     (d .users ≡ count 85) × (d .threadNumbers ≡ count 83) × (length (d .segments) ≡ count 78) × (length (d .makers) ≡ count 75) × (d .lockNumbers ≡ count 76)
@@ -68,17 +69,17 @@ module _ (compile : Compiler) (holds : Meaning) (laws : Laws compile holds) (tex
       firstRefusal (conditions compile d q text) ≡ none
       → Agrees compile (update compile d q text) (note h q text (answer compile d q text)) (bump (callOf q text .letter) count)
 
-  keep-user : Kept NewUser
+  keep-user : Kept request.NewUser
   unfolding conditions update answer note
   keep-user e =
       let (u, t, s, k, l, v) = c .counts in
       record { threads = c .threads; segments = c .segments; locks = c .locks; counts = (ap suc u, t, s, k, l, v) }
 
-  keep-start : (a : ℕ) → Kept (StartThread a)
+  keep-start : (a : ℕ) → Kept (request.StartThread a)
   unfolding conditions update answer note
   keep-start a e =
       let (u, t, s, k, l, v) = c .counts in
-      let f = all-fail (conditions compile d (StartThread a) text) e in
+      let f = all-fail (conditions compile d (request.StartThread a) text) e in
       let room = neither (passes mostThreads (suc (liveIn (d .places)))) _ (f .1 .0) .0 in
       let p = spare (d .threadNumbers) (d .places) (c .threads .count) room in
       let i = placeFor (d .threadNumbers) isFree (d .places) in
@@ -95,11 +96,11 @@ module _ (compile : Compiler) (holds : Meaning) (laws : Laws compile holds) (tex
   alive : (a : ℕ) → not (isLive d a) ≡ false → Lives a (d .places)
   alive a e = lives a (d .places) (not-false _ e)
 
-  keep-end : (a : ℕ) → Kept (EndThread a)
+  keep-end : (a : ℕ) → Kept (request.EndThread a)
   unfolding conditions update answer note
   keep-end a e =
       let (u, t, s, k, l, v) = c .counts in
-      let p = alive a (all-fail (conditions compile d (EndThread a) text) e .0) in
+      let p = alive a (all-fail (conditions compile d (request.EndThread a) text) e .0) in
       let i = placeOf a (d .places) in
       let was : one (getD (d .places) i free) ≡ 1 = ap one (p .taken-by) in
       let ended : liveIn (set (d .places) i free) + suc (count 69) ≡ count 83 = let h = live-change (d .places) i free (p .low) in omega arith in
@@ -110,7 +111,7 @@ module _ (compile : Compiler) (holds : Meaning) (laws : Laws compile holds) (tex
         counts = (u, t, s, k, l, ended);
       }
 
-  keep-segment : (a b : ℕ) → Kept (NewSegment a b)
+  keep-segment : (a b : ℕ) → Kept (request.NewSegment a b)
   unfolding conditions update answer note
   keep-segment a b e =
       let (u, t, s, k, l, v) = c .counts in
@@ -121,7 +122,7 @@ module _ (compile : Compiler) (holds : Meaning) (laws : Laws compile holds) (tex
         counts = (u, t, length-append-one (d .segments) _ ∙ ap suc s, k, l, v);
       }
 
-  keep-key : (a : ℕ) → Kept (NewKey a)
+  keep-key : (a : ℕ) → Kept (request.NewKey a)
   unfolding conditions update answer note
   keep-key a e =
       let (u, t, s, k, l, v) = c .counts in
@@ -139,19 +140,19 @@ module _ (compile : Compiler) (holds : Meaning) (laws : Laws compile holds) (tex
         counts = (k .0, k .1, length-set (d .segments) b _ ∙ k .2, k .3, k .4, k .5);
       }
 
-  keep-give : (a b k : ℕ) → Kept (GiveKey a b k)
+  keep-give : (a b k : ℕ) → Kept (request.GiveKey a b k)
   unfolding conditions update answer note
   keep-give a b k e = keep-adjust b (giveKey k) _ (λ g. refl) (λ g. refl) 71 (c .counts)
 
-  keep-take : (a b k : ℕ) → Kept (TakeKey a b k)
+  keep-take : (a b k : ℕ) → Kept (request.TakeKey a b k)
   unfolding conditions update answer note
   keep-take a b k e = keep-adjust b (takeKey k) _ (λ g. refl) (λ g. refl) 84 (c .counts)
 
-  keep-lock : (a b o : ℕ) → Kept (AddLock a b o)
+  keep-lock : (a b o : ℕ) → Kept (request.AddLock a b o)
   unfolding conditions update answer note
   keep-lock a b o e =
       let (u, t, s, k, l, v) = c .counts in
-      let f = all-fail (conditions compile d (AddLock a b o) text) e in
+      let f = all-fail (conditions compile d (request.AddLock a b o) text) e in
       let lt = ltb-true b (length (d .segments)) (not-false _ (f .1 .0)) in
       let x = compile (issued d) text in
       let ps = compiled x (f .1 .1 .1 .1 .0) (f .1 .1 .1 .1 .1 .0) (f .1 .1 .1 .1 .1 .1 .0) in
@@ -162,11 +163,11 @@ module _ (compile : Compiler) (holds : Meaning) (laws : Laws compile holds) (tex
         counts = (u, t, length-set (d .segments) b _ ∙ s, k, ap suc l, v);
       }
 
-  keep-drop : (a n : ℕ) → Kept (DropLock a n)
+  keep-drop : (a n : ℕ) → Kept (request.DropLock a n)
   unfolding conditions update answer note
   keep-drop a n e =
       let (u, t, s, k, l, v) = c .counts in
-      let there : isLock d n ≡ true = not-false _ (all-fail (conditions compile d (DropLock a n) text) e .1 .0) in
+      let there : isLock d n ≡ true = not-false _ (all-fail (conditions compile d (request.DropLock a n) text) e .1 .0) in
       record {
         threads = c .threads;
         segments = agree-unseen (d .segments) (h .segments) (c .segments) (homeOf d n) (dropProducts n) (λ g. refl);
@@ -193,11 +194,11 @@ module _ (compile : Compiler) (holds : Meaning) (laws : Laws compile holds) (tex
   pub keys-agree : (b : ℕ) → b < length (d .segments) → listOf h b ≡ segmentAt d b .keys
   keys-agree b lt = simp (c .segments b, at-lt (d .segments) b blankSegment lt)
 
-  keep-call : (a b : ℕ) → Kept (CallSegment a b)
+  keep-call : (a b : ℕ) → Kept (request.CallSegment a b)
   unfolding conditions update answer note
   keep-call a b e =
       let (u, t, s, k, l, v) = c .counts in
-      let f = all-fail (conditions compile d (CallSegment a b) text) e in
+      let f = all-fail (conditions compile d (request.CallSegment a b) text) e in
       let lt = ltb-true b (length (d .segments)) (not-false _ (f .1 .0)) in
       record {
         threads =
@@ -208,11 +209,11 @@ module _ (compile : Compiler) (holds : Meaning) (laws : Laws compile holds) (tex
         counts = (u, t, s, k, l, ap (λ (n : ℕ). n + count 69) (same-live a (alive a (f .0)) (pushFrame b (segmentAt d b .keys))) ∙ v);
       }
 
-  keep-return : (a : ℕ) → Kept (ReturnCall a)
+  keep-return : (a : ℕ) → Kept (request.ReturnCall a)
   unfolding conditions update answer note
   keep-return a e =
       let (u, t, s, k, l, v) = c .counts in
-      let p = alive a (all-fail (conditions compile d (ReturnCall a) text) e .0) in
+      let p = alive a (all-fail (conditions compile d (request.ReturnCall a) text) e .0) in
       record {
         threads = keep-thread a p popFrame (onFrames tailOf) (λ t. refl);
         segments = c .segments;
@@ -220,23 +221,23 @@ module _ (compile : Compiler) (holds : Meaning) (laws : Laws compile holds) (tex
         counts = (u, t, s, k, l, ap (λ (n : ℕ). n + count 69) (same-live a p popFrame) ∙ v);
       }
 
-  keep-access : (a b o : ℕ) → Kept (Access a b o)
+  keep-access : (a b o : ℕ) → Kept (request.Access a b o)
   unfolding conditions update answer note
   keep-access a b o e = record { threads = c .threads; segments = c .segments; locks = c .locks; counts = c .counts }
 
   keep-all : (q : Request) → Kept q
-  keep-all NewUser = keep-user
-  keep-all (StartThread a) = keep-start a
-  keep-all (EndThread a) = keep-end a
-  keep-all (NewSegment a b) = keep-segment a b
-  keep-all (NewKey a) = keep-key a
-  keep-all (GiveKey a b k) = keep-give a b k
-  keep-all (TakeKey a b k) = keep-take a b k
-  keep-all (AddLock a b o) = keep-lock a b o
-  keep-all (DropLock a b) = keep-drop a b
-  keep-all (CallSegment a b) = keep-call a b
-  keep-all (ReturnCall a) = keep-return a
-  keep-all (Access a b o) = keep-access a b o
+  keep-all request.NewUser = keep-user
+  keep-all (request.StartThread a) = keep-start a
+  keep-all (request.EndThread a) = keep-end a
+  keep-all (request.NewSegment a b) = keep-segment a b
+  keep-all (request.NewKey a) = keep-key a
+  keep-all (request.GiveKey a b k) = keep-give a b k
+  keep-all (request.TakeKey a b k) = keep-take a b k
+  keep-all (request.AddLock a b o) = keep-lock a b o
+  keep-all (request.DropLock a b) = keep-drop a b
+  keep-all (request.CallSegment a b) = keep-call a b
+  keep-all (request.ReturnCall a) = keep-return a
+  keep-all (request.Access a b o) = keep-access a b o
 
 -- ---- a thread that the history has
 

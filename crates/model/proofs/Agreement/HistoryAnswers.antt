@@ -1,5 +1,5 @@
--- What the model answers, read from a history that agrees with it. Of a fitting C or A of a live thread the conditions before the check fail, and the
--- check's two locks are the history's; the numbers handed out are the counts.
+-- What the model answers, read from a history that agrees with it. Of a fitting C or A of a live thread the conditions
+-- before the check fail, and the check's two locks are the history's; the numbers handed out are the counts.
 use mathlib.Core.Path.{_≡_, refl, sym, ap, _∙_}
 use mathlib.Core.Bool.{Bool, true, false, not, cond, false≢true}
 use mathlib.Core.List.{List}
@@ -12,7 +12,7 @@ use borrow.Author.Tests.{lt-ltb, ltb-true, ltb-false, le-ltb}
 use Rattle.formula.specs.Compiler.{Compiler, Laws}
 use Rattle.formula.specs.Meaning.{Meaning}
 use Rattle.call.specs.declared.request.Request.{Request}
-use Rattle.call.specs.declared.request.Request.the-variants.{NewUser, StartThread, EndThread, NewSegment, NewKey, GiveKey, TakeKey, AddLock, DropLock, CallSegment, ReturnCall, Access}
+use Rattle.call.specs.declared.request.Request.the-variants as request
 use Rattle.call.specs.declared.request.Decoded.{Decoded}
 use Rattle.call.specs.declared.request.Decoded.the-variants.{WellFormed}
 use Rattle.call.specs.Calls.{Call, decoded}
@@ -114,12 +114,12 @@ module _ (compile : Compiler) (holds : Meaning) (laws : Laws compile holds) (tex
   unfolding conditions answer
   answers-from (calls a b) t live entry out number fits =
       let o = calls a b in
-      judged-answer compile d (CallSegment a b) text (firstRefusal (conditions compile d (CallSegment a b) text))
+      judged-answer compile d (request.CallSegment a b) text (firstRefusal (conditions compile d (request.CallSegment a b) text))
       ∙ simp (found o t live entry out, out-test o t live entry out, kind-is o t live entry out, fits, under-limit mostFrames (length (t .frames)))
       (check-answers (opening d denies a b 1) (opening d grants a b 1) (first (lockOpens holds denies o t) (h .locks)) (first (lockOpens holds grants o t) (h .locks)) (hasRoom o t) (check o t live entry out denies) (check o t live entry out grants))
   answers-from (accesses a b n) t live entry out number fits =
       let o = accesses a b n in
-      judged-answer compile d (Access a b n) text (firstRefusal (conditions compile d (Access a b n) text))
+      judged-answer compile d (request.Access a b n) text (firstRefusal (conditions compile d (request.Access a b n) text))
       ∙ simp (found o t live entry out, out-test o t live entry out, kind-is o t live entry out, fits)
       (simp number
       (check-answers (opening d denies a b n) (opening d grants a b n) (first (lockOpens holds denies o t) (h .locks)) (first (lockOpens holds grants o t) (h .locks)) true (check o t live entry out denies) (check o t live entry out grants)))
@@ -128,15 +128,15 @@ module _ (compile : Compiler) (holds : Meaning) (laws : Laws compile holds) (tex
 pub counted-as : (compile : Compiler) (text : List ℕ) (d : State) (h : History) (count : ℕ → ℕ) → Agrees compile d h count
     → (q : Request) → handsOut q ≡ true → answer compile d q text ≡ count (callOf q text .letter)
 unfolding answer
-counted-as compile text d h count c NewUser e = c .counts .0
-counted-as compile text d h count c (StartThread a) e = c .counts .1
-counted-as compile text d h count c (EndThread a) e = absurd (false≢true e)
-counted-as compile text d h count c (NewSegment a b) e = c .counts .2
-counted-as compile text d h count c (NewKey a) e = c .counts .3
-counted-as compile text d h count c (GiveKey a b k) e = absurd (false≢true e)
-counted-as compile text d h count c (TakeKey a b k) e = absurd (false≢true e)
-counted-as compile text d h count c (AddLock a b o) e = c .counts .4
-counted-as compile text d h count c (DropLock a b) e = absurd (false≢true e)
-counted-as compile text d h count c (CallSegment a b) e = absurd (false≢true e)
-counted-as compile text d h count c (ReturnCall a) e = absurd (false≢true e)
-counted-as compile text d h count c (Access a b o) e = absurd (false≢true e)
+counted-as compile text d h count c request.NewUser e = c .counts .0
+counted-as compile text d h count c (request.StartThread a) e = c .counts .1
+counted-as compile text d h count c (request.EndThread a) e = absurd (false≢true e)
+counted-as compile text d h count c (request.NewSegment a b) e = c .counts .2
+counted-as compile text d h count c (request.NewKey a) e = c .counts .3
+counted-as compile text d h count c (request.GiveKey a b k) e = absurd (false≢true e)
+counted-as compile text d h count c (request.TakeKey a b k) e = absurd (false≢true e)
+counted-as compile text d h count c (request.AddLock a b o) e = c .counts .4
+counted-as compile text d h count c (request.DropLock a b) e = absurd (false≢true e)
+counted-as compile text d h count c (request.CallSegment a b) e = absurd (false≢true e)
+counted-as compile text d h count c (request.ReturnCall a) e = absurd (false≢true e)
+counted-as compile text d h count c (request.Access a b o) e = absurd (false≢true e)

@@ -1,5 +1,5 @@
--- The conditions of an L are tests on the state, each of which the history tells; the text's verdict is the compiler's, whose laws say where it is
--- which.
+-- The conditions of an L are tests on the state, each of which the history tells; the text's verdict is the compiler's,
+-- whose laws say where it is which.
 use mathlib.Core.Path.{_≡_, refl, sym, ap, subst, _∙_}
 use mathlib.Core.Bool.{Bool, true, false, cond, _||_, true≢false}
 use mathlib.Core.List.{List, [], _∷_}

@@ -1,6 +1,6 @@
--- The products on the segments and the history's standing locks. A ghost list has the standing locks with their products, in the order of their
--- numbers; a segment's products are those of the locks on it. So the check is a chain of laws of lists, and the opening law enters at one place.
---
+-- The products on the segments and the history's standing locks. A ghost list has the standing locks with their
+-- products, in the order of their numbers; a segment's products are those of the locks on it. So the check is a chain
+-- of laws of lists, and the opening law enters at one place.
 use mathlib.Core.Path.{_≡_, refl, sym, ap, subst, _∙_}
 use mathlib.Core.Bool.{Bool, true, false, _&&_, _||_, not, cond}
 use mathlib.Core.List.{List, [], _∷_, _++_, map, append-nil, List·Memᴰ, List·Memᴰ·head, List·Memᴰ·tail}
@@ -107,7 +107,8 @@ rising-add new [] b r = (tt, tt)
 rising-add new (l ∷ ls) b r = (All-append (λ k. l .number < k .number) ls (new ∷ []) (r .0) (b .0, tt), rising-add new ls (b .1) (r .1))
 
 module _ (compile : Compiler) where
-  -- its products are what the compiler made of its text, and there is one; its number is handed out, and tells its segment
+  -- its products are what the compiler made of its text, and there is one; its number is handed out, and tells its
+  -- segment
   pub record Sound (home : ℕ → ℕ) (numbers : ℕ) (l : Standing) : Type 0 where
     pub issue : Issued
     pub made : compile issue (l .text) ≡ accepted (l .products)

@@ -1,5 +1,5 @@
--- What the table asks of the state is read off the agreement of model and history; the makers are counted along the list of calls, and a segment's
--- own key is what the arrays say it is.
+-- What the table asks of the state is read off the agreement of model and history; the makers are counted along the
+-- list of calls, and a segment's own key is what the arrays say it is.
 use mathlib.Core.Path.{_≡_, refl, sym, ap, _∙_}
 use mathlib.Core.Bool.{true, not}
 use mathlib.Core.List.{List, [], _∷_, _++_, map, append-nil, append-assoc, List·Memᴰ}
@@ -18,7 +18,7 @@ use Rattle.formula.specs.Meaning.{textHolds}
 use Rattle.formula.specs.Compiler.{Compiler, everything}
 use Rattle.formula.proofs.Opening.{laws, opening-law, holds-spelt}
 use Rattle.call.specs.declared.request.Request.{Request}
-use Rattle.call.specs.declared.request.Request.the-variants.{NewUser, StartThread, EndThread, NewSegment, NewKey, GiveKey, TakeKey, AddLock, DropLock, CallSegment, ReturnCall, Access}
+use Rattle.call.specs.declared.request.Request.the-variants as request
 use Rattle.call.specs.declared.request.Decoded.{Decoded}
 use Rattle.call.specs.declared.request.Decoded.the-variants.{WellFormed, Corrupt as NotWellFormed}
 use Rattle.call.specs.Calls.{Call, decoded}
@@ -74,18 +74,18 @@ module _ (compile : Compiler) (es : List Event) (d : State) (c : Agrees compile 
 accepted-makers : (compile : Compiler) (d : State) (q : Request) (text : List ℕ) (n : ℕ)
     → update compile d q text .makers ≡ d .makers ++ makersOf (event (callOf q text) (Accepted n) ∷ [])
 unfolding update
-accepted-makers compile d NewUser text n = sym (append-nil (d .makers))
-accepted-makers compile d (StartThread a) text n = sym (append-nil (d .makers))
-accepted-makers compile d (EndThread a) text n = sym (append-nil (d .makers))
-accepted-makers compile d (NewSegment a b) text n = sym (append-nil (d .makers))
-accepted-makers compile d (NewKey a) text n = refl
-accepted-makers compile d (GiveKey a b k) text n = sym (append-nil (d .makers))
-accepted-makers compile d (TakeKey a b k) text n = sym (append-nil (d .makers))
-accepted-makers compile d (AddLock a b o) text n = sym (append-nil (d .makers))
-accepted-makers compile d (DropLock a b) text n = sym (append-nil (d .makers))
-accepted-makers compile d (CallSegment a b) text n = sym (append-nil (d .makers))
-accepted-makers compile d (ReturnCall a) text n = sym (append-nil (d .makers))
-accepted-makers compile d (Access a b o) text n = sym (append-nil (d .makers))
+accepted-makers compile d request.NewUser text n = sym (append-nil (d .makers))
+accepted-makers compile d (request.StartThread a) text n = sym (append-nil (d .makers))
+accepted-makers compile d (request.EndThread a) text n = sym (append-nil (d .makers))
+accepted-makers compile d (request.NewSegment a b) text n = sym (append-nil (d .makers))
+accepted-makers compile d (request.NewKey a) text n = refl
+accepted-makers compile d (request.GiveKey a b k) text n = sym (append-nil (d .makers))
+accepted-makers compile d (request.TakeKey a b k) text n = sym (append-nil (d .makers))
+accepted-makers compile d (request.AddLock a b o) text n = sym (append-nil (d .makers))
+accepted-makers compile d (request.DropLock a b) text n = sym (append-nil (d .makers))
+accepted-makers compile d (request.CallSegment a b) text n = sym (append-nil (d .makers))
+accepted-makers compile d (request.ReturnCall a) text n = sym (append-nil (d .makers))
+accepted-makers compile d (request.Access a b o) text n = sym (append-nil (d .makers))
 
 step-makers : (compile : Compiler) (d : State) (x : Call) → step compile d x .state .makers ≡ d .makers ++ makersOf (event x (step compile d x .answer) ∷ [])
 unfolding step

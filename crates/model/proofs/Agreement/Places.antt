@@ -1,6 +1,6 @@
--- The places and the history's live threads. A ghost map tells the place of each thread number: what the history has of thread n is what
--- stands at n's place, and a place that is taken is its number's. So no number stands twice, and to take, change or free a place is one
--- equation.
+-- The places and the history's live threads. A ghost map tells the place of each thread number: what the history has of
+-- thread n is what stands at n's place, and a place that is taken is its number's. So no number stands twice, and to
+-- take, change or free a place is one equation.
 use mathlib.Core.Path.{_≡_, refl, sym, ap, _∙_}
 use mathlib.Core.Bool.{Bool, true, false, not, cond, false≢true}
 use mathlib.Core.List.{List, [], _∷_}

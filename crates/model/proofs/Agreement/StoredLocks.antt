@@ -1,4 +1,5 @@
--- What the segments store is read off the agreement of model and history; the opening law then says for which key sets it opens.
+-- What the segments store is read off the agreement of model and history; the opening law then says for which key sets
+-- it opens.
 use mathlib.Core.Path.{_≡_, refl, sym, ap, _∙_}
 use mathlib.Core.List.{List, [], map, List·Memᴰ}
 use mathlib.Core.Bool.{false}

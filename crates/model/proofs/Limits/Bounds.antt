@@ -1,5 +1,6 @@
--- The limits, by an invariant that every accepted call keeps: a call that adds something was not refused by 10, which is its limit, and the
--- others add nothing. There are always 64 places, so no more threads live; and the frames are bounded place by place.
+-- The limits, by an invariant that every accepted call keeps: a call that adds something was not refused by 10, which
+-- is its limit, and the others add nothing. There are always 64 places, so no more threads live; and the frames are
+-- bounded place by place.
 use mathlib.Core.Path.{_≡_, refl, _∙_}
 use mathlib.Core.Bool.{not}
 use mathlib.Core.List.{List, [], _∷_, _++_, map}
@@ -15,7 +16,7 @@ use Rattle.formula.specs.Meaning.{textHolds}
 use Rattle.formula.specs.Compiler.{Compiler}
 use Rattle.formula.proofs.Opening.{laws}
 use Rattle.call.specs.declared.request.Request.{Request}
-use Rattle.call.specs.declared.request.Request.the-variants.{NewUser, StartThread, EndThread, NewSegment, NewKey, GiveKey, TakeKey, AddLock, DropLock, CallSegment, ReturnCall, Access}
+use Rattle.call.specs.declared.request.Request.the-variants as request
 use Rattle.call.specs.declared.request.Decoded.{Decoded}
 use Rattle.call.specs.declared.request.Decoded.the-variants.{WellFormed, Corrupt as NotWellFormed}
 use Rattle.call.specs.Calls.{Call, decoded}
@@ -187,94 +188,94 @@ module _ (compile : Compiler) (d : State) (k : Kept d) (text : List ℕ) where
   on-segment : (s : ℕ) (f : Segment → Segment) → SegmentKept (f (segmentAt d s)) → Kept (onSegment d s f)
   on-segment s f h = with-segments k _ (segments-set (d .segments) (k .segments) s (f (segmentAt d s)) h)
 
-  keep-user : Keeps NewUser
+  keep-user : Keeps request.NewUser
   unfolding conditions update
-  keep-user e = with-users k _ (within mostUsers (suc (d .users)) (all-fail (conditions compile d NewUser text) e .0))
+  keep-user e = with-users k _ (within mostUsers (suc (d .users)) (all-fail (conditions compile d request.NewUser text) e .0))
 
-  keep-start : (a : ℕ) → Keeps (StartThread a)
+  keep-start : (a : ℕ) → Keeps (request.StartThread a)
   unfolding conditions update
   keep-start a e =
-      let full = all-fail (conditions compile d (StartThread a) text) e .1 .0 in
+      let full = all-fail (conditions compile d (request.StartThread a) text) e .1 .0 in
       let numbers = neither (passes mostThreads (suc (liveIn (d .places)))) (passes mostNumbers (suc (d .threadNumbers))) full .1 in
       with-thread-numbers
       (with-places k _ (places-set (d .places) (k .places) (placeFor (d .threadNumbers) isFree (d .places)) _ zero-le))
       _ (within mostNumbers (suc (d .threadNumbers)) numbers)
 
-  keep-end : (a : ℕ) → Keeps (EndThread a)
+  keep-end : (a : ℕ) → Keeps (request.EndThread a)
   unfolding conditions update
   keep-end a e = at-place a (λ p. free) zero-le
 
-  keep-segment : (a b : ℕ) → Keeps (NewSegment a b)
+  keep-segment : (a b : ℕ) → Keeps (request.NewSegment a b)
   unfolding conditions update
   keep-segment a b e =
-      let full = all-fail (conditions compile d (NewSegment a b) text) e .1 .1 .0 in
+      let full = all-fail (conditions compile d (request.NewSegment a b) text) e .1 .1 .0 in
       let room = within mostSegments (suc (length (d .segments))) full in
       with-segments k _ (segments-add (d .segments) (k .segments) _ (record { listed = suc-le-suc zero-le; products = zero-le }) room)
 
-  keep-key : (a : ℕ) → Keeps (NewKey a)
+  keep-key : (a : ℕ) → Keeps (request.NewKey a)
   unfolding conditions update
   keep-key a e =
       let more : length (d .makers ++ a ∷ []) ≡ suc (length (d .makers)) = length-append-one (d .makers) a in
-      let full = all-fail (conditions compile d (NewKey a) text) e .1 .0 in
+      let full = all-fail (conditions compile d (request.NewKey a) text) e .1 .0 in
       let room : suc (length (d .makers)) ≤ mostDefined = within mostDefined (suc (length (d .makers))) full in
       with-makers k _ (omega arith)
 
-  keep-give : (a b c : ℕ) → Keeps (GiveKey a b c)
+  keep-give : (a b c : ℕ) → Keeps (request.GiveKey a b c)
   unfolding conditions update
   keep-give a b c e =
-      let full = all-fail (conditions compile d (GiveKey a b c) text) e .1 .1 .1 .1 .1 .0 in
+      let full = all-fail (conditions compile d (request.GiveKey a b c) text) e .1 .1 .1 .1 .1 .0 in
       let room = within mostListed (suc (length (segmentAt d b .keys))) full in
       on-segment b (giveKey c) (give-kept c (segmentAt d b) (k .segments .each b) room)
 
-  keep-take : (a b c : ℕ) → Keeps (TakeKey a b c)
+  keep-take : (a b c : ℕ) → Keeps (request.TakeKey a b c)
   unfolding conditions update
   keep-take a b c e = on-segment b (takeKey c) (take-kept c (segmentAt d b) (k .segments .each b))
 
-  keep-lock : (a b c : ℕ) → Keeps (AddLock a b c)
+  keep-lock : (a b c : ℕ) → Keeps (request.AddLock a b c)
   unfolding conditions update
   keep-lock a b c e =
       let ps = sumIn (compile (issued d) text) in
       let n = length (segmentAt d b .products) + length ps in
-      let full = all-fail (conditions compile d (AddLock a b c) text) e .1 .1 .1 .1 .1 .1 .1 .0 in
+      let full = all-fail (conditions compile d (request.AddLock a b c) text) e .1 .1 .1 .1 .1 .1 .1 .0 in
       let (products, numbers) = neither (passes mostStanding n) (passes mostNumbers (suc (d .lockNumbers))) full in
       let more = add-kept (d .lockNumbers) c ps (segmentAt d b) (k .segments .each b) (within mostStanding n products) in
       with-lock-numbers (with-segments k _ (segments-set (d .segments) (k .segments) b _ more)) _ (within mostNumbers (suc (d .lockNumbers)) numbers)
 
-  keep-drop : (a b : ℕ) → Keeps (DropLock a b)
+  keep-drop : (a b : ℕ) → Keeps (request.DropLock a b)
   unfolding conditions update
   keep-drop a b e = on-segment (homeOf d b) (dropProducts b) (drop-kept b (segmentAt d (homeOf d b)) (k .segments .each (homeOf d b)))
 
-  keep-call : (a b : ℕ) → Keeps (CallSegment a b)
+  keep-call : (a b : ℕ) → Keeps (request.CallSegment a b)
   unfolding conditions update
   keep-call a b e =
-      let full = all-fail (conditions compile d (CallSegment a b) text) e .1 .1 .1 .1 .1 .0 in
+      let full = all-fail (conditions compile d (request.CallSegment a b) text) e .1 .1 .1 .1 .1 .0 in
       let room = within mostFrames (suc (length (threadAt d a .frames))) full in
       let keys = segmentAt d b .keys in
       at-place a (onThread (pushFrame b keys)) (shallow-push b keys (getD (d .places) (placeOf a (d .places)) free) room)
 
-  keep-return : (a : ℕ) → Keeps (ReturnCall a)
+  keep-return : (a : ℕ) → Keeps (request.ReturnCall a)
   unfolding conditions update
   keep-return a e =
       let i = placeOf a (d .places) in
       at-place a (onThread popFrame) (shallow-pop (getD (d .places) i free) (k .places .frames i))
 
-  keep-access : (a b c : ℕ) → Keeps (Access a b c)
+  keep-access : (a b c : ℕ) → Keeps (request.Access a b c)
   unfolding conditions update
   keep-access a b c e = k
 
   keep-accepted : (q : Request) → Keeps q
-  keep-accepted NewUser = keep-user
-  keep-accepted (StartThread a) = keep-start a
-  keep-accepted (EndThread a) = keep-end a
-  keep-accepted (NewSegment a b) = keep-segment a b
-  keep-accepted (NewKey a) = keep-key a
-  keep-accepted (GiveKey a b c) = keep-give a b c
-  keep-accepted (TakeKey a b c) = keep-take a b c
-  keep-accepted (AddLock a b c) = keep-lock a b c
-  keep-accepted (DropLock a b) = keep-drop a b
-  keep-accepted (CallSegment a b) = keep-call a b
-  keep-accepted (ReturnCall a) = keep-return a
-  keep-accepted (Access a b c) = keep-access a b c
+  keep-accepted request.NewUser = keep-user
+  keep-accepted (request.StartThread a) = keep-start a
+  keep-accepted (request.EndThread a) = keep-end a
+  keep-accepted (request.NewSegment a b) = keep-segment a b
+  keep-accepted (request.NewKey a) = keep-key a
+  keep-accepted (request.GiveKey a b c) = keep-give a b c
+  keep-accepted (request.TakeKey a b c) = keep-take a b c
+  keep-accepted (request.AddLock a b c) = keep-lock a b c
+  keep-accepted (request.DropLock a b) = keep-drop a b
+  keep-accepted (request.CallSegment a b) = keep-call a b
+  keep-accepted (request.ReturnCall a) = keep-return a
+  keep-accepted (request.Access a b c) = keep-access a b c
 
   -- ---- each call, accepted or not
 

@@ -1,6 +1,6 @@
--- What is stored fits its cell: an accepted call stores fields of the call, numbers that its limits bound, codes of keys and literals with
--- numbers of 16 bits, and cells that were there; and a cell that is not stored stays. What it answers is such a number, or a count of a list
--- that the arrays bound.
+-- What is stored fits its cell: an accepted call stores fields of the call, numbers that its limits bound, codes of
+-- keys and literals with numbers of 16 bits, and cells that were there; and a cell that is not stored stays. What it
+-- answers is such a number, or a count of a list that the arrays bound.
 use mathlib.Core.Path.{_≡_, refl, sym, ap, subst}
 use mathlib.Core.Bool.{Bool, true, not}
 use mathlib.Core.List.{List, [], _∷_, _++_, map}
@@ -23,7 +23,7 @@ use Rattle.formula.specs.Meaning.{textHolds, Meaning}
 use Rattle.formula.specs.Compiler.{Compiler, Kept, Laws}
 use Rattle.formula.proofs.Opening.{laws}
 use Rattle.call.specs.declared.request.Request.{Request}
-use Rattle.call.specs.declared.request.Request.the-variants.{NewUser, StartThread, EndThread, NewSegment, NewKey, GiveKey, TakeKey, AddLock, DropLock, CallSegment, ReturnCall, Access}
+use Rattle.call.specs.declared.request.Request.the-variants as request
 use Rattle.call.specs.declared.request.Decoded.{Decoded}
 use Rattle.call.specs.declared.request.Decoded.the-variants.{WellFormed, Corrupt as NotWellFormed}
 use Rattle.call.specs.Calls.{Call, decoded}
@@ -296,21 +296,21 @@ module _ (compile : Compiler) (d : Cells) (c : Sized d) (k : Fitting d) (text : 
   abbrev Holds : Request → Type 0
   Holds q = Fields (callOf q text) → firstRefusal (conditions compile (stateOf d) q text) ≡ none → AcceptedFits q
 
-  fit-user : Holds NewUser
+  fit-user : Holds request.NewUser
   unfolding conditions store answer stateOf
   fit-user l e =
       let n : ℕ = cell (d .registry) userCount in
-      let room : suc n ≤ mostUsers = within mostUsers (suc n) (all-fail (conditions compile (stateOf d) NewUser text) e .0) in
+      let room : suc n ≤ mostUsers = within mostUsers (suc n) (all-fail (conditions compile (stateOf d) request.NewUser text) e .0) in
       record {
         stored = fitting-count k userCount (omega arith);
         answered = omega arith;
       }
 
-  fit-start : (a : ℕ) → Holds (StartThread a)
+  fit-start : (a : ℕ) → Holds (request.StartThread a)
   unfolding conditions store answer stateOf
   fit-start a l e =
       let n : ℕ = cell (d .registry) threadCount in
-      let full = all-fail (conditions compile (stateOf d) (StartThread a) text) e .1 .0 in
+      let full = all-fail (conditions compile (stateOf d) (request.StartThread a) text) e .1 .0 in
       let places : List Place = map placeIn (d .threads) in
       let room : suc n ≤ mostNumbers = within mostNumbers (suc n) (neither (passes mostThreads (suc (liveIn places))) _ full .1) in
       let i : ℕ = placeFor n isFree places in
@@ -328,20 +328,20 @@ module _ (compile : Compiler) (d : Cells) (c : Sized d) (k : Fitting d) (text : 
       let i : ℕ = placeOf a (stateOf d .places) in
       fitting-threads k _ (low-threads i f (h (tableAt (d .threads) i) (k .threads i)))
 
-  fit-end : (a : ℕ) → Holds (EndThread a)
+  fit-end : (a : ℕ) → Holds (request.EndThread a)
   unfolding store answer
   fit-end a l e =
       let deep = thread-fits a .depth in
       record { stored = at-thread a endThread (λ t h. low-cell word t h 0 liveCell 0 (omega arith)); answered = omega arith }
 
-  fit-return : (a : ℕ) → Holds (ReturnCall a)
+  fit-return : (a : ℕ) → Holds (request.ReturnCall a)
   unfolding store answer
   fit-return a l e = record { stored = at-thread a popRow pop-low; answered = thread-fits a .last }
 
-  fit-call : (a b : ℕ) → Holds (CallSegment a b)
+  fit-call : (a b : ℕ) → Holds (request.CallSegment a b)
   unfolding conditions store answer stateOf
   fit-call a b l e =
-      let f = all-fail (conditions compile (stateOf d) (CallSegment a b) text) e in
+      let f = all-fail (conditions compile (stateOf d) (request.CallSegment a b) text) e in
       let lt : b < count d c = handed d c b (f .1 .0) in
       let g : Table = tableAt (d .segments) b in
       record {
@@ -349,17 +349,17 @@ module _ (compile : Compiler) (d : Cells) (c : Sized d) (k : Fitting d) (text : 
         answered = opening-low grants a b execute;
       }
 
-  fit-access : (a b o : ℕ) → Holds (Access a b o)
+  fit-access : (a b o : ℕ) → Holds (request.Access a b o)
   unfolding conditions store answer stateOf
   fit-access a b o l e =
-      let f = all-fail (conditions compile (stateOf d) (Access a b o) text) e in
+      let f = all-fail (conditions compile (stateOf d) (request.Access a b o) text) e in
       record { stored = k; answered = opening-low grants a b o }
 
-  fit-segment : (a b : ℕ) → Holds (NewSegment a b)
+  fit-segment : (a b : ℕ) → Holds (request.NewSegment a b)
   unfolding conditions store answer stateOf
   fit-segment a b l e =
       let s : ℕ = cell (d .registry) segmentCount in
-      let f = all-fail (conditions compile (stateOf d) (NewSegment a b) text) e in
+      let f = all-fail (conditions compile (stateOf d) (request.NewSegment a b) text) e in
       let many : length (stateOf d .segments) ≡ count d c = length-segments d c in
       let room : suc (length (stateOf d .segments)) ≤ mostSegments = within mostSegments (suc (length (stateOf d .segments))) (f .1 .1 .0) in
       record {
@@ -372,14 +372,14 @@ module _ (compile : Compiler) (d : Cells) (c : Sized d) (k : Fitting d) (text : 
         answered = omega arith;
       }
 
-  fit-key : (a : ℕ) → Holds (NewKey a)
+  fit-key : (a : ℕ) → Holds (request.NewKey a)
   unfolding conditions store answer stateOf
   fit-key a l e =
       let n : ℕ = cell (d .registry) definedCount in
       let made : List ℕ = take (min n mostDefined) (d .makers) in
       let many : length made ≡ min (min n mostDefined) (length (d .makers)) = length-take (min n mostDefined) (d .makers) in
       let size : length (d .makers) ≡ mostDefined = c .makers in
-      let room : suc (length made) ≤ mostDefined = within mostDefined (suc (length made)) (all-fail (conditions compile (stateOf d) (NewKey a) text) e .1 .0) in
+      let room : suc (length made) ≤ mostDefined = within mostDefined (suc (length made)) (all-fail (conditions compile (stateOf d) (request.NewKey a) text) e .1 .0) in
       record {
         stored = fitting-count (fitting-makers k _ (low-set word (d .makers) (k .makers) n a (l .a))) definedCount (omega arith);
         answered = omega arith;
@@ -389,10 +389,10 @@ module _ (compile : Compiler) (d : Cells) (c : Sized d) (k : Fitting d) (text : 
   at-segment : (s : ℕ) (f : Table → Table) → LowRows word (f (tableAt (d .segments) s)) → Fitting (segmentsAre (onTable (d .segments) s f) d)
   at-segment s f h = fitting-segments k _ (low-segments s _ h)
 
-  fit-give : (a b n : ℕ) → Holds (GiveKey a b n)
+  fit-give : (a b n : ℕ) → Holds (request.GiveKey a b n)
   unfolding conditions store answer stateOf
   fit-give a b n l e =
-      let f = all-fail (conditions compile (stateOf d) (GiveKey a b n) text) e in
+      let f = all-fail (conditions compile (stateOf d) (request.GiveKey a b n) text) e in
       let made : List ℕ = take (min (cell (d .registry) definedCount) mostDefined) (d .makers) in
       let many : length made ≡ min (min (cell (d .registry) definedCount) mostDefined) (length (d .makers)) = length-take (min (cell (d .registry) definedCount) mostDefined) (d .makers) in
       let low : n < length made = ltb-true n (length made) (not-false _ (f .1 .1 .0)) in
@@ -404,10 +404,10 @@ module _ (compile : Compiler) (d : Cells) (c : Sized d) (k : Fitting d) (text : 
         answered = omega arith;
       }
 
-  fit-take : (a b n : ℕ) → Holds (TakeKey a b n)
+  fit-take : (a b n : ℕ) → Holds (request.TakeKey a b n)
   unfolding conditions store answer stateOf
   fit-take a b n l e =
-      let f = all-fail (conditions compile (stateOf d) (TakeKey a b n) text) e in
+      let f = all-fail (conditions compile (stateOf d) (request.TakeKey a b n) text) e in
       let keys : List Key = segmentAt (stateOf d) b .keys in
       let few : length keys ≤ mostListed = segment-fits b (handed d c b (f .1 .0)) .listed in
       let fewer : length (keep (λ j. not (sameKey (Defined n) j)) keys) ≤ length keys = length-keep (λ j. not (sameKey (Defined n) j)) keys in
@@ -416,10 +416,10 @@ module _ (compile : Compiler) (d : Cells) (c : Sized d) (k : Fitting d) (text : 
         answered = omega arith;
       }
 
-  fit-drop : (a n : ℕ) → Holds (DropLock a n)
+  fit-drop : (a n : ℕ) → Holds (request.DropLock a n)
   unfolding conditions store answer stateOf
   fit-drop a n l e =
-      let there : isLock (stateOf d) n ≡ true = not-false _ (all-fail (conditions compile (stateOf d) (DropLock a n) text) e .1 .0) in
+      let there : isLock (stateOf d) n ≡ true = not-false _ (all-fail (conditions compile (stateOf d) (request.DropLock a n) text) e .1 .0) in
       let s : ℕ = homeOf (stateOf d) n in
       let many : length (stateOf d .segments) ≡ count d c = length-segments d c in
       let inside : s < length (stateOf d .segments) = indexOf-lt (hasLock n) (stateOf d .segments) there in
@@ -431,11 +431,11 @@ module _ (compile : Compiler) (d : Cells) (c : Sized d) (k : Fitting d) (text : 
         answered = omega arith;
       }
 
-  fit-lock : (holds : Meaning) → Laws compile holds → (a b o : ℕ) → Holds (AddLock a b o)
+  fit-lock : (holds : Meaning) → Laws compile holds → (a b o : ℕ) → Holds (request.AddLock a b o)
   unfolding conditions store answer stateOf
   fit-lock holds law a b o l e =
       let n : ℕ = cell (d .registry) lockCount in
-      let f = all-fail (conditions compile (stateOf d) (AddLock a b o) text) e in
+      let f = all-fail (conditions compile (stateOf d) (request.AddLock a b o) text) e in
       let i = issued (stateOf d) in
       let ps : Sum = sumIn (compile i text) in
       let is = compiled (compile i text) (f .1 .1 .1 .1 .0) (f .1 .1 .1 .1 .1 .0) (f .1 .1 .1 .1 .1 .1 .0) in
@@ -451,18 +451,18 @@ module _ (compile : Compiler) (d : Cells) (c : Sized d) (k : Fitting d) (text : 
       }
 
   fit-accepted : (holds : Meaning) → Laws compile holds → (q : Request) → Holds q
-  fit-accepted holds law NewUser = fit-user
-  fit-accepted holds law (StartThread a) = fit-start a
-  fit-accepted holds law (EndThread a) = fit-end a
-  fit-accepted holds law (NewSegment a b) = fit-segment a b
-  fit-accepted holds law (NewKey a) = fit-key a
-  fit-accepted holds law (GiveKey a b n) = fit-give a b n
-  fit-accepted holds law (TakeKey a b n) = fit-take a b n
-  fit-accepted holds law (AddLock a b o) = fit-lock holds law a b o
-  fit-accepted holds law (DropLock a b) = fit-drop a b
-  fit-accepted holds law (CallSegment a b) = fit-call a b
-  fit-accepted holds law (ReturnCall a) = fit-return a
-  fit-accepted holds law (Access a b o) = fit-access a b o
+  fit-accepted holds law request.NewUser = fit-user
+  fit-accepted holds law (request.StartThread a) = fit-start a
+  fit-accepted holds law (request.EndThread a) = fit-end a
+  fit-accepted holds law (request.NewSegment a b) = fit-segment a b
+  fit-accepted holds law (request.NewKey a) = fit-key a
+  fit-accepted holds law (request.GiveKey a b n) = fit-give a b n
+  fit-accepted holds law (request.TakeKey a b n) = fit-take a b n
+  fit-accepted holds law (request.AddLock a b o) = fit-lock holds law a b o
+  fit-accepted holds law (request.DropLock a b) = fit-drop a b
+  fit-accepted holds law (request.CallSegment a b) = fit-call a b
+  fit-accepted holds law (request.ReturnCall a) = fit-return a
+  fit-accepted holds law (request.Access a b o) = fit-access a b o
 
   -- a refused request: only 14 has a second number
 
@@ -474,18 +474,18 @@ module _ (compile : Compiler) (d : Cells) (c : Sized d) (k : Fitting d) (text : 
 
   seconds : (q : Request) → Seconds q
   unfolding conditions
-  seconds NewUser = (omega arith, tt)
-  seconds (StartThread a) = (omega arith, (omega arith, tt))
-  seconds (EndThread a) = (omega arith, tt)
-  seconds (NewSegment a b) = (omega arith, (omega arith, (omega arith, tt)))
-  seconds (NewKey a) = (omega arith, (omega arith, tt))
-  seconds (GiveKey a b o) = (omega arith, (omega arith, (omega arith, (omega arith, (omega arith, (omega arith, tt))))))
-  seconds (TakeKey a b o) = (omega arith, (omega arith, (omega arith, (omega arith, (omega arith, tt)))))
-  seconds (AddLock a b o) = (omega arith, (omega arith, (omega arith, (omega arith, (omega arith, (omega arith, (omega arith, (omega arith, tt))))))))
-  seconds (DropLock a b) = (omega arith, (omega arith, (omega arith, tt)))
-  seconds (CallSegment a b) = (omega arith, (omega arith, (omega arith, (opening-low denies a b execute, (omega arith, (omega arith, tt))))))
-  seconds (ReturnCall a) = (omega arith, (omega arith, tt))
-  seconds (Access a b o) = (omega arith, (omega arith, (omega arith, (opening-low denies a b o, (omega arith, tt)))))
+  seconds request.NewUser = (omega arith, tt)
+  seconds (request.StartThread a) = (omega arith, (omega arith, tt))
+  seconds (request.EndThread a) = (omega arith, tt)
+  seconds (request.NewSegment a b) = (omega arith, (omega arith, (omega arith, tt)))
+  seconds (request.NewKey a) = (omega arith, (omega arith, tt))
+  seconds (request.GiveKey a b o) = (omega arith, (omega arith, (omega arith, (omega arith, (omega arith, (omega arith, tt))))))
+  seconds (request.TakeKey a b o) = (omega arith, (omega arith, (omega arith, (omega arith, (omega arith, tt)))))
+  seconds (request.AddLock a b o) = (omega arith, (omega arith, (omega arith, (omega arith, (omega arith, (omega arith, (omega arith, (omega arith, tt))))))))
+  seconds (request.DropLock a b) = (omega arith, (omega arith, (omega arith, tt)))
+  seconds (request.CallSegment a b) = (omega arith, (omega arith, (omega arith, (opening-low denies a b execute, (omega arith, (omega arith, tt))))))
+  seconds (request.ReturnCall a) = (omega arith, (omega arith, tt))
+  seconds (request.Access a b o) = (omega arith, (omega arith, (omega arith, (opening-low denies a b o, (omega arith, tt)))))
 
 -- ---- every call, accepted or not
 

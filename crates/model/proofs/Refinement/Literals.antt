@@ -1,5 +1,5 @@
--- A literal is read back from its code: the range of the code says its kind and its sign, the rest of it is its number, which is in range since
--- its key was handed out.
+-- A literal is read back from its code: the range of the code says its kind and its sign, the rest of it is its number,
+-- which is in range since its key was handed out.
 use mathlib.Core.Path.{_≡_, ap, _∙_}
 use mathlib.Core.Bool.{Bool, true, false, cond}
 use Prim.Native.Nat.{ℕ, _+_, _-_, _/_, _%_, _≤_, _<_}

@@ -1,5 +1,5 @@
--- Product rows: rows that are stored after the used ones, and an end after them, are the used rows then; and a product is read back from its
--- row, which is used because no lock is without operations.
+-- Product rows: rows that are stored after the used ones, and an end after them, are the used rows then; and a product
+-- is read back from its row, which is used because no lock is without operations.
 use mathlib.Core.Path.{_≡_, refl, sym, ap, ap₂, subst, _∙_}
 use mathlib.Core.Bool.{Bool, true, false, not}
 use mathlib.Core.List.{List, [], _∷_, _++_, map}

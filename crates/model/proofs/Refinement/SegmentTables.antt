@@ -1,5 +1,5 @@
--- A segment's tables after N, G, T, L and D hold the segment that the model leaves: its own S key stands first, so a list that is closed up keeps
--- it, and products are stored after those that stand.
+-- A segment's tables after N, G, T, L and D hold the segment that the model leaves: its own S key stands first, so a
+-- list that is closed up keeps it, and products are stored after those that stand.
 use mathlib.Core.Path.{_≡_, refl, sym, ap, ap₂, _∙_}
 use mathlib.Core.Bool.{Bool, true, false, not}
 use mathlib.Core.List.{List, [], _∷_, _++_, map, append-nil}

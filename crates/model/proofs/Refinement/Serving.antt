@@ -1,5 +1,6 @@
--- How a function of the guard meets its promise: a refusal is the first condition that holds, and leaves the arrays; an accepted call's answer and
--- arrays are the definitions'. And what the tests that the code makes on the arrays say of the state that they hold.
+-- How a function of the guard meets its promise: a refusal is the first condition that holds, and leaves the arrays; an
+-- accepted call's answer and arrays are the definitions'. And what the tests that the code makes on the arrays say of
+-- the state that they hold.
 use mathlib.Core.Path.{_≡_, refl, sym, ap, _∙_}
 use mathlib.Core.Bool.{Bool, true, false}
 use mathlib.Core.List.{List}

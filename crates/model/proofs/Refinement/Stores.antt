@@ -1,5 +1,5 @@
--- The arrays hold the model: for each request, what is stored is read back as what the model changes, and the sizes stay. Then every call, and
--- every list of calls.
+-- The arrays hold the model: for each request, what is stored is read back as what the model changes, and the sizes
+-- stay. Then every call, and every list of calls.
 use mathlib.Core.Path.{_≡_, refl, sym, ap, ap₂, _∙_}
 use mathlib.Core.Bool.{true, false, _||_, not, false≢true}
 use mathlib.Core.List.{List, [], _∷_, _++_, map}
@@ -18,7 +18,7 @@ use Rattle.formula.specs.Meaning.{textHolds, Meaning}
 use Rattle.formula.specs.Compiler.{Compiler, Laws}
 use Rattle.formula.proofs.Opening.{laws}
 use Rattle.call.specs.declared.request.Request.{Request}
-use Rattle.call.specs.declared.request.Request.the-variants.{NewUser, StartThread, EndThread, NewSegment, NewKey, GiveKey, TakeKey, AddLock, DropLock, CallSegment, ReturnCall, Access}
+use Rattle.call.specs.declared.request.Request.the-variants as request
 use Rattle.call.specs.declared.request.Decoded.{Decoded}
 use Rattle.call.specs.declared.request.Decoded.the-variants.{WellFormed, Corrupt as NotWellFormed}
 use Rattle.call.specs.Calls.{Call, decoded}
@@ -216,7 +216,7 @@ module _ (d : Cells) (c : Sized d) where
     abbrev Holds : Request → Type 0
     Holds q = firstRefusal (conditions compile (stateOf d) q text) ≡ none → Stored q
 
-    store-user : Holds NewUser
+    store-user : Holds request.NewUser
     unfolding conditions update store stateOf
     store-user e =
         let n = uncounted (d .registry) (c .registry) in
@@ -227,10 +227,10 @@ module _ (d : Cells) (c : Sized d) where
           sized = sized-count c 0;
         }
 
-    store-start : (a : ℕ) → Holds (StartThread a)
+    store-start : (a : ℕ) → Holds (request.StartThread a)
     unfolding conditions update store stateOf
     store-start a e =
-        let f = all-fail (conditions compile (stateOf d) (StartThread a) text) e in
+        let f = all-fail (conditions compile (stateOf d) (request.StartThread a) text) e in
         let r = d .registry in
         let k = cell r 1 in
         let n = uncounted r (c .registry) in
@@ -260,27 +260,27 @@ module _ (d : Cells) (c : Sized d) where
     alive : (a : ℕ) → not (isSome (findThread a places)) ≡ false → Lives a places
     alive a h = lives a places (not-false _ h)
 
-    store-end : (a : ℕ) → Holds (EndThread a)
+    store-end : (a : ℕ) → Holds (request.EndThread a)
     unfolding conditions update store stateOf
     store-end a e =
-        let p = alive a (all-fail (conditions compile (stateOf d) (EndThread a) text) e .0) in
+        let p = alive a (all-fail (conditions compile (stateOf d) (request.EndThread a) text) e .0) in
         let s = mine-shaped a p in
         let x = thread-stored a p endThread (λ x. free) (end-place (mine a p) (let l = s .rows in omega arith) (s .cells 0 (omega arith))) (shaped-cell 17 (mine a p) s 0 3 0 (omega arith)) in
         record { state = x .0; sized = x .1 }
 
-    store-return : (a : ℕ) → Holds (ReturnCall a)
+    store-return : (a : ℕ) → Holds (request.ReturnCall a)
     unfolding conditions update store stateOf
     store-return a e =
-        let p = alive a (all-fail (conditions compile (stateOf d) (ReturnCall a) text) e .0) in
+        let p = alive a (all-fail (conditions compile (stateOf d) (request.ReturnCall a) text) e .0) in
         let s = mine-shaped a p in
         let x = thread-stored a p popRow (onThread popFrame) (pop-place (mine a p) (s .rows) (s .cells 0 (omega arith))) (shaped-cell 17 (mine a p) s 0 2 _ (omega arith)) in
         record { state = x .0; sized = x .1 }
 
-    store-access : (a b o : ℕ) → Holds (Access a b o)
+    store-access : (a b o : ℕ) → Holds (request.Access a b o)
     unfolding conditions update store stateOf
     store-access a b o e = record { state = refl; sized = c }
 
-    store-key : (a : ℕ) → Holds (NewKey a)
+    store-key : (a : ℕ) → Holds (request.NewKey a)
     unfolding conditions update store stateOf
     store-key a e =
         let r = d .registry in
@@ -288,7 +288,7 @@ module _ (d : Cells) (c : Sized d) where
         let n = uncounted r (c .registry) in
         let m = take (min k 1024) (d .makers) in
         let l : length m ≡ min k 1024 = length-take (min k 1024) (d .makers) ∙ min-eq-left (let q = c .makers in omega arith) in
-        let room : suc (length m) ≤ 1024 = within 1024 (suc (length m)) (all-fail (conditions compile (stateOf d) (NewKey a) text) e .1 .0) in
+        let room : suc (length m) ≤ 1024 = within 1024 (suc (length m)) (all-fail (conditions compile (stateOf d) (request.NewKey a) text) e .1 .0) in
         let old : min k 1024 ≡ k = omega arith in
         let more : min (suc k) 1024 ≡ suc k = omega arith in
         record {
@@ -305,10 +305,10 @@ module _ (d : Cells) (c : Sized d) where
     listed-row : (b : ℕ) → b < count → length (listRow b (tableAt (d .segments) b)) ≡ 8
     listed-row b lt = length-set (rowAt (tableAt (d .segments) b) 1) 0 b ∙ segment-shaped b lt .cells 1 (omega arith)
 
-    store-call : (a b : ℕ) → Holds (CallSegment a b)
+    store-call : (a b : ℕ) → Holds (request.CallSegment a b)
     unfolding conditions update store stateOf
     store-call a b e =
-        let f = all-fail (conditions compile (stateOf d) (CallSegment a b) text) e in
+        let f = all-fail (conditions compile (stateOf d) (request.CallSegment a b) text) e in
         let p = alive a (f .0) in
         let s = mine-shaped a p in
         let lt = handed b (f .1 .0) in
@@ -326,10 +326,10 @@ module _ (d : Cells) (c : Sized d) where
         (shaped-cell 17 _ (shaped-row 17 (mine a p) s (suc (depthOf (mine a p))) w (listed-row b lt)) 0 2 _ (omega arith)) in
         record { state = x .0; sized = x .1 }
 
-    store-segment : (a b : ℕ) → Holds (NewSegment a b)
+    store-segment : (a b : ℕ) → Holds (request.NewSegment a b)
     unfolding conditions update store stateOf
     store-segment a b e =
-        let f = all-fail (conditions compile (stateOf d) (NewSegment a b) text) e in
+        let f = all-fail (conditions compile (stateOf d) (request.NewSegment a b) text) e in
         let r = d .registry in
         let s = cell r 2 in
         let n = uncounted r (c .registry) in
@@ -339,7 +339,7 @@ module _ (d : Cells) (c : Sized d) where
         let more : min (suc s) 64 ≡ suc s = omega arith in
         let g = tableAt (d .segments) s in
         let t = tableAt (d .locks) s in
-        let d′ = store compile d (NewSegment a b) text in
+        let d′ = store compile d (request.NewSegment a b) text in
         let zero-on : 0 + s ≡ s = omega arith in
         let tables : tableAt (d′ .segments) s ≡ newSegment s a b = getD-set-same (d .segments) s _ [] (let q = c .segments .count in omega arith) in
         let rows : tableAt (d′ .locks) s ≡ endRows t 0 = getD-set-same (d .locks) s _ [] (let q = c .locks .count in omega arith) in
@@ -387,10 +387,10 @@ module _ (d : Cells) (c : Sized d) where
         let sh = segment-shaped s lt in
         shaped-row 2 (tableAt (d .segments) s) sh 1 w (ap length (sym (getD-set-same (tableAt (d .segments) s) 1 w [] (let q = sh .rows in omega arith))) ∙ l)
 
-    store-give : (a b k : ℕ) → Holds (GiveKey a b k)
+    store-give : (a b k : ℕ) → Holds (request.GiveKey a b k)
     unfolding conditions update store stateOf
     store-give a b k e =
-        let f = all-fail (conditions compile (stateOf d) (GiveKey a b k) text) e in
+        let f = all-fail (conditions compile (stateOf d) (request.GiveKey a b k) text) e in
         let lt = handed b (f .1 .0) in
         let g = tableAt (d .segments) b in
         let sh = segment-shaped b lt in
@@ -403,10 +403,10 @@ module _ (d : Cells) (c : Sized d) where
         (relisted b lt _ (give-sizes b k g (sh .cells 1 (omega arith)) (omega arith))) in
         record { state = x .0; sized = x .1 }
 
-    store-take : (a b k : ℕ) → Holds (TakeKey a b k)
+    store-take : (a b k : ℕ) → Holds (request.TakeKey a b k)
     unfolding conditions update store stateOf
     store-take a b k e =
-        let f = all-fail (conditions compile (stateOf d) (TakeKey a b k) text) e in
+        let f = all-fail (conditions compile (stateOf d) (request.TakeKey a b k) text) e in
         let lt = handed b (f .1 .0) in
         let g = tableAt (d .segments) b in
         let sh = segment-shaped b lt in
@@ -426,10 +426,10 @@ module _ (d : Cells) (c : Sized d) where
     rows-sized : (s : ℕ) (r : Row) (f : Table → Table) → length r ≡ 8 → Shaped 8 (f (tableAt (d .locks) s)) → Sized (registryIs r (locksAre (onTable (d .locks) s f) d))
     rows-sized s r f l sh = sized-registry (sized-locks c _ (tables-set 64 8 (d .locks) (c .locks) s _ (λ u. sh))) r l
 
-    store-drop : (a n : ℕ) → Holds (DropLock a n)
+    store-drop : (a n : ℕ) → Holds (request.DropLock a n)
     unfolding conditions update store stateOf
     store-drop a n e =
-        let there : isLock (stateOf d) n ≡ true = not-false _ (all-fail (conditions compile (stateOf d) (DropLock a n) text) e .1 .0) in
+        let there : isLock (stateOf d) n ≡ true = not-false _ (all-fail (conditions compile (stateOf d) (request.DropLock a n) text) e .1 .0) in
         let s = indexOf (hasLock n) segments in
         let lt : s < count = let l = length-segments in let i = indexOf-lt (hasLock n) segments there in omega arith in
         let t = tableAt (d .locks) s in
@@ -441,10 +441,10 @@ module _ (d : Cells) (c : Sized d) where
               (record { rows = length-dropRows n t ∙ sh .rows; cells = λ j l. drop-sizes j n t (sh .rows) (sh .cells) l });
         }
 
-    store-lock : (holds : Meaning) → Laws compile holds → (a b o : ℕ) → Holds (AddLock a b o)
+    store-lock : (holds : Meaning) → Laws compile holds → (a b o : ℕ) → Holds (request.AddLock a b o)
     unfolding conditions update store stateOf
     store-lock holds law a b o e =
-        let f = all-fail (conditions compile (stateOf d) (AddLock a b o) text) e in
+        let f = all-fail (conditions compile (stateOf d) (request.AddLock a b o) text) e in
         let lt = handed b (f .1 .0) in
         let i = issued (stateOf d) in
         let x = compile i text in
@@ -479,18 +479,18 @@ module _ (d : Cells) (c : Sized d) where
         }
 
     store-all : (holds : Meaning) → Laws compile holds → (q : Request) → Holds q
-    store-all holds law NewUser = store-user
-    store-all holds law (StartThread a) = store-start a
-    store-all holds law (EndThread a) = store-end a
-    store-all holds law (NewSegment a b) = store-segment a b
-    store-all holds law (NewKey a) = store-key a
-    store-all holds law (GiveKey a b k) = store-give a b k
-    store-all holds law (TakeKey a b k) = store-take a b k
-    store-all holds law (AddLock a b o) = store-lock holds law a b o
-    store-all holds law (DropLock a b) = store-drop a b
-    store-all holds law (CallSegment a b) = store-call a b
-    store-all holds law (ReturnCall a) = store-return a
-    store-all holds law (Access a b o) = store-access a b o
+    store-all holds law request.NewUser = store-user
+    store-all holds law (request.StartThread a) = store-start a
+    store-all holds law (request.EndThread a) = store-end a
+    store-all holds law (request.NewSegment a b) = store-segment a b
+    store-all holds law (request.NewKey a) = store-key a
+    store-all holds law (request.GiveKey a b k) = store-give a b k
+    store-all holds law (request.TakeKey a b k) = store-take a b k
+    store-all holds law (request.AddLock a b o) = store-lock holds law a b o
+    store-all holds law (request.DropLock a b) = store-drop a b
+    store-all holds law (request.CallSegment a b) = store-call a b
+    store-all holds law (request.ReturnCall a) = store-return a
+    store-all holds law (request.Access a b o) = store-access a b o
 
 -- ---- every call, and every list of calls
 

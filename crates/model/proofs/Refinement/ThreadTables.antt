@@ -1,5 +1,5 @@
--- A thread's table after S, E, C and R holds the place that the call leaves: each store is read back, and the rows of the other frames stay.
---
+-- A thread's table after S, E, C and R holds the place that the call leaves: each store is read back, and the rows of
+-- the other frames stay.
 use mathlib.Core.Path.{_≡_, refl, sym, ap, ap₂, _∙_}
 use mathlib.Core.Bool.{true, false}
 use mathlib.Core.List.{List, [], _∷_}

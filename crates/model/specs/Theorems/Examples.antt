@@ -1,6 +1,7 @@
--- Worked examples, on the arrays and with the compiler that there is: the calls of document 01's starred trials under 'Trial desks' (marked *), which
--- stand as one theorem, with what is printed, in `StarredTrials` of the crate `lines`; a few more; and lists of calls after which the premises of
--- `Granting` hold. Proved in `proofs/Examples.antt`, by computing.
+-- Worked examples, on the arrays and with the compiler that there is: the calls of document 01's starred trials under
+-- 'Trial desks' (marked *), which stand as one theorem, with what is printed, in `StarredTrials` of the crate `lines`;
+-- a few more; and lists of calls after which the premises of `Granting` hold. Proved in `proofs/Examples.antt`, by
+-- computing.
 use mathlib.Core.Path.{_≡_}
 use mathlib.Core.Bool.{true}
 use mathlib.Core.List.{List, [], _∷_, _++_}
@@ -19,7 +20,7 @@ use Rattle.model.specs.Cells.{stateOf}
 use Rattle.model.specs.History.{History}
 use Rattle.model.specs.HistoryCheck.{calls, accesses, Fits}
 use Rattle.model.specs.Replay.{reached, historyOf}
-use Rattle.model.specs.Letters.{Expected, U, S, E, N, K, G, T, L, D, C, R, A, ok, no, callsOf, Happens}
+use Rattle.model.specs.Notation.{Expected, U, S, E, N, K, G, T, L, D, C, R, A, ok, no, callsOf, Happens}
 
 -- * the sixteen records: the totals, segment 2, may be saved only by way of segments 0 and 1
 abbrev pub route : List Expected
@@ -104,8 +105,8 @@ back =
     ∷ no (A 0 2 2) 15 0
     ∷ []
 
--- 'The 16th open call is accepted; a 17th that a grant lock and no deny lock opens is 10, one without a lock 15.' Returned from, the place is used
--- again; and all sixteen are closed at the end.
+-- 'The 16th open call is accepted; a 17th that a grant lock and no deny lock opens is 10, one without a lock 15.'
+-- Returned from, the place is used again; and all sixteen are closed at the end.
 abbrev pub deep : List Expected
 deep =
     ok U 0
@@ -121,8 +122,8 @@ deep =
     ∷ ok (E 0) 16
     ∷ []
 
--- A key is given, and taken while a call that handed it over is open. The open call keeps it, so a deny lock on it still opens, until that is
--- dropped. Then the grant lock is dropped, and then the thread ended.
+-- A key is given, and taken while a call that handed it over is open. The open call keeps it, so a deny lock on it
+-- still opens, until that is dropped. Then the grant lock is dropped, and then the thread ended.
 abbrev pub edits : List Expected
 edits =
     ok U 0
@@ -142,7 +143,8 @@ edits =
     ∷ ok (E 0) 2
     ∷ []
 
--- what is stored of two locks on segment 0 with one dropped between them, and of one on segment 1; no thread ever has the keys U0 and U1 both
+-- what is stored of two locks on segment 0 with one dropped between them, and of one on segment 1; no thread ever has
+-- the keys U0 and U1 both
 abbrev pub standing : List Expected
 standing =
     ok U 0
@@ -182,7 +184,8 @@ pub record Examples : Type 0 where
       ∷ lockProduct 3 9 (Plain (SegmentKey 1) ∷ [])
       ∷ []
   pub standingSheet : productsOn 1 ≡ lockProduct 2 6 (Barred (Defined 0) ∷ []) ∷ []
-  -- the premises of `Granting` hold before the first C of the route, before its first A, which is granted, and before its last, which isn't
+  -- the premises of `Granting` hold before the first C of the route, before its first A, which is granted, and before
+  -- its last, which isn't
   pub callFits : Fits (before 9) (C 0 0) (calls 0 0)
   pub callLive : before 9 .threads 0 ≡ some (record { user = 0; frames = [] })
   pub accessFits : Fits (before 12) (A 0 2 4) (accesses 0 2 4)

@@ -1,8 +1,9 @@
--- Demand 3: 'For every list of the twelve calls (U, S, E, N, K, G, T, L, D, C, R and A), in any order and refused ones included, from an empty
--- desk: after it a live run's fitting next operation, a C or an A, is granted exactly when no deny lock then standing for it opens, some grant
--- lock standing for it does and, for a C, fewer than sixteen of the run's calls are open. .. Opening is judged on the run's two identity keys
--- and what each still open call handed over when made. Live runs, segments, standing locks, open calls and keys are all read from the history
--- of calls and answers alone.' Proved in `proofs/Granting.antt`.
+-- Demand 3: 'For every list of the twelve calls (U, S, E, N, K, G, T, L, D, C, R and A), in any order and refused ones
+-- included, from an empty desk: after it a live run's fitting next operation, a C or an A, is granted exactly when no
+-- deny lock then standing for it opens, some grant lock standing for it does and, for a C, fewer than sixteen of the
+-- run's calls are open. .. Opening is judged on the run's two identity keys and what each still open call handed over
+-- when made. Live runs, segments, standing locks, open calls and keys are all read from the history of calls and
+-- answers alone.' Proved in `proofs/Granting.antt`.
 use mathlib.Core.Path.{_≡_}
 use mathlib.Core.Bool.{true}
 use mathlib.Core.List.{List}
@@ -23,8 +24,9 @@ use Rattle.model.specs.History.{Event, history, handsOut, acceptedOf}
 use Rattle.model.specs.Replay.{events, answerTo}
 use Rattle.model.specs.HistoryCheck.{Operation, threadOf, Fits, granted, Granted, answerFrom}
 
--- What the events before the next call say of its answer r: whether it is granted, as an equation and in words ('Granted means accepted'), and its
--- whole answer; and 'the number that an accepted U, S, N, K or L answers is the count of that letter's accepted calls earlier in the list'.
+-- What the events before the next call say of its answer r: whether it is granted, as an equation and in words
+-- ('Granted means accepted'), and its whole answer; and 'the number that an accepted U, S, N, K or L answers is the
+-- count of that letter's accepted calls earlier in the list'.
 pub record Grants (holds : Meaning) (es : List Event) (next : Call) (r : Answer) : Type 0 where
   pub equation : (o : Operation) (t : Thread) → Fits (history es) next o → history es .threads (threadOf o) ≡ some t
       → isAccepted r ≡ granted holds (history es) o t

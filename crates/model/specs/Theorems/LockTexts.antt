@@ -1,6 +1,7 @@
--- Demand 2: 'a text that fits, in a call that no earlier number refuses, is refused as void exactly when no key set opens it.' And demand 1 of the
--- other numbers that an L's text can get, 11, 12 and 10: each is given exactly where its condition holds and no earlier one does, all read from the list
--- of calls and answers before the L. Proved in `proofs/LockTexts.antt`.
+-- Demand 2: 'a text that fits, in a call that no earlier number refuses, is refused as void exactly when no key set
+-- opens it.' And demand 1 of the other numbers that an L's text can get, 11, 12 and 10: each is given exactly where its
+-- condition holds and no earlier one does, all read from the list of calls and answers before the L. Proved in
+-- `proofs/LockTexts.antt`.
 use mathlib.Core.Path.{_≡_}
 use mathlib.Core.Bool.{true, false}
 use mathlib.Core.List.{List}
@@ -16,7 +17,8 @@ use Rattle.formula.specs.Outcome.{outcomeOf}
 use Rattle.formula.specs.Refusals.{Wide, Never}
 use Rattle.call.specs.declared.request.Request.the-variants.{AddLock}
 use Rattle.call.specs.declared.request.Decoded.the-variants.{WellFormed}
-use Rattle.call.specs.Calls.{letterU, letterL, Call, decoded}
+use Rattle.call.specs.Calls.{Call, decoded}
+use Rattle.call.specs.Letters as letters
 use Rattle.model.specs.declared.answer.Refusal.the-variants.{Full, Malformed, TooWide, Unsatisfiable}
 use Rattle.model.specs.declared.answer.Answer.{Answer}
 use Rattle.model.specs.declared.answer.Answer.the-variants.{Refused}
@@ -27,10 +29,10 @@ use Rattle.model.specs.History.{Event, Entry, history, acceptedOf, issue
 use Rattle.model.specs.Replay.{events, answerTo}
 use Rattle.model.specs.HistoryLocks.{standingProducts}
 
--- 'in a call that no earlier number refuses', of an L with fields a, b and c: user a is handed out, segment b is handed out and his, and it takes the
--- operations c
+-- 'in a call that no earlier number refuses', of an L with fields a, b and c: user a is handed out, segment b is handed
+-- out and his, and it takes the operations c
 pub record Allowed (es : List Event) (a b c : ℕ) : Type 0 where
-  pub user : a < acceptedOf letterU es
+  pub user : a < acceptedOf letters.U es
   pub entry : Entry
   pub segment : history es .segments b ≡ some entry
   pub owner : entry .owner ≡ a
@@ -43,12 +45,14 @@ pub record Satisfiable (i : Issued) (s : List ℕ) : Type 0 where
   pub fit : fits false tree ≡ true
   pub true-for : (keys : KeySet) × (holds keys tree ≡ true)
 
--- '8 products in all standing locks of a segment', '65,536 .. lock numbers': there is room on segment b for a lock of n products
+-- '8 products in all standing locks of a segment', '65,536 .. lock numbers': there is room on segment b for a lock of n
+-- products
 pub record Room (es : List Event) (b n : ℕ) : Type 0 where
   pub products : standingProducts outcomeOf es b + n ≤ 8
-  pub numbers : acceptedOf letterL es < 65536
+  pub numbers : acceptedOf letters.L es < 65536
 
--- What the events before an L with fields a, b and c and that text say of its answer r. Keys handed out are those of the accepted U, S, N and K.
+-- What the events before an L with fields a, b and c and that text say of its answer r. Keys handed out are those of
+-- the accepted U, S, N and K.
 pub record TextJudged (es : List Event) (a b c : ℕ) (text : List ℕ) (r : Answer) : Type 0 where
   -- 11: the text is in the grammar as no formula of keys handed out
   pub malformed : (r ≡ Refused Malformed) ↔ (Allowed es a b c × ((t : Tree ors) → Text (issuedBy es) text t → ⊥))

@@ -1,6 +1,7 @@
--- The state is what the history says: after any list of calls from the empty state, what the numbers 1 to 9 of the table ask of users, threads,
--- segments, key lists, defined keys and locks, the list of calls and answers tells. (14 and 15 are in `Granting`, 11 to 13 and
--- what 10 asks in L in `LockTexts`, what is stored for locks in `StoredLocks`.) And the text of each standing lock spells a formula, which is what the text holds for. Proved in
+-- The state is what the history says: after any list of calls from the empty state, what the numbers 1 to 9 of the
+-- table ask of users, threads, segments, key lists, defined keys and locks, the list of calls and answers tells. (14
+-- and 15 are in `Granting`, 11 to 13 and what 10 asks in L in `LockTexts`, what is stored for locks in `StoredLocks`.)
+-- And the text of each standing lock spells a formula, which is what the text holds for. Proved in
 -- `proofs/Mirror.antt`.
 use mathlib.Core.Path.{_≡_}
 use mathlib.Core.Bool.{Bool}
@@ -17,7 +18,8 @@ use Rattle.formula.specs.Text.{Text}
 use Rattle.formula.specs.Outcome.{outcomeOf}
 use Rattle.formula.specs.Meaning.{textHolds, Meaning}
 use Rattle.formula.specs.Compiler.{Compiler, Laws}
-use Rattle.call.specs.Calls.{letterS, letterE, letterL, Call}
+use Rattle.call.specs.Calls.{Call}
+use Rattle.call.specs.Letters as letters
 use Rattle.base.specs.Lists.{any, isSome}
 use Rattle.model.specs.Threads.{Thread}
 use Rattle.model.specs.State.{State, issued, liveIn, isLive, threadAt, isSegment, segmentAt, isLock, homeOf}
@@ -26,13 +28,14 @@ use Rattle.model.specs.History.{Event, Entry, Lock, history, acceptedOf,
 use Rattle.model.specs.Replay.{reached, events, historyOf}
 
 pub record Mirrors (es : List Event) (d : State) : Type 0 where
-  -- handed out are as many users, thread numbers, segments, defined keys and lock numbers as U, S, N, K and L were accepted
+  -- handed out are as many users, thread numbers, segments, defined keys and lock numbers as U, S, N, K and L were
+  -- accepted
   pub handedOut : issued d ≡ issuedBy es
-  pub lockNumbers : d .lockNumbers ≡ acceptedOf letterL es
+  pub lockNumbers : d .lockNumbers ≡ acceptedOf letters.L es
   -- each defined key's maker
   pub makers : d .makers ≡ makersOf es
   -- live threads, as many as S started and E did not end, with their user and frames
-  pub threads : liveIn (d .places) + acceptedOf letterE es ≡ acceptedOf letterS es
+  pub threads : liveIn (d .places) + acceptedOf letters.E es ≡ acceptedOf letters.S es
   pub live : (n : ℕ) → isLive d n ≡ isSome (history es .threads n)
   pub thread : (n : ℕ) (t : Thread) → history es .threads n ≡ some t → threadAt d n ≡ t
   -- segments, with their owner, kind and key list, which starts with its own S key

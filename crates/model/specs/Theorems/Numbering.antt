@@ -1,5 +1,5 @@
--- Document 01, 'Twelve calls': what an accepted E, G, T, D or R answers, from the list of calls and answers before it. What the others answer is in
--- `Granting`. Proved in `proofs/Numbering.antt`.
+-- Document 01, 'Twelve calls': what an accepted E, G, T, D or R answers, from the list of calls and answers before it.
+-- What the others answer is in `Granting`. Proved in `proofs/Numbering.antt`.
 use mathlib.Core.Path.{_≡_}
 use mathlib.Core.Bool.{true}
 use mathlib.Core.List.{List, _∷_, map, List·Memᴰ}
@@ -20,8 +20,8 @@ use Rattle.model.specs.History.{Event, Lock, event, advance, history, li
 use Rattle.model.specs.Replay.{events, answerTo}
 use Rattle.model.specs.HistoryLocks.{productsOf}
 
--- What the events before the next call say of its answer r. Where it is accepted, the history has the thread, frame or lock that it names: that is
--- `Mirror` with `Refusing`.
+-- What the events before the next call say of its answer r. Where it is accepted, the history has the thread, frame or
+-- lock that it names: that is `Mirror` with `Refusing`.
 pub record Numbers (compile : Compiler) (es : List Event) (next : Call) (r : Answer) : Type 0 where
   -- E: open calls closed
   pub ended : (a n : ℕ) → decoded next ≡ WellFormed (EndThread a) → r ≡ Accepted n

@@ -1,6 +1,6 @@
--- The arrays hold the model: for arrays of the right sizes, whatever numbers are in them, a call on the arrays leaves the state that the call
--- on the model leaves, and answers the same; and so does every list of calls from the empty state. Proved in `proofs/Refinement.antt`.
---
+-- The arrays hold the model: for arrays of the right sizes, whatever numbers are in them, a call on the arrays leaves
+-- the state that the call on the model leaves, and answers the same; and so does every list of calls from the empty
+-- state. Proved in `proofs/Refinement.antt`.
 use mathlib.Core.Path.{_≡_}
 use mathlib.Core.List.{List}
 use Rattle.formula.specs.Outcome.{outcomeOf}

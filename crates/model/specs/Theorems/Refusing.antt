@@ -1,6 +1,6 @@
--- Demand 1: 'Refused are calls .. that meet a condition in document 01's table, each by the first such number in its order and never otherwise,
--- with the desk and every lent byte unchanged. Accepted is all the rest.' Over the arrays, whatever numbers are in them, and over every
--- compiler. Proved in `proofs/Refusing.antt`.
+-- Demand 1: 'Refused are calls .. that meet a condition in document 01's table, each by the first such number in its
+-- order and never otherwise, with the desk and every lent byte unchanged. Accepted is all the rest.' Over the arrays,
+-- whatever numbers are in them, and over every compiler. Proved in `proofs/Refusing.antt`.
 use mathlib.Core.Path.{_≡_}
 use mathlib.Core.Bool.{Bool, true, false}
 use mathlib.Core.List.{List, [], _∷_, _++_, map, List·Memᴰ}
@@ -45,7 +45,8 @@ rank r = indexOf (eqb (refusalNumber r)) order
 pub record Refuses (compile : Compiler) (d : Cells) (x : Call) : Type 0 where
   -- 18 'before all else', exactly where the call is not well formed
   pub corrupt : (stepCells compile d x .answer ≡ Refused Corrupt) ↔ (decoded x ≡ NotWellFormed)
-  -- a well formed call is refused exactly by the first of its conditions that holds, and accepted exactly where none does
+  -- a well formed call is refused exactly by the first of its conditions that holds, and accepted exactly where none
+  -- does
   pub refused : (q : Request) → decoded x ≡ WellFormed q → (r : Refusal)
       → (stepCells compile d x .answer ≡ Refused r) ↔ FirstHolds r (conditions compile (stateOf d) q (x .text))
   pub accepted : (q : Request) → decoded x ≡ WellFormed q

@@ -1,7 +1,8 @@
--- Demand 2: 'A stored lock opens for exactly the key sets for which its formula holds under the published scheme.' After any list of calls from the
--- empty state a segment stores the products of the history's standing locks on it, in order, and no others. So what is stored for a standing lock
--- opens for exactly the key sets for which the formula that its text spells holds, whether some thread can have them or not; and how many products a
--- segment has, which 10 asks in L, the history tells. Proved in `proofs/StoredLocks.antt`.
+-- Demand 2: 'A stored lock opens for exactly the key sets for which its formula holds under the published scheme.'
+-- After any list of calls from the empty state a segment stores the products of the history's standing locks on it, in
+-- order, and no others. So what is stored for a standing lock opens for exactly the key sets for which the formula that
+-- its text spells holds, whether some thread can have them or not; and how many products a segment has, which 10 asks
+-- in L, the history tells. Proved in `proofs/StoredLocks.antt`.
 use mathlib.Core.Path.{_≡_}
 use mathlib.Core.Bool.{false}
 use mathlib.Core.List.{List, [], map, List·Memᴰ}
@@ -41,8 +42,9 @@ abbrev pub StoredLocksByLaws : Type 0
 StoredLocksByLaws =
     (compile : Compiler) (meaning : Meaning) → Laws compile meaning → (xs : List Call) → Stores compile meaning (events compile xs) (stateOf (reached compile xs))
 
--- The formula that a lock's text spells, and what is stored for the lock: the formula's products, which open for exactly the key sets for which it
--- holds. The text spells no other: one that it spells under whatever counts of keys handed out holds for the same key sets.
+-- The formula that a lock's text spells, and what is stored for the lock: the formula's products, which open for
+-- exactly the key sets for which it holds. The text spells no other: one that it spells under whatever counts of keys
+-- handed out holds for the same key sets.
 pub record StoredFormula (d : State) (l : Lock) : Type 0 where
   pub tree : Tree ors
   pub text : Text everything (l .text) tree

@@ -1,6 +1,6 @@
--- A trial for each number from 1 to 15 of document 01's table with each letter that it can refuse, in the table's order and often with a later one
--- that holds too; calls that are not well formed; the limits from both sides; and places that are freed and used again. Proved in
--- `proofs/Trials.antt`, by computing.
+-- A trial for each number from 1 to 15 of document 01's table with each letter that it can refuse, in the table's order
+-- and often with a later one that holds too; calls that are not well formed; the limits from both sides; and places
+-- that are freed and used again. Proved in `proofs/Trials.antt`, by computing.
 use mathlib.Core.Path.{_≡_}
 use mathlib.Core.List.{List, [], _∷_, _++_}
 use Prim.Native.Nat.{ℕ, _+_}
@@ -12,7 +12,7 @@ use Rattle.model.specs.Answers.{answerNumber, answerValue}
 use Rattle.base.specs.Lists.{each}
 use Rattle.model.specs.State.{State, free}
 use Rattle.model.specs.Model.{step}
-use Rattle.model.specs.Letters.{Expected, U, S, E, N, K, G, T, L, D, C, R, A, ok, no, Happens}
+use Rattle.model.specs.Notation.{Expected, U, S, E, N, K, G, T, L, D, C, R, A, ok, no, Happens}
 
 -- users 0 and 1; segments 0 (code) and 1 (sheet) of user 0, 2 (sheet) of user 1; D0 of user 0, D1 of user 1
 abbrev pub start : List Expected
@@ -142,7 +142,8 @@ unformed =
     ∷ no (callWith 82 77 0 1 []) 18 0
     ∷ []
 
--- the keys that name a thread and its user: of three threads only the third is let in, then denied by what it holds, and at last another by its user
+-- the keys that name a thread and its user: of three threads only the third is let in, then denied by what it holds,
+-- and at last another by its user
 abbrev pub identity : List Expected
 identity =
     ok U 0
@@ -202,7 +203,8 @@ frames =
     ∷ ok (C 0 0) 0
     ∷ []
 
--- a state of one user, with so many thread numbers, lock numbers and defined keys handed out, one segment and one free place
+-- a state of one user, with so many thread numbers, lock numbers and defined keys handed out, one segment and one free
+-- place
 abbrev pub late : ℕ → ℕ → ℕ → State
 late t l k =
     record {
@@ -226,7 +228,8 @@ pub record Trials : Type 0 where
   pub threadsHappen : Happens liveThreads
   pub listedHappens : Happens listed
   pub framesHappen : Happens frames
-  -- on states of the model that are too long to reach by computing: 65,536 thread numbers and lock numbers, 1,024 defined keys
+  -- on states of the model that are too long to reach by computing: 65,536 thread numbers and lock numbers, 1,024
+  -- defined keys
   pub lastThread : answerIn (late 65535 0 0) (S 0) ≡ (0, 65535)
   pub noThread : answerIn (late 65536 0 0) (S 0) ≡ (10, 0)
   pub lastLock : answerIn (late 0 65535 0) (L 0 0 1 (bytes "U0")) ≡ (0, 65535)

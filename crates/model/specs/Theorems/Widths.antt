@@ -1,6 +1,7 @@
--- What is stored fits the arrays: where every number of the arrays fits its cell, 16 bits of makers, segments and threads and 32 bits of counts and
--- lock rows, and the call's fields have 16 bits, it is so after the call, and an accepted call's answer and a refusal's second number have 16 bits.
--- So it is after every list of such calls from the empty state. Proved in `proofs/Widths.antt`.
+-- What is stored fits the arrays: where every number of the arrays fits its cell, 16 bits of makers, segments and
+-- threads and 32 bits of counts and lock rows, and the call's fields have 16 bits, it is so after the call, and an
+-- accepted call's answer and a refusal's second number have 16 bits. So it is after every list of such calls from the
+-- empty state. Proved in `proofs/Widths.antt`.
 use mathlib.Core.Path.{_≡_}
 use mathlib.Core.List.{List, [], _∷_}
 use Prim.Native.Nat.{ℕ, _<_}

@@ -1,6 +1,6 @@
--- The starred trials of document 01's 'Trial desks' as one theorem, `StarredTrials`, with document 01's numbers and lines: what the office program
--- prints for each, byte by byte, and the number and the products of each starred text. And a few more worked examples of what is printed. Proved in
--- `proofs/Trials.antt`.
+-- The starred trials of document 01's 'Trial desks' as one theorem, `StarredTrials`, with document 01's numbers and
+-- lines: what the office program prints for each, byte by byte, and the number and the products of each starred text.
+-- And a few more worked examples of what is printed. Proved in `proofs/Trials.antt`.
 use mathlib.Core.Path.{_≡_}
 use mathlib.Core.List.{List, [], _∷_, _++_}
 use Prim.Native.Nat.{ℕ}
@@ -12,7 +12,7 @@ use Rattle.call.specs.Calls.{Call}
 use Rattle.journal.specs.Format.{fileBytes}
 use Rattle.model.specs.declared.answer.Refusal.the-variants.{Denied}
 use Rattle.model.specs.declared.answer.Answer.the-variants.{Accepted, Refused}
-use Rattle.model.specs.Letters.{U, S, N, K, L, D, C, R, A}
+use Rattle.model.specs.Notation.{U, S, N, K, L, D, C, R, A}
 use Rattle.transcript.specs.Lines.{line, printed}
 
 -- each with its line feed
@@ -25,8 +25,8 @@ abbrev pub Prints : List Call → List String → Type 0
 Prints records lines = printed (fileBytes records) ≡ text lines
 
 pub record StarredTrials : Type 0 where
-  -- 'Records U; N 0 0; N 0 0; N 0 1; L 0 0 1 `U0`; L 0 1 1 `U0`; L 0 2 4 `S0&S1`; S 0; S 0; C 0 0; C 0 1; C 1 1; A 0 2 4; A 1 2 4; R 0; A 0 2 4
-  -- print:'
+  -- 'Records U; N 0 0; N 0 0; N 0 1; L 0 0 1 `U0`; L 0 1 1 `U0`; L 0 2 4 `S0&S1`; S 0; S 0; C 0 0; C 0 1; C 1 1; A 0 2
+  -- 4; A 1 2 4; R 0; A 0 2 4 print:'
   pub route : Prints
       (U ∷ N 0 0 ∷ N 0 0 ∷ N 0 1 ∷ L 0 0 1 (bytes "U0") ∷ L 0 1 1 (bytes "U0") ∷ L 0 2 4 (bytes "S0&S1") ∷ S 0 ∷ S 0
       ∷ C 0 0 ∷ C 0 1 ∷ C 1 1 ∷ A 0 2 4 ∷ A 1 2 4 ∷ R 0 ∷ A 0 2 4 ∷ [])
@@ -53,8 +53,8 @@ pub record StarredTrials : Type 0 where
   pub emptyDesk : Prints (S 0 ∷ R 0 ∷ []) ("0 S no 1 0" ∷ "1 R no 2 0" ∷ [])
   -- 'File 4B 4C 44 01 00 00 00 (hexadecimal) prints nothing.'
   pub emptyFile : printed (75 ∷ 76 ∷ 68 ∷ 1 ∷ 0 ∷ 0 ∷ 0 ∷ []) ≡ []
-  -- '`D0&!D0` is 13; `(D0&!D0)|D1` is one product; `D0|D0&D1` two; `!(D0|D1)` one; `D01` is 11; all with D0 and D1 made.'
-  -- '`(D0|D1)&(D2|D3)`, all made, is four products': each as a lock, and D answers how many products it had
+  -- '`D0&!D0` is 13; `(D0&!D0)|D1` is one product; `D0|D0&D1` two; `!(D0|D1)` one; `D01` is 11; all with D0 and D1
+  -- made.' '`(D0|D1)&(D2|D3)`, all made, is four products': each as a lock, and D answers how many products it had
   pub textsAsLocks : Prints
       (U ∷ N 0 0 ∷ K 0 ∷ K 0 ∷ L 0 0 1 (bytes "D0&!D0") ∷ L 0 0 1 (bytes "(D0&!D0)|D1") ∷ D 0 0 ∷ L 0 0 1 (bytes "D0|D0&D1") ∷ D 0 1
       ∷ L 0 0 1 (bytes "!(D0|D1)") ∷ D 0 2 ∷ L 0 0 1 (bytes "D01") ∷ K 0 ∷ K 0 ∷ L 0 0 1 (bytes "(D0|D1)&(D2|D3)") ∷ D 0 3 ∷ [])
@@ -85,7 +85,8 @@ pub record StarredTrials : Type 0 where
   pub leadingZero : compiled 2 "D01" ≡ (11, [])
   pub four : compiled 4 "(D0|D1)&(D2|D3)"
       ≡ (0, (plain 0 ∷ plain 2 ∷ []) ∷ (plain 0 ∷ plain 3 ∷ []) ∷ (plain 1 ∷ plain 2 ∷ []) ∷ (plain 1 ∷ plain 3 ∷ []) ∷ [])
-  -- 'Call one segment twice, return once: its S key is held', and a sheet that asks for it can be read until the second return
+  -- 'Call one segment twice, return once: its S key is held', and a sheet that asks for it can be read until the second
+  -- return
   pub twice : Prints
       (U ∷ N 0 0 ∷ N 0 1 ∷ L 0 0 1 (bytes "U0") ∷ L 0 1 2 (bytes "S0") ∷ S 0 ∷ C 0 0 ∷ C 0 0 ∷ R 0 ∷ A 0 1 2 ∷ R 0 ∷ A 0 1 2 ∷ [])
       (

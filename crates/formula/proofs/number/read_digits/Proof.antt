@@ -1,4 +1,5 @@
--- The value so far and the digits that are left make the number, which only grows; the measure is the bytes that are left.
+-- The value so far and the digits that are left make the number, which only grows; the measure is the bytes that are
+-- left.
 use borrow.Author.Needs.{needs}
 use borrow.Author.Tests.{not-true, not-false}
 use denote.Ref.{now}

@@ -1,5 +1,5 @@
--- The cycle of the readers. The measure of each is the bytes that remain, times 4, and a small number that orders the readers at one
--- place. A law of `Walking` for each way through a reader.
+-- The cycle of the readers. The measure of each is the bytes that remain, times 4, and a small number that orders the
+-- readers at one place. A law of `Walking` for each way through a reader.
 use denote.Ref.{now}
 use borrow.Author.Needs.{needs}
 use mathlib.Core.Path.{_≡_, sym, _∙_}

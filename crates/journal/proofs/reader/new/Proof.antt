@@ -1,5 +1,6 @@
--- A walk of the function's MIR, by hand: `size` is called on the slice, and the reader is made of the slice and its answer, in the result's local. A
--- `&[u8]` is Copy, so what it owns is had three times: for the call, for src at exit, and inside the result.
+-- A walk of the function's MIR, by hand: `size` is called on the slice, and the reader is made of the slice and its
+-- answer, in the result's local. A `&[u8]` is Copy, so what it owns is had three times: for the call, for src at exit,
+-- and inside the result.
 use mathlib.Core.Path.{_≡_, refl}
 use Prim.Native.Nat.{ℕ, _<_, _^_}
 use mathlib.Core.List.{List, [], _∷_, head-eq-of-cons-eq}

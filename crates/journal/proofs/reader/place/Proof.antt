@@ -1,5 +1,6 @@
--- A walk of the function's MIR, by hand: the reader is made of the slice and the cursor passed, in the result's local. A `&[u8]` is Copy, so what it
--- owns is had twice: once for src at exit, and once inside the result, beside the facts of at.
+-- A walk of the function's MIR, by hand: the reader is made of the slice and the cursor passed, in the result's local.
+-- A `&[u8]` is Copy, so what it owns is had twice: once for src at exit, and once inside the result, beside the facts
+-- of at.
 use mathlib.Core.Path.{refl}
 use Prim.Native.Nat.{ℕ, _<_, _^_}
 use mathlib.Core.List.{List, [], _∷_}

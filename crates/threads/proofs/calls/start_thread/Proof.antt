@@ -1,4 +1,5 @@
--- Refused where the user wasn't handed out, or no number or no place is left; else the thread stands at the place for it.
+-- Refused where the user wasn't handed out, or no number or no place is left; else the thread stands at the place for
+-- it.
 use mathlib.Core.Path.{_≡_, refl, sym, ap, ap₂, _∙_}
 use mathlib.Core.Bool.{true, false, not, _||_}
 use mathlib.Core.List.{List, map}
