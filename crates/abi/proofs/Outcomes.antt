@@ -13,7 +13,7 @@ use Rattle.product.proofs.FilledRows.{rows-length}
 use Rattle.formula.specs.declared.text.Issued.{Issued}
 use Rattle.formula.specs.declared.text.Row.{Row}
 use Rattle.formula.specs.declared.text.Compiled.{Compiled}
-use Rattle.formula.specs.Outcome.{Outcome, accepted, malformed, tooWide, unsatisfiable, outcomeOf, refusalNumber, verdictOf, sumIn, rowWith, compiledOf}
+use Rattle.formula.specs.Outcome.{Outcome, accepted, malformed, tooWide, unsatisfiable, outcomeOf, refusalNumber, statusOf, sumIn, rowWith, compiledOf}
 use Rattle.formula.proofs.Opening.{laws}
 use Rattle.abi.specs.Answers.{numberIn, rowsIn}
 use Rattle.abi.specs.Internal.{cellsAt, eightCells}
@@ -38,9 +38,9 @@ module _ (i : Issued) (s : List ℕ) {c : Compiled} (e : c ≡ compiledOf i s) w
       let q : c .count ≡ length (sumIn (outcomeOf i s)) = ap (λ (x : Compiled). x .count) e in
       omega (arith, few (outcomeOf i s) refl)
 
-  module _ {r : ℕ} (n : r ≡ refusalNumber (c .verdict)) where
-    number-is : r ≡ refusalNumber (verdictOf (outcomeOf i s))
-    number-is = n ∙ ap (λ (x : Compiled). refusalNumber (x .verdict)) e
+  module _ {r : ℕ} (n : r ≡ refusalNumber (c .status)) where
+    number-is : r ≡ refusalNumber (statusOf (outcomeOf i s))
+    number-is = n ∙ ap (λ (x : Compiled). refusalNumber (x .status)) e
 
     pub rows-written : (old : List (List ℕ)) → cond (eqb r 0) (eightCells (c .rows)) old ≡ rowsIn (outcomeOf i s) old
     rows-written old =
@@ -48,7 +48,7 @@ module _ (i : Issued) (s : List ℕ) {c : Compiled} (e : c ≡ compiledOf i s) w
         ∙ go (outcomeOf i s) (few (outcomeOf i s) refl)
       where
         go : (o : Outcome) → length (sumIn o) ≤ mostProducts
-            → cond (eqb (refusalNumber (verdictOf o)) 0) (eightCells (map rowWith (rowsOf (sumIn o)))) old
+            → cond (eqb (refusalNumber (statusOf o)) 0) (eightCells (map rowWith (rowsOf (sumIn o)))) old
             ≡ rowsIn o old
         go (accepted ps) l = eight-cells (rowsOf ps) (rows-length ps l)
         go malformed l = refl
@@ -60,7 +60,7 @@ module _ (i : Issued) (s : List ℕ) {c : Compiled} (e : c ≡ compiledOf i s) w
         ap₂ (λ (k : ℕ) (x : Compiled). cond (eqb k 0) (x .count) k) number-is e ∙ go (outcomeOf i s)
       where
         go : (o : Outcome)
-            → cond (eqb (refusalNumber (verdictOf o)) 0) (length (sumIn o)) (refusalNumber (verdictOf o)) ≡ numberIn o
+            → cond (eqb (refusalNumber (statusOf o)) 0) (length (sumIn o)) (refusalNumber (statusOf o)) ≡ numberIn o
         go (accepted ps) = refl
         go malformed = refl
         go tooWide = refl

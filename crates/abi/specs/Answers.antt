@@ -6,7 +6,7 @@ use Prim.Native.Nat.{ℕ}
 use lib.ListN.{length}
 use Rattle.product.specs.Cells.{rowsOf}
 use Rattle.formula.specs.declared.text.Issued.{Issued}
-use Rattle.formula.specs.declared.text.Verdict.the-variants.{Malformed, TooWide, Unsatisfiable}
+use Rattle.formula.specs.declared.text.Status.the-variants.{Malformed, TooWide, Unsatisfiable}
 use Rattle.formula.specs.Outcome.{Outcome, accepted, malformed, tooWide, unsatisfiable, refusalNumber}
 
 abbrev pub issuedWith : ℕ → ℕ → ℕ → ℕ → Issued

@@ -37,10 +37,10 @@ pub extern "C" fn rotundaaloe_compile(
         defined,
     };
     let compiled = compile(text, issued);
-    let verdict = compiled.verdict;
+    let status = compiled.status;
     let count = compiled.count;
     let products = compiled.rows;
-    let refusal = refusal_number(verdict);
+    let refusal = refusal_number(status);
     let accepted = refusal == NO_REFUSAL;
     write_rows(accepted, products, rows);
     if accepted { count as u32 } else { refusal }

@@ -13,7 +13,7 @@ use Rattle.call.specs.declared.request.Request.the-variants as request
 use Rattle.call.specs.declared.request.Decoded.{Decoded}
 use Rattle.call.specs.declared.request.Decoded.the-variants.{WellFormed, Corrupt}
 use Rattle.base.proofs.Truth.{and-left, and-right}
-use Rattle.call.specs.Calls.{Call, callWith, Row, table, unnamedZero, textNamed, decodedIn, decodedOf}
+use Rattle.call.specs.Calls.{Call, callWith, TableRow, table, unnamedZero, textNamed, decodedIn, decodedOf}
 use Rattle.call.specs.Letters as letters
 use Rattle.call.specs.Requests.{callOf}
 use Rattle.call.specs.Theorems.Requests.{RequestsExactly}
@@ -56,7 +56,7 @@ module _ (x : Call) where
   abbrev Says : Request → Type 0
   Says q = x ≡ callOf q (x .text)
 
-  abbrev Each : List Row → Type 0
+  abbrev Each : List TableRow → Type 0
   Each [] = Unit {0}
   Each (r ∷ rs) = (x .letter ≡ r .letter → Zero (r .named) → Says (r .request)) × Each rs
 
@@ -69,7 +69,7 @@ module _ (x : Call) where
   of-row q p true false rest f g h = let z : _≡_ {A = ℕ} 0 1 = cc in absurd (omega arith)
   of-row q p false zero rest f g h = g h
 
-  found : (rs : List Row) (q : Request) → Each rs → decodedIn rs (x .letter) (x .a) (x .b) (x .c) (length (x .text)) ≡ WellFormed q → Says q
+  found : (rs : List TableRow) (q : Request) → Each rs → decodedIn rs (x .letter) (x .a) (x .b) (x .c) (length (x .text)) ≡ WellFormed q → Says q
   found [] q each h = let z : _≡_ {A = ℕ} 0 1 = cc in absurd (omega arith)
   found (r ∷ rs) q each h =
       of-row q (r .request) (eqb (x .letter) (r .letter)) (passes (r .named)) (decodedIn rs (x .letter) (x .a) (x .b) (x .c) (length (x .text)))

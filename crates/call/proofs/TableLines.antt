@@ -9,7 +9,7 @@ use Rattle.call.specs.declared.request.Line.{Line}
 use Rattle.call.specs.declared.request.Line.the-variants.{Of, Unknown}
 use Rattle.call.specs.declared.request.Decoded.{Decoded}
 use Rattle.call.specs.declared.request.Decoded.the-variants.{WellFormed, Corrupt}
-use Rattle.call.specs.Calls.{Row, table, unnamedZero, textNamed, decodedIn, decodedOf}
+use Rattle.call.specs.Calls.{TableRow, table, unnamedZero, textNamed, decodedIn, decodedOf}
 use Rattle.call.specs.Internal.{lineIn, lineOf}
 
 module _ (letter a b c n : ℕ) where
@@ -18,7 +18,7 @@ module _ (letter a b c n : ℕ) where
   judge Unknown = Corrupt
   judge (Of q k) = cond (unnamedZero k a b c && textNamed letter n) (WellFormed q) Corrupt
 
-  by-line : (rs : List Row) → judge (lineIn rs letter) ≡ decodedIn rs letter a b c n
+  by-line : (rs : List TableRow) → judge (lineIn rs letter) ≡ decodedIn rs letter a b c n
   by-line [] = refl
   by-line (r ∷ rs) = go (eqb letter (r .letter)) (Of (r .request) (r .named)) (lineIn rs letter) (decodedIn rs letter a b c n) (by-line rs)
     where

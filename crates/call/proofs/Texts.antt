@@ -10,7 +10,7 @@ use Rattle.call.specs.declared.request.Request.{Request}
 use Rattle.call.specs.declared.request.Decoded.{Decoded}
 use Rattle.call.specs.declared.request.Decoded.the-variants.{WellFormed, Corrupt}
 use Rattle.base.proofs.Truth.{and-right}
-use Rattle.call.specs.Calls.{Row, table, textNamed, decodedIn, isWellFormed, decodedOf, textFits, recordFits}
+use Rattle.call.specs.Calls.{TableRow, table, textNamed, decodedIn, isWellFormed, decodedOf, textFits, recordFits}
 
 short : (lock : Bool) (n : ℕ) → cond lock (leb 1 n && leb n 96) (eqb n 0) ≡ true → n ≤ 96
 short true n h = leb-true n 96 (and-right (leb 1 n) (leb n 96) h)
@@ -28,7 +28,7 @@ named true n h = refl
 named false n h = h
 
 module _ (l a b c n : ℕ) (h : textNamed l n ≡ true) where
-  as-without : (rs : List Row) → decodedIn rs l a b c n ≡ decodedIn rs l a b c 0
+  as-without : (rs : List TableRow) → decodedIn rs l a b c n ≡ decodedIn rs l a b c 0
   as-without [] = refl
   as-without (r ∷ rs) = rw (h, or-true (eqb l 76), as-without rs)
 

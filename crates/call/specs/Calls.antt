@@ -29,16 +29,16 @@ mostText = 96
 -- ---- the table
 
 -- a row: the letter's byte, the request, and how many of a, b and c, in their order, it names
-pub record Row : Type 0 where
+pub record TableRow : Type 0 where
   pub letter : ℕ
   pub request : Request
   pub named : ℕ
 
-abbrev pub row : ℕ → Request → ℕ → Row
+abbrev pub row : ℕ → Request → ℕ → TableRow
 row l q k = record { letter = l; request = q; named = k }
 
 -- for the fields a, b and c
-abbrev pub table : ℕ → ℕ → ℕ → List Row
+abbrev pub table : ℕ → ℕ → ℕ → List TableRow
 table a b c =
     row letters.U request.NewUser 0
     ∷ row letters.S (request.StartThread a) 1
@@ -63,7 +63,7 @@ abbrev pub textNamed : ℕ → ℕ → Bool
 textNamed letter n = eqb letter letters.L || eqb n 0
 
 -- 18 for 'an unknown letter, an unnamed field not 0 or a text outside L', else the letter's request
-abbrev pub decodedIn : List Row → ℕ → ℕ → ℕ → ℕ → ℕ → Decoded
+abbrev pub decodedIn : List TableRow → ℕ → ℕ → ℕ → ℕ → ℕ → Decoded
 decodedIn [] letter a b c n = Corrupt
 decodedIn (r ∷ rs) letter a b c n =
     cond (eqb letter (r .letter))

@@ -5,10 +5,10 @@ use Prim.Native.Nat.{ℕ}
 use lib.Dec.{eqb}
 use Rattle.call.specs.declared.request.Line.{Line}
 use Rattle.call.specs.declared.request.Line.the-variants.{Of, Unknown}
-use Rattle.call.specs.Calls.{Row, table}
+use Rattle.call.specs.Calls.{TableRow, table}
 
 -- the line of a letter
-abbrev pub lineIn : List Row → ℕ → Line
+abbrev pub lineIn : List TableRow → ℕ → Line
 lineIn [] letter = Unknown
 lineIn (r ∷ rs) letter = cond (eqb letter (r .letter)) (Of (r .request) (r .named)) (lineIn rs letter)
 

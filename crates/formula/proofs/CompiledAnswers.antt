@@ -8,11 +8,11 @@ use native.Mathlib.Omega.{arith}
 use lib.ListN.{length, length-drop}
 use borrow.Author.Tests.{le-leb, lt-leb, eq-eqb, ne-eqb}
 use Rattle.product.specs.Sum.{Sum?}
-use Rattle.product.specs.Cells.{Written}
+use Rattle.product.specs.Cells.{HoldsSum}
 use Rattle.base.proofs.Parts.{read, read-all}
 use Rattle.product.proofs.FilledRows.{rows-length, sum-wide}
 use Rattle.formula.specs.declared.text.Issued.{Issued}
-use Rattle.formula.specs.declared.text.Verdict.the-variants.{Accepted, Malformed, TooWide, Unsatisfiable}
+use Rattle.formula.specs.declared.text.Status.the-variants.{Accepted, Malformed, TooWide, Unsatisfiable}
 use Rattle.formula.specs.declared.text.Compiled.{Compiled}
 use Rattle.formula.specs.declared.reader.Read.{Read}
 use Rattle.formula.specs.declared.reader.Read.the-variants.{Malformed as Unread, Node}
@@ -26,10 +26,10 @@ use Rattle.formula.proofs.ReaderSteps.{reads-as}
 
 -- the answer of a list of products that is written in rows
 
-wide-list : (x : Sum?) {rows : List (List ℕ)} {k : ℕ} → Written x rows k → 8 < k → judgeList x ≡ tooWide
+wide-list : (x : Sum?) {rows : List (List ℕ)} {k : ℕ} → HoldsSum x rows k → 8 < k → judgeList x ≡ tooWide
 wide-list x {rows} w h = ap judgeList (sym (w .reads) ∙ sum-wide rows h)
 
-unsatisfiable-list : (x : Sum?) {rows : List (List ℕ)} {k : ℕ} → Written x rows k → k ≡ 0 → judgeList x ≡ unsatisfiable
+unsatisfiable-list : (x : Sum?) {rows : List (List ℕ)} {k : ℕ} → HoldsSum x rows k → k ≡ 0 → judgeList x ≡ unsatisfiable
 unsatisfiable-list none w h = let z : ⊥ = omega (arith, w .count) in absurd z
 unsatisfiable-list (some []) w h = refl
 unsatisfiable-list (some (p ∷ ps)) w h = let z : ⊥ = omega (arith, w .count) in absurd z
@@ -39,9 +39,9 @@ unfolding read
 eight-rows rows h = ap (map rowWith) (read-all [] rows 8 h)
 
 abbrev pub acceptedOf : ℕ → List (List ℕ) → Compiled
-acceptedOf k rows = record { verdict = Accepted; count = k; rows = eightRows rows }
+acceptedOf k rows = record { status = Accepted; count = k; rows = eightRows rows }
 
-filled-list : (x : Sum?) {rows : List (List ℕ)} {k : ℕ} → Written x rows k → (k ≡ 0 → ⊥) → k ≤ 8 → acceptedOf k rows ≡ answerOf (judgeList x)
+filled-list : (x : Sum?) {rows : List (List ℕ)} {k : ℕ} → HoldsSum x rows k → (k ≡ 0 → ⊥) → k ≤ 8 → acceptedOf k rows ≡ answerOf (judgeList x)
 filled-list none w h l = let z : ⊥ = omega (arith, w .count) in absurd z
 filled-list (some []) w h l = absurd (h (w .count))
 filled-list (some (p ∷ ps)) {rows} {k} w h l =
@@ -74,7 +74,7 @@ module _ (i : Issued) (s : List ℕ) {r : Read} {rows : List (List ℕ)} (h : le
         go (parsed {rest} w k) = rw (ne-eqb (length rest) 0 (λ z. omega (arith, ap length w, length-drop a s)))
 
     module _ (l : length s ≤ a) where
-      found : {c : Compiled} → ((x : Sum?) → Written x rows n → c ≡ answerOf (judgeList x)) → c ≡ compiledOf i s
+      found : {c : Compiled} → ((x : Sum?) → HoldsSum x rows n → c ≡ answerOf (judgeList x)) → c ≡ compiledOf i s
       found {c} f = short-text e (λ x q. go q)
         where
           go : {x : Found ors} → Reads false s rows (Node a n) x → c ≡ answerOf (judge (wholeOf x))

@@ -14,7 +14,7 @@ use Rattle.product.specs.declared.literal.Key.the-variants.{User, Thread, Segme
 use Rattle.product.specs.declared.literal.Literal.{Literal}
 use Rattle.product.specs.Atom.{Atom, numberOf}
 use Rattle.product.specs.Sum.{Sum, Sum?, joined}
-use Rattle.product.specs.Cells.{sumOf, Written}
+use Rattle.product.specs.Cells.{sumOf, HoldsSum}
 use Rattle.base.proofs.Parts.{head-drop}
 use Rattle.formula.specs.declared.text.Issued.{Issued}
 use Rattle.formula.specs.declared.number.Numeral.{Numeral}
@@ -40,7 +40,7 @@ inside (x ∷ s) zero b h e = omega arith
 inside (x ∷ s) (suc at) b h e = let i = inside s at b h e in omega arith
 
 -- the same rows of the same list
-list-at : {x y : Sum?} {rows : List (List ℕ)} {n : ℕ} → y ≡ x → Written x rows n → Written y rows n
+list-at : {x y : Sum?} {rows : List (List ℕ)} {n : ℕ} → y ≡ x → HoldsSum x rows n → HoldsSum y rows n
 list-at e w = rw e w
 
 -- what was read is not empty, so what is left of a text is shorter
@@ -149,7 +149,7 @@ module _ {odd : Bool} {part whole : Level} {cost byte : ℕ} {join : Sum → Sum
   WholeAt r rows at = (f : ℕ) → 4 * (length s - at) + (cost + 1) ≤ f → Reads odd s rows r (c .wholes f (drop at s))
 
   abbrev pub MoreAt : Read → List (List ℕ) → ℕ → ℕ → List (List ℕ) → Type 0
-  MoreAt r rows at n old = (t : Tree whole) → Written (listOf odd t) old n → (f : ℕ) → 4 * (length s - at) + (cost + 1) ≤ f → Reads odd s rows r (c .more f t (drop at s))
+  MoreAt r rows at n old = (t : Tree whole) → HoldsSum (listOf odd t) old n → (f : ℕ) → 4 * (length s - at) + (cost + 1) ≤ f → Reads odd s rows r (c .more f t (drop at s))
 
   pub chain-further : (at : ℕ) {r : Read} {a n : ℕ} {rows : List (List ℕ)} → r ≡ Node a n → PartAt r rows at → length s - a < length s - at
   chain-further at e p = further odd s at (reads-as e (p (4 * (length s - at) + cost) (omega arith))) (c .parts-shorter (4 * (length s - at) + cost) (drop at s))
@@ -182,14 +182,14 @@ module _ {odd : Bool} {part whole : Level} {cost byte : ℕ} {join : Sum → Sum
       rw (c .more-suc f t (drop at s), head-drop at s 0, eq-eqb (getD s at 0) byte b, drop-drop 1 at s) (next-failed odd s _ (reads-as e (p f (omega arith))))
 
   -- a further part, joined to what stands to its left
-  grown : {a n m j : ℕ} {r : Read} {old right both new : List (List ℕ)} {x : Found part} (t : Tree whole) (f : ℕ) → 4 * (length s - a) + (cost + 1) ≤ f → Written (listOf odd t) old n → Reads odd s right (Node a m) x
-      → Written (joined join (sumOf n old) (sumOf m right)) both j → MoreAt r new a j both → Reads odd s new r (next x (λ u v. c .more f (c .two t u) v))
+  grown : {a n m j : ℕ} {r : Read} {old right both new : List (List ℕ)} {x : Found part} (t : Tree whole) (f : ℕ) → 4 * (length s - a) + (cost + 1) ≤ f → HoldsSum (listOf odd t) old n → Reads odd s right (Node a m) x
+      → HoldsSum (joined join (sumOf n old) (sumOf m right)) both j → MoreAt r new a j both → Reads odd s new r (next x (λ u v. c .more f (c .two t u) v))
   grown {j = j} {both = both} t f h k (parsed {t = u} d v) w m =
-      let z : Written (joined join (listOf odd t) (listOf odd u)) both j = rw (k .reads, v .reads) at w in
+      let z : HoldsSum (joined join (listOf odd t) (listOf odd u)) both j = rw (k .reads, v .reads) at w in
       rw d (m (c .two t u) (list-at (c .list-two t u) z) f h)
 
   pub chain-grown : (at : ℕ) {a n m j : ℕ} {r q : Read} {old right both new : List (List ℕ)} → getD s at 0 ≡ byte → q ≡ Node a m → PartAt q right (at + 1)
-      → Written (joined join (sumOf n old) (sumOf m right)) both j → MoreAt r new a j both → MoreAt r new at n old
+      → HoldsSum (joined join (sumOf n old) (sumOf m right)) both j → MoreAt r new a j both → MoreAt r new at n old
   chain-grown at b e p w m t k zero h = let z : ⊥ = omega arith in absurd z
   chain-grown at b e p w m t k (suc f) h =
       let i = inside s at byte (c .printable) b in
@@ -307,8 +307,8 @@ module _ (i : Issued) where
       pub atom-unknown : (k : Atom) → l ≡ Named k → issuedTo i k ≡ false → AtomAt i s odd Malformed rows at
       atom-unknown k g h = atom-keep (some k) g (rw h failed)
 
-      pub atom-known : (k : Atom) {j : ℕ} → l ≡ Named k → issuedTo i k ≡ true → Written (listOf odd (atom k)) rows j → AtomAt i s odd (Node a j) rows at
+      pub atom-known : (k : Atom) {j : ℕ} → l ≡ Named k → issuedTo i k ≡ true → HoldsSum (listOf odd (atom k)) rows j → AtomAt i s odd (Node a j) rows at
       atom-known k g h w = atom-keep (some k) g (rw h (parsed refl w))
 
-pub atom-list : (odd : Bool) (k : Atom) {l : Literal} {rows : List (List ℕ)} {n : ℕ} → l ≡ literal odd k → Written (some ((l ∷ []) ∷ [])) rows n → Written (listOf odd (atom k)) rows n
+pub atom-list : (odd : Bool) (k : Atom) {l : Literal} {rows : List (List ℕ)} {n : ℕ} → l ≡ literal odd k → HoldsSum (some ((l ∷ []) ∷ [])) rows n → HoldsSum (listOf odd (atom k)) rows n
 atom-list odd k e w = rw (list-atom odd k, ← e) w

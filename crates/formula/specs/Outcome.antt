@@ -8,8 +8,8 @@ use lib.ListN.{length}
 use Rattle.product.specs.Sum.{Sum, Sum?}
 use Rattle.product.specs.Cells.{rowsOf}
 use Rattle.formula.specs.declared.text.Issued.{Issued}
-use Rattle.formula.specs.declared.text.Verdict.{Verdict}
-use Rattle.formula.specs.declared.text.Verdict.the-variants.{Accepted, Malformed, TooWide, Unsatisfiable}
+use Rattle.formula.specs.declared.text.Status.{Status}
+use Rattle.formula.specs.declared.text.Status.the-variants.{Accepted, Malformed, TooWide, Unsatisfiable}
 use Rattle.formula.specs.declared.text.Row.{Row}
 use Rattle.formula.specs.declared.text.Compiled.{Compiled}
 use Rattle.formula.specs.Tree.{ors, Tree}
@@ -37,7 +37,7 @@ unfoldable pub outcomeOf : Issued → List ℕ → Outcome
 outcomeOf i s = cond (leb (length s) mostBytes) (judge (readText (issuedTo i) s)) malformed
 
 -- document 01's number of a refusal; 0 of none
-abbrev pub refusalNumber : Verdict → ℕ
+abbrev pub refusalNumber : Status → ℕ
 refusalNumber Accepted = 0
 refusalNumber Malformed = 11
 refusalNumber TooWide = 12
@@ -46,11 +46,11 @@ refusalNumber Unsatisfiable = 13
 -- the answer in arrays, every place of it: the products' rows, and blank rows after them; of a refusal none but blank
 -- ones
 
-abbrev pub verdictOf : Outcome → Verdict
-verdictOf (accepted ps) = Accepted
-verdictOf malformed = Malformed
-verdictOf tooWide = TooWide
-verdictOf unsatisfiable = Unsatisfiable
+abbrev pub statusOf : Outcome → Status
+statusOf (accepted ps) = Accepted
+statusOf malformed = Malformed
+statusOf tooWide = TooWide
+statusOf unsatisfiable = Unsatisfiable
 
 abbrev pub sumIn : Outcome → Sum
 sumIn (accepted ps) = ps
@@ -62,7 +62,7 @@ abbrev pub rowWith : List ℕ → Row
 rowWith cells = record { cells = cells }
 
 abbrev pub answerOf : Outcome → Compiled
-answerOf o = record { verdict = verdictOf o; count = length (sumIn o); rows = map rowWith (rowsOf (sumIn o)) }
+answerOf o = record { status = statusOf o; count = length (sumIn o); rows = map rowWith (rowsOf (sumIn o)) }
 
 abbrev pub compiledOf : Issued → List ℕ → Compiled
 compiledOf i s = answerOf (outcomeOf i s)

@@ -35,11 +35,11 @@ andSign = 38
 abbrev pub orSign : ℕ
 orSign = 124
 
-abbrev pub opening : ℕ
-opening = 40
+abbrev pub openBracket : ℕ
+openBracket = 40
 
-abbrev pub closing : ℕ
-closing = 41
+abbrev pub closeBracket : ℕ
+closeBracket = 41
 
 -- the last f digits of n, or all of them where there are no more
 unfoldable pub digits : ℕ → ℕ → List ℕ
@@ -66,7 +66,7 @@ spellAtom a = letterOf a ∷ decimal (numberOf a)
 unfoldable pub spell : {l : Level} → Tree l → List ℕ
 spell (atom a) = spellAtom a
 spell (negate t) = notSign ∷ spell t
-spell (bracket t) = opening ∷ spell t ++ closing ∷ []
+spell (bracket t) = openBracket ∷ spell t ++ closeBracket ∷ []
 spell (factor t) = spell t
 spell (and t u) = spell t ++ andSign ∷ spell u
 spell (term t) = spell t

@@ -3,7 +3,7 @@
 // brackets may still be opened.
 ghost use mathlib.Core.Path.{_≡_};
 ghost use Rattle.product.specs.Sum.{joined};
-ghost use Rattle.product.specs.Cells.{sumOf, Written};
+ghost use Rattle.product.specs.Cells.{sumOf, HoldsSum};
 ghost use Rattle.formula.specs.Text.{issuedTo};
 ghost use Rattle.formula.specs.Nodes.{literal, joinAnd};
 ghost use Rattle.formula.specs.Internal.Reader.{keyNamed};
@@ -228,7 +228,7 @@ fn is_issued(k: Key, issued: Issued) -> bool
 
 // The left sum, which is the first n rows, joined with the right one: as an OR's or as an AND's.
 fn join(or: bool, rows: &mut Rows, n: usize, right: &Rows, m: usize) -> usize
-    ensures { λ r. ⌜ Written
+    ensures { λ r. ⌜ HoldsSum
         (joined (joinAnd or) (sumOf n (now (rows .entry))) (sumOf m (now (right .entry)))) (now (rows .exit)) r ⌝ }
 {
     let left = *rows;

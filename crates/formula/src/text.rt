@@ -16,7 +16,7 @@ pub struct Issued {
 }
 
 // Document 01: misspelt, too wide, void.
-pub enum Verdict {
+pub enum Status {
     Accepted,
     Malformed,
     TooWide,
@@ -30,7 +30,7 @@ pub struct Row {
 
 // Document 01: the whole formula's list of products, as rows, and how many they are; of a refusal none, and blank rows.
 pub struct Compiled {
-    pub verdict: Verdict,
+    pub status: Status,
     pub count: usize,
     pub rows: [Row; 8],
 }
@@ -45,46 +45,46 @@ pub fn compile(text: &[u8], issued: Issued) -> Compiled
     ensures { λ r. ⌜ r ≡ compiledOf issued (now (text .entry)) ⌝ }
 {
     if MOST_BYTES < text.len() {
-        return refused(Verdict::Malformed);
+        return refused(Status::Malformed);
     }
     let mut rows = [[0u32; 8]; 8];
     let node = read_or(text, 0, MOST_DEEP, false, issued, &mut rows);
     let Read::Node(end, count) = node else {
-        return refused(Verdict::Malformed);
+        return refused(Status::Malformed);
     };
     if end < text.len() {
-        return refused(Verdict::Malformed);
+        return refused(Status::Malformed);
     }
     if MOST_PRODUCTS < count {
-        return refused(Verdict::TooWide);
+        return refused(Status::TooWide);
     }
     if count == 0 {
-        return refused(Verdict::Unsatisfiable);
+        return refused(Status::Unsatisfiable);
     }
     Compiled {
-        verdict: Verdict::Accepted,
+        status: Status::Accepted,
         count,
         rows: packed(&rows),
     }
 }
 
 // Document 01's number of a refusal; 0 of none.
-pub fn refusal_number(verdict: Verdict) -> u32
-    ensures { λ r. ⌜ r ≡ refusalNumber verdict ⌝ }
+pub fn refusal_number(status: Status) -> u32
+    ensures { λ r. ⌜ r ≡ refusalNumber status ⌝ }
 {
-    match verdict {
-        Verdict::Accepted => 0,
-        Verdict::Malformed => 11,
-        Verdict::TooWide => 12,
-        Verdict::Unsatisfiable => 13,
+    match status {
+        Status::Accepted => 0,
+        Status::Malformed => 11,
+        Status::TooWide => 12,
+        Status::Unsatisfiable => 13,
     }
 }
 
-fn refused(verdict: Verdict) -> Compiled
-    ensures { λ r. ⌜ r ≡ refusedOf verdict ⌝ }
+fn refused(status: Status) -> Compiled
+    ensures { λ r. ⌜ r ≡ refusedOf status ⌝ }
 {
     Compiled {
-        verdict,
+        status,
         count: 0,
         rows: [Row { cells: [0u32; 8] }; 8],
     }

@@ -12,9 +12,9 @@ use Rattle.product.specs.Product.{All, no-more, and-more}
 use Rattle.product.specs.Sum.{Sum}
 use Rattle.product.specs.Cells.{rowOf, rowsOf, blankRow}
 use Rattle.formula.specs.declared.text.Issued.{Issued}
-use Rattle.formula.specs.declared.text.Verdict.{Verdict}
+use Rattle.formula.specs.declared.text.Status.{Status}
 use Rattle.formula.specs.declared.text.Compiled.{Compiled}
-use Rattle.formula.specs.Outcome.{Outcome, accepted, malformed, tooWide, unsatisfiable, outcomeOf, refusalNumber, verdictOf, sumIn, rowWith}
+use Rattle.formula.specs.Outcome.{Outcome, accepted, malformed, tooWide, unsatisfiable, outcomeOf, refusalNumber, statusOf, sumIn, rowWith}
 use Rattle.formula.specs.Compiler.{Kept}
 use Rattle.formula.proofs.Opening.{laws}
 use Rattle.base.proofs.Truth.{and-left}
@@ -54,14 +54,14 @@ pub record Judged (o : Outcome) (n : ℕ) : Type 0 where
   pub wide : isTooWide o ≡ eqb n 12
   pub unsatisfiable : isUnsatisfiable o ≡ eqb n 13
 
-judged-so : (o : Outcome) → Judged o (refusalNumber (verdictOf o))
+judged-so : (o : Outcome) → Judged o (refusalNumber (statusOf o))
 judged-so (accepted ps) = record { malformed = refl; wide = refl; unsatisfiable = refl }
 judged-so malformed = record { malformed = refl; wide = refl; unsatisfiable = refl }
 judged-so tooWide = record { malformed = refl; wide = refl; unsatisfiable = refl }
 judged-so unsatisfiable = record { malformed = refl; wide = refl; unsatisfiable = refl }
 
-pub judged : (o : Outcome) {v : Verdict} → verdictOf o ≡ v → Judged o (refusalNumber v)
-judged o e = subst (λ (v : Verdict). Judged o (refusalNumber v)) e (judged-so o)
+pub judged : (o : Outcome) {v : Status} → statusOf o ≡ v → Judged o (refusalNumber v)
+judged o e = subst (λ (v : Status). Judged o (refusalNumber v)) e (judged-so o)
 
 pub sum-kept : (i : Issued) (s : List ℕ) → All Kept (sumIn (outcomeOf i s))
 sum-kept i s = go (outcomeOf i s) refl
@@ -79,8 +79,8 @@ rows-of lock operations [] no-more = refl
 rows-of lock operations (p ∷ ps) (and-more k ks) =
     ap₂ (λ (w : Row) (t : Table). w ∷ t) (product-row lock operations p k) (rows-of lock operations ps ks)
 
-pub rows-stored : (lock operations : ℕ) (v : Verdict) (ps : Sum) → All Kept ps
-    → rowsFrom lock operations (record { verdict = v; count = length ps; rows = map rowWith (rowsOf ps) }) ≡ map (productRow lock operations) ps
+pub rows-stored : (lock operations : ℕ) (v : Status) (ps : Sum) → All Kept ps
+    → rowsFrom lock operations (record { status = v; count = length ps; rows = map rowWith (rowsOf ps) }) ≡ map (productRow lock operations) ps
 rows-stored lock operations v ps kept =
     let f : Row → Row = rowFrom lock operations in
     let blanks : Table = replicate (8 - length ps) blankRow in

@@ -6,11 +6,11 @@ use Prim.Native.Nat.{ℕ, zero, suc, _≤_, _<_}
 use native.Mathlib.Omega.{arith}
 use lib.ListN.{length, length-map}
 use Rattle.base.specs.Lists.{any, keep, indexOf, each}
-use Rattle.model.specs.State.{isOfLock, hasLock, isLock, homeOf, segmentAt}
+use Rattle.model.specs.State.{isOfLock, hasLock, isLock, lockSegment, segmentAt}
 use Rattle.model.specs.Cells.{Cells, tableAt, productIn, usedRows, segmentIn, stateOf}
 use Rattle.base.proofs.Lists.{caseBool, indexOf-lt, any-map, keep-map, length-each}
 use Rattle.model.proofs.Refinement.Serving.{segmentsIn, segment-at}
-use Rattle.locks.specs.Internal.{isOf, hasRow, homeIn}
+use Rattle.locks.specs.Internal.{isOf, hasRow, segmentOfLock}
 
 module _ {A : Type 0} (p : A → Bool) where
   index-none : (xs : List A) → length xs ≤ indexOf p xs → any p xs ≡ false
@@ -32,19 +32,19 @@ module _ (d : Cells) (lock : ℕ) where
   row-of : (s : ℕ) → hasLock lock (segmentIn d s) ≡ hasRow lock (tableAt (d .locks) s)
   row-of s = any-map (isOfLock lock) productIn (usedRows (tableAt (d .locks) s))
 
-  pub home-is : homeOf (stateOf d) lock ≡ homeIn lock (segmentsIn d) (d .locks)
+  pub lock-segment-is : lockSegment (stateOf d) lock ≡ segmentOfLock lock (segmentsIn d) (d .locks)
   unfolding stateOf
-  home-is = same-index (hasLock lock) (segmentIn d) (hasRow lock) (tableAt (d .locks)) row-of 0 (segmentsIn d)
+  lock-segment-is = same-index (hasLock lock) (segmentIn d) (hasRow lock) (tableAt (d .locks)) row-of 0 (segmentsIn d)
 
-  pub no-home : segmentsIn d ≤ homeOf (stateOf d) lock → isLock (stateOf d) lock ≡ false
+  pub no-lock-segment : segmentsIn d ≤ lockSegment (stateOf d) lock → isLock (stateOf d) lock ≡ false
   unfolding stateOf
-  no-home h =
+  no-lock-segment h =
       let n = length-each (segmentIn d) 0 (segmentsIn d) in
       index-none (hasLock lock) (each (segmentIn d) 0 (segmentsIn d)) (omega arith)
 
-  pub has-home : homeOf (stateOf d) lock < segmentsIn d → isLock (stateOf d) lock ≡ true
+  pub has-lock-segment : lockSegment (stateOf d) lock < segmentsIn d → isLock (stateOf d) lock ≡ true
   unfolding stateOf
-  has-home h =
+  has-lock-segment h =
       let n = length-each (segmentIn d) 0 (segmentsIn d) in
       index-some (hasLock lock) (each (segmentIn d) 0 (segmentsIn d)) (omega arith)
 

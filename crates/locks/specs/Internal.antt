@@ -10,7 +10,7 @@ use Rattle.product.specs.Sum.{mostLiterals}
 use Rattle.product.specs.Code.{literalOf}
 use Rattle.product.specs.Cells.{sizeOf}
 use Rattle.formula.specs.declared.text.Issued.{Issued}
-use Rattle.formula.specs.declared.text.Verdict.the-variants.{Accepted as AcceptedText, Malformed as MalformedText, TooWide as TooWideText, Unsatisfiable as UnsatisfiableText}
+use Rattle.formula.specs.declared.text.Status.the-variants.{Accepted as AcceptedText, Malformed as MalformedText, TooWide as TooWideText, Unsatisfiable as UnsatisfiableText}
 use Rattle.formula.specs.declared.text.Row.{Row as Compiled·Row}
 use Rattle.formula.specs.declared.text.Compiled.{Compiled}
 use Rattle.formula.specs.Outcome.{rowWith}
@@ -43,11 +43,11 @@ abbrev pub hasRow : ℕ → Table → Bool
 hasRow lock t = any (isOf lock) (usedRows t)
 
 -- the first of the first n tables that has one
-abbrev pub homeIn : ℕ → ℕ → List Table → ℕ
-homeIn lock n ts = indexOf (hasRow lock) (each (tableAt ts) 0 n)
+abbrev pub segmentOfLock : ℕ → ℕ → List Table → ℕ
+segmentOfLock lock n ts = indexOf (hasRow lock) (each (tableAt ts) 0 n)
 
 pub record HomeFound (lock n : ℕ) (ts : List Table) (r : ℕ) : Type 0 where
-  pub place : r ≡ homeIn lock n ts
+  pub place : r ≡ segmentOfLock lock n ts
   pub low : r ≤ n
 
 -- ---- rows that stay
@@ -124,10 +124,10 @@ pub data LockStored (registry : Row) (t : Table) (operations : ℕ) (x : Compile
 
 -- the refusal of a text, or its lock is stored
 pub data LockJudged (registry : Row) (t : Table) (operations : ℕ) (x : Compiled) : Answer → Row → Table → Type 0 where
-  malformed-text : x .verdict ≡ MalformedText → LockJudged registry t operations x (Refused Malformed) registry t
-  wide-text : x .verdict ≡ TooWideText → LockJudged registry t operations x (Refused TooWide) registry t
-  unsatisfiable-text : x .verdict ≡ UnsatisfiableText
+  malformed-text : x .status ≡ MalformedText → LockJudged registry t operations x (Refused Malformed) registry t
+  wide-text : x .status ≡ TooWideText → LockJudged registry t operations x (Refused TooWide) registry t
+  unsatisfiable-text : x .status ≡ UnsatisfiableText
       → LockJudged registry t operations x (Refused Unsatisfiable) registry t
-  accepted-text : {r : Answer} {registry′ : Row} {t′ : Table} → x .verdict ≡ AcceptedText
+  accepted-text : {r : Answer} {registry′ : Row} {t′ : Table} → x .status ≡ AcceptedText
       → LockStored registry t operations x r registry′ t′
       → LockJudged registry t operations x r registry′ t′

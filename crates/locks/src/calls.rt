@@ -7,11 +7,11 @@ ghost use Rattle.model.specs.Serving.{ServesText, ServesLent};
 ghost use Rattle.locks.specs.Internal.{setLimit, issuedIn, LockJudged, LockStored};
 use crate::rows::add_rows;
 use crate::rows::drop_rows;
-use crate::rows::home;
+use crate::rows::segment_of;
 use crate::rows::used;
 use formula::text::Compiled;
 use formula::text::Issued;
-use formula::text::Verdict;
+use formula::text::Status;
 use formula::text::compile;
 use model::answer::Answer;
 use model::answer::Refusal;
@@ -102,12 +102,12 @@ fn judge_lock(
     ensures { λ r. ⌜ LockJudged (now (registry .entry)) (now (products .entry)) operations compiled r
         (now (registry .exit)) (now (products .exit)) ⌝ }
 {
-    let verdict = compiled.verdict;
-    match verdict {
-        Verdict::Accepted => store_lock(registry, products, operations, compiled),
-        Verdict::Malformed => Answer::Refused(Refusal::Malformed),
-        Verdict::TooWide => Answer::Refused(Refusal::TooWide),
-        Verdict::Unsatisfiable => Answer::Refused(Refusal::Unsatisfiable),
+    let status = compiled.status;
+    match status {
+        Status::Accepted => store_lock(registry, products, operations, compiled),
+        Status::Malformed => Answer::Refused(Refusal::Malformed),
+        Status::TooWide => Answer::Refused(Refusal::TooWide),
+        Status::Unsatisfiable => Answer::Refused(Refusal::Unsatisfiable),
     }
 }
 
@@ -153,7 +153,7 @@ pub fn drop_lock(
         return Answer::Refused(Refusal::UnknownUser);
     }
     let n = segments_in(registry);
-    let s = home(locks, n, lock);
+    let s = segment_of(locks, n, lock);
     if n <= s {
         return Answer::Refused(Refusal::NoLock);
     }

@@ -54,7 +54,7 @@ fn has_row(products: &Products, lock: u16) -> bool
 }
 
 // The first of the first n segments that has a row of the lock; n where none has.
-pub(crate) fn home(locks: &Locks, n: usize, lock: u16) -> usize
+pub(crate) fn segment_of(locks: &Locks, n: usize, lock: u16) -> usize
     requires { ⌜ n ≤ mostSegments ⌝ }
     ensures { λ r. ⌜ HomeFound lock n (now (locks .entry)) r ⌝ }
 {

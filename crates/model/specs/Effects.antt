@@ -14,8 +14,8 @@ use Rattle.call.specs.declared.request.Request.the-variants as request
 use Rattle.base.specs.Lists.{keep, tailOf}
 use Rattle.model.specs.Operations.{execute, grants}
 use Rattle.model.specs.Threads.{Frame, Thread, sameKey}
-use Rattle.model.specs.State.{LockProduct, Segment, Place, State, segmentAt, issued, isFree, placeFor, placeOf, threadAt, isOfLock, homeOf, free, taken}
-use Rattle.model.specs.Refusals.{opening, lockOf}
+use Rattle.model.specs.State.{LockProduct, Segment, Place, State, segmentAt, issued, isFree, placeFor, placeOf, threadAt, isOfLock, lockSegment, free, taken}
+use Rattle.model.specs.Refusals.{openingProduct, lockOf}
 
 -- ---- what an accepted call changes
 
@@ -106,7 +106,7 @@ module _ (compile : Compiler) where
       let n = d .lockNumbers in
       let ps = sumIn (compile (issued d) text) in
       withLockNumbers (onSegment d b (addProducts n c ps)) (suc n)
-  update d (request.DropLock a b) text = onSegment d (homeOf d b) (dropProducts b)
+  update d (request.DropLock a b) text = onSegment d (lockSegment d b) (dropProducts b)
   update d (request.CallSegment a b) text = atPlace d a (onThread (pushFrame b (segmentAt d b .keys)))
   update d (request.ReturnCall a) text = atPlace d a (onThread popFrame)
   update d (request.Access a b c) text = d
@@ -122,7 +122,7 @@ module _ (compile : Compiler) where
   answer d (request.GiveKey a b c) text = length (giveKey c (segmentAt d b) .keys)
   answer d (request.TakeKey a b c) text = length (takeKey c (segmentAt d b) .keys)
   answer d (request.AddLock a b c) text = d .lockNumbers
-  answer d (request.DropLock a b) text = length (keep (isOfLock b) (segmentAt d (homeOf d b) .products))
-  answer d (request.CallSegment a b) text = lockOf (opening d grants a b execute)
+  answer d (request.DropLock a b) text = length (keep (isOfLock b) (segmentAt d (lockSegment d b) .products))
+  answer d (request.CallSegment a b) text = lockOf (openingProduct d grants a b execute)
   answer d (request.ReturnCall a) text = newest (threadAt d a .frames)
-  answer d (request.Access a b c) text = lockOf (opening d grants a b c)
+  answer d (request.Access a b c) text = lockOf (openingProduct d grants a b c)

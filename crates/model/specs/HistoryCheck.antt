@@ -80,12 +80,12 @@ pub record Granted (holds : Meaning) (h : History) (o : Operation) (t : Thread) 
 
 -- a check's answer: 'If a deny lock opens, the lowest one's number goes with refusal 14. Otherwise the lowest opening
 -- grant lock is the answer, and 15 if none opens.' Then comes 10.
-abbrev pub verdict : Option Lock → Option Lock → Bool → Answer
-verdict (some l) g room = Refused (Denied (l .number))
-verdict none none room = Refused NotGranted
-verdict none (some l) false = Refused Full
-verdict none (some l) true = Accepted (l .number)
+abbrev pub checkAnswer : Option Lock → Option Lock → Bool → Answer
+checkAnswer (some l) g room = Refused (Denied (l .number))
+checkAnswer none none room = Refused NotGranted
+checkAnswer none (some l) false = Refused Full
+checkAnswer none (some l) true = Accepted (l .number)
 
 -- The standing locks are in the order of their numbers (`Numbering`), so the first that opens is the lowest.
 abbrev pub answerFrom : Meaning → History → Operation → Thread → Answer
-answerFrom holds h o t = verdict (first (lockOpens holds denies o t) (h .locks)) (first (lockOpens holds grants o t) (h .locks)) (hasRoom o t)
+answerFrom holds h o t = checkAnswer (first (lockOpens holds denies o t) (h .locks)) (first (lockOpens holds grants o t) (h .locks)) (hasRoom o t)

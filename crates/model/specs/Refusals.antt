@@ -19,7 +19,7 @@ use Rattle.base.specs.Lists.{first, isSome, orDefault}
 use Rattle.model.specs.Limits.{mostUsers, mostThreads, mostSegments, mostDefined, mostListed, mostStanding, mostFrames, mostNumbers, passes}
 use Rattle.model.specs.Operations.{execute, denies, grants, sheet, takes, isAccess, takesSet}
 use Rattle.model.specs.Threads.{isIn, KeySet, keySet}
-use Rattle.model.specs.State.{LockProduct, State, isUser, isSegment, isKey, segmentAt, owns, made, issued, liveIn, isLive, threadAt, isLock, homeOf}
+use Rattle.model.specs.State.{LockProduct, State, isUser, isSegment, isKey, segmentAt, owns, made, issued, liveIn, isLive, threadAt, isLock, lockSegment}
 
 -- ---- the check
 
@@ -28,8 +28,8 @@ opensFor stands n keys r = stands (r .operations) n && opens keys (r .product)
 
 -- The first product that opens for thread a, of the locks on segment b that stand for operation n, as deny locks or as
 -- grant locks. It is the lowest such lock's: `answer` of `Granting`, `inOrder` of `Numbering`.
-unfoldable pub opening : State → (ℕ → ℕ → Bool) → ℕ → ℕ → ℕ → Option LockProduct
-opening d stands a b n = first (opensFor stands n (keySet a (threadAt d a))) (segmentAt d b .products)
+unfoldable pub openingProduct : State → (ℕ → ℕ → Bool) → ℕ → ℕ → ℕ → Option LockProduct
+openingProduct d stands a b n = first (opensFor stands n (keySet a (threadAt d a))) (segmentAt d b .products)
 
 abbrev pub lockOf : Option LockProduct → ℕ
 lockOf o = orDefault 0 (λ r. r .lock) o
@@ -59,10 +59,10 @@ isUnsatisfiable unsatisfiable = true
 
 -- 'If a deny lock opens, the lowest one's number goes with refusal 14. Otherwise .. 15 if none opens.'
 abbrev pub denied : State → ℕ → ℕ → ℕ → Condition Refusal
-denied d a b n = let o = opening d denies a b n in when (isSome o) (Denied (lockOf o))
+denied d a b n = let o = openingProduct d denies a b n in when (isSome o) (Denied (lockOf o))
 
 abbrev pub notGranted : State → ℕ → ℕ → ℕ → Condition Refusal
-notGranted d a b n = unless (isSome (opening d grants a b n)) NotGranted
+notGranted d a b n = unless (isSome (openingProduct d grants a b n)) NotGranted
 
 module _ (compile : Compiler) where
   -- 'Checked in that order, 10 last.'
@@ -114,7 +114,7 @@ module _ (compile : Compiler) where
   conditions d (request.DropLock a b) text =
       unless (isUser d a) UnknownUser
       ∷ unless (isLock d b) NoLock
-      ∷ unless (owns d a (homeOf d b)) NotOwner
+      ∷ unless (owns d a (lockSegment d b)) NotOwner
       ∷ []
   conditions d (request.CallSegment a b) text =
       unless (isLive d a) NoThread

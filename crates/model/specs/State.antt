@@ -121,5 +121,5 @@ abbrev pub isLock : State → ℕ → Bool
 isLock d n = any (hasLock n) (d .segments)
 
 -- the segment that it is on
-abbrev pub homeOf : State → ℕ → ℕ
-homeOf d n = indexOf (hasLock n) (d .segments)
+abbrev pub lockSegment : State → ℕ → ℕ
+lockSegment d n = indexOf (hasLock n) (d .segments)

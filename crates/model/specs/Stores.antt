@@ -22,7 +22,7 @@ use Rattle.model.specs.declared.answer.Refusal.the-variants.{Corrupt}
 use Rattle.model.specs.declared.answer.Answer.{Answer}
 use Rattle.model.specs.declared.answer.Answer.the-variants.{Accepted, Refused}
 use Rattle.base.specs.Lists.{keep}
-use Rattle.model.specs.State.{isFree, placeFor, placeOf, homeOf, issued}
+use Rattle.model.specs.State.{isFree, placeFor, placeOf, lockSegment, issued}
 use Rattle.model.specs.Refusals.{conditions}
 use Rattle.model.specs.Effects.{answer}
 use Rattle.model.specs.Cells.{Row, Table, Cells, registryIs, makersAre, segmentsAre, locksAre, threadsAre, cell, rowAt, tableAt, userCount, threadCount, segmentCount, definedCount, lockCount, frameCount, liveCell, definedCell, hasKey, keyRow, literalCell, head, usedRows, depthOf, productIn, listRow, stateOf}
@@ -112,7 +112,7 @@ module _ (compile : Compiler) where
       let n = cell (d .registry) lockCount in
       let ps = sumIn (compile (issued (stateOf d)) text) in
       handOut lockCount (locksAre (onTable (d .locks) b (addRows n c ps)) d)
-  store d (request.DropLock a b) text = locksAre (onTable (d .locks) (homeOf (stateOf d) b) (dropRows b)) d
+  store d (request.DropLock a b) text = locksAre (onTable (d .locks) (lockSegment (stateOf d) b) (dropRows b)) d
   store d (request.CallSegment a b) text = atThread d a (pushRow (listRow b (tableAt (d .segments) b)))
   store d (request.ReturnCall a) text = atThread d a popRow
   store d (request.Access a b c) text = d

@@ -13,7 +13,7 @@ use borrow.Author.Tests.{le-leb, lt-leb, leb-true}
 use Rattle.product.specs.Product.{Product, same, contradictory, sameProduct}
 use Rattle.product.specs.Sum.{Sum, Sum?, joinAll, conjoin, disjoin, present, consistent, firsts, tidy, narrow, fitsNode, cap, joined}
 use Rattle.product.specs.Code.{literalOf}
-use Rattle.product.specs.Cells.{sizeOf, productOf, productsOf, sumOf, rowOf, blankRow, rowsOf, Written}
+use Rattle.product.specs.Cells.{sizeOf, productOf, productsOf, sumOf, rowOf, blankRow, rowsOf, HoldsSum}
 use Rattle.product.specs.Internal.{add, addTo, addEach, Clean, Filled, Row}
 use Rattle.base.proofs.Truth.{and-both}
 use Rattle.base.proofs.Parts.{part-snoc, length-part, part-cons, part-past}
@@ -191,11 +191,11 @@ module _ {rows : List (List ℕ)} {n : ℕ} (h : n ≤ 8) (c : Clean rows n) (p 
       }
 
 -- a finished sum
-pub finished : {rows : List (List ℕ)} {n : ℕ} → Clean rows n → n ≤ 8 → Written (sumOf n rows) rows n
+pub finished : {rows : List (List ℕ)} {n : ℕ} → Clean rows n → n ≤ 8 → HoldsSum (sumOf n rows) rows n
 finished {rows} {n} c h =
     record { cells = c .cells h ∙ rw (sum-few rows h); count = sym (rw (sum-few rows h) (clean-count h c)); reads = refl }
 
-pub blanked : (rows : List (List ℕ)) (n : ℕ) → 8 < n → Written (sumOf n rows) (rowsOf []) 9
+pub blanked : (rows : List (List ℕ)) (n : ℕ) → 8 < n → HoldsSum (sumOf n rows) (rowsOf []) 9
 blanked rows n h = record { cells = rw (sum-wide rows h); count = rw (sum-wide rows h); reads = rw (sum-wide rows h) }
 
 -- a loop that adds products: what is left to add makes the total
@@ -222,23 +222,23 @@ module _ {total : Sum?} {rest : Sum} {rows : List (List ℕ)} {n : ℕ} (a : Add
 
 -- two sums joined: the left one too wide, the right one, and neither
 module _ (g : Sum → Sum → Sum) (left right : List (List ℕ)) (n m : ℕ) where
-  pub left-wide : 8 < n → Written (joined g (sumOf n left) (sumOf m right)) (rowsOf []) 9
+  pub left-wide : 8 < n → HoldsSum (joined g (sumOf n left) (sumOf m right)) (rowsOf []) 9
   left-wide h = let e = sum-wide left h in record { cells = rw e; count = rw e; reads = rw e }
 
-  pub right-wide : n ≤ 8 → 8 < m → Written (joined g (sumOf n left) (sumOf m right)) (rowsOf []) 9
+  pub right-wide : n ≤ 8 → 8 < m → HoldsSum (joined g (sumOf n left) (sumOf m right)) (rowsOf []) 9
   right-wide h k = let e = sum-few left h in let d = sum-wide right k in record { cells = rw (e, d); count = rw (e, d); reads = rw (e, d) }
 
   neither-wide : {x : Sum?} {rows out : List (List ℕ)} {k c : ℕ} → n ≤ 8 → m ≤ 8 → Filled x rows k → x ≡ cap (g (productsOf n left) (productsOf m right))
-      → Written (sumOf k rows) out c → Written (joined g (sumOf n left) (sumOf m right)) out c
+      → HoldsSum (sumOf k rows) out c → HoldsSum (joined g (sumOf n left) (sumOf m right)) out c
   neither-wide h k f e w = rw (sum-few left h, sum-few right k, ← e, ← f .reads) w
 
 module _ (left right : List (List ℕ)) (n m : ℕ) (h : n ≤ 8) (k : m ≤ 8) {rows out : List (List ℕ)} {j c : ℕ} where
-  pub conjoined : Filled (addEach (some []) (joinAll (productsOf n left) (productsOf m right))) rows j → Written (sumOf j rows) out c
-      → Written (joined conjoin (sumOf n left) (sumOf m right)) out c
+  pub conjoined : Filled (addEach (some []) (joinAll (productsOf n left) (productsOf m right))) rows j → HoldsSum (sumOf j rows) out c
+      → HoldsSum (joined conjoin (sumOf n left) (sumOf m right)) out c
   conjoined f w = neither-wide conjoin left right n m h k f (each-tidy (joinAll (productsOf n left) (productsOf m right))) w
 
   pub disjoined : {new : List (List ℕ)} {i : ℕ} → Filled (addEach (some []) (productsOf n left)) new i → Filled (addEach (sumOf i new) (productsOf m right)) rows j
-      → Written (sumOf j rows) out c → Written (joined disjoin (sumOf n left) (sumOf m right)) out c
+      → HoldsSum (sumOf j rows) out c → HoldsSum (joined disjoin (sumOf n left) (sumOf m right)) out c
   disjoined d f w =
       let ps = productsOf n left in
       let qs = productsOf m right in

@@ -55,7 +55,7 @@ countOf none = tooWideCount
 countOf (some ps) = length ps
 
 -- rows and a count are a sum's, cell by cell, and read as that sum
-pub record Written (x : Sum?) (rows : List (List ℕ)) (n : ℕ) : Type 0 where
+pub record HoldsSum (x : Sum?) (rows : List (List ℕ)) (n : ℕ) : Type 0 where
   pub cells : rows ≡ cellsOf x
   pub count : n ≡ countOf x
   pub reads : sumOf n rows ≡ x

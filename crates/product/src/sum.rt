@@ -5,7 +5,7 @@ ghost use mathlib.Core.Option.{some};
 ghost use Prim.Native.Nat.{_≤_};
 ghost use lib.ListN.{length};
 ghost use Rattle.product.specs.Sum.{conjoin, disjoin, joined, present, joinEach, joinAll};
-ghost use Rattle.product.specs.Cells.{productOf, productsOf, sumOf, Written};
+ghost use Rattle.product.specs.Cells.{productOf, productsOf, sumOf, HoldsSum};
 ghost use Rattle.product.specs.Internal.{Blank, Clean, Filled, wideOf, addTo, addEach};
 use crate::literal::Literal;
 use crate::literal::encode;
@@ -28,7 +28,7 @@ pub const TOO_WIDE: usize = 9;
 
 // The sum of one literal.
 pub fn single(l: Literal, rows: &mut Rows) -> usize
-    ensures { λ r. ⌜ Written (some ((l ∷ []) ∷ [])) (now (rows .exit)) r ⌝ }
+    ensures { λ r. ⌜ HoldsSum (some ((l ∷ []) ∷ [])) (now (rows .exit)) r ⌝ }
 {
     *rows = [[0u32; 8]; 8];
     let cell = encode(l);
@@ -38,7 +38,7 @@ pub fn single(l: Literal, rows: &mut Rows) -> usize
 
 // The list of an AND node: the left sum joined with the right one.
 pub fn conjoin(left: &Rows, n: usize, right: &Rows, m: usize, rows: &mut Rows) -> usize
-    ensures { λ r. ⌜ Written
+    ensures { λ r. ⌜ HoldsSum
         (joined conjoin (sumOf n (now (left .entry))) (sumOf m (now (right .entry)))) (now (rows .exit)) r ⌝ }
 {
     *rows = [[0u32; 8]; 8];
@@ -54,7 +54,7 @@ pub fn conjoin(left: &Rows, n: usize, right: &Rows, m: usize, rows: &mut Rows) -
 
 // The list of an OR node, in the same way.
 pub fn disjoin(left: &Rows, n: usize, right: &Rows, m: usize, rows: &mut Rows) -> usize
-    ensures { λ r. ⌜ Written
+    ensures { λ r. ⌜ HoldsSum
         (joined disjoin (sumOf n (now (left .entry))) (sumOf m (now (right .entry)))) (now (rows .exit)) r ⌝ }
 {
     *rows = [[0u32; 8]; 8];
@@ -165,7 +165,7 @@ fn present(rows: &[Cells], n: usize, row: &Cells) -> bool
 // Leaves no cell of a sum that is too wide.
 fn finish(rows: &mut Rows, n: usize) -> usize
     requires { ⌜ Clean (now rows) n ⌝ }
-    ensures { λ r. ⌜ Written (sumOf n (now (rows .entry))) (now (rows .exit)) r ⌝ }
+    ensures { λ r. ⌜ HoldsSum (sumOf n (now (rows .entry))) (now (rows .exit)) r ⌝ }
 {
     if n <= MOST_PRODUCTS {
         return n;

@@ -14,7 +14,7 @@ use Rattle.model.specs.declared.answer.Answer.the-variants.{Accepted, Refused}
 use Rattle.base.specs.Lists.{isSome}
 use Rattle.model.specs.Operations.{denies, grants}
 use Rattle.model.specs.State.{State, LockProduct, isLive, isSegment}
-use Rattle.model.specs.Refusals.{lockOf, opening, unless, denied, notGranted}
+use Rattle.model.specs.Refusals.{lockOf, openingProduct, unless, denied, notGranted}
 use Rattle.base.proofs.Lists.{caseBool}
 use Rattle.checking.specs.Deciding.{decide, answerOf}
 
@@ -48,10 +48,10 @@ module _ (d : State) (a b n : ℕ) (fit : Bool) (rest : List (Condition Refusal)
 
       module _ (fits : fit ≡ true) where
         abbrev od : Option LockProduct
-        od = opening d denies a b n
+        od = openingProduct d denies a b n
 
         abbrev og : Option LockProduct
-        og = opening d grants a b n
+        og = openingProduct d grants a b n
 
         -- what the check refuses, the gates refuse; what it accepts, they let through
         pub as-refused : {r : Refusal} → checked od og ≡ Refused r → firstRefusal gates ≡ some r

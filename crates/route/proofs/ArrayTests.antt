@@ -15,7 +15,7 @@ use Rattle.model.specs.declared.answer.Answer.the-variants.{Accepted, Refused}
 use Rattle.model.specs.Limits.{mostThreads}
 use Rattle.model.specs.Operations.{denies, grants, isOperation}
 use Rattle.model.specs.State.{isThread, isSegment}
-use Rattle.model.specs.Refusals.{lockOf, opening, conditions}
+use Rattle.model.specs.Refusals.{lockOf, openingProduct, conditions}
 use Rattle.model.specs.Cells.{Table, Cells, tableAt, stateOf}
 use Rattle.model.specs.Serving.{Serves}
 use Rattle.model.proofs.Refinement.Serving.{segmentsIn, segment-at, is-segment, serves-refused}
@@ -56,12 +56,12 @@ module _ (d : Cells) (q : Request) (text : List ℕ) (a b n i : ℕ) (fit : Bool
       misfit e = refuses (unfit (stateOf d) a b n fit rest (standing .live) out e)
 
       -- the check on the thread's rows and the segment's products is the model's
-      asks : (stands′ : ℕ → ℕ → Bool) → opening (stateOf d) stands′ a b n ≡ firstOpening stands′ (tableAt (d .threads) i) (tableAt (d .locks) b) n
-      unfolding opening
+      asks : (stands′ : ℕ → ℕ → Bool) → openingProduct (stateOf d) stands′ a b n ≡ firstOpening stands′ (tableAt (d .threads) i) (tableAt (d .locks) b) n
+      unfolding openingProduct
       asks stands′ = rw (standing .thread, standing .number, segment-at d b low)
 
       module _ (fits : fit ≡ true) (known : isOperation n ≡ true) where
-        as-checked : checked (opening (stateOf d) denies a b n) (opening (stateOf d) grants a b n) ≡ answeredBy (tableAt (d .threads) i) (tableAt (d .locks) b) n
+        as-checked : checked (openingProduct (stateOf d) denies a b n) (openingProduct (stateOf d) grants a b n) ≡ answeredBy (tableAt (d .threads) i) (tableAt (d .locks) b) n
         unfolding checkOf
         as-checked = rw (asks denies, asks grants, known)
 
@@ -69,7 +69,7 @@ module _ (d : Cells) (q : Request) (text : List ℕ) (a b n i : ℕ) (fit : Bool
         turned-away e = refuses (as-refused (stateOf d) a b n fit rest (standing .live) out fits (as-checked ∙ sym e))
 
         pub let-through : {lock : ℕ} → Accepted lock ≡ answeredBy (tableAt (d .threads) i) (tableAt (d .locks) b) n
-            → (firstRefusal (conditions outcomeOf (stateOf d) q text) ≡ firstRefusal rest) × (lock ≡ lockOf (opening (stateOf d) grants a b n))
+            → (firstRefusal (conditions outcomeOf (stateOf d) q text) ≡ firstRefusal rest) × (lock ≡ lockOf (openingProduct (stateOf d) grants a b n))
         let-through e =
             let (free, lock) = as-accepted (stateOf d) a b n fit rest (standing .live) out fits (as-checked ∙ sym e) in
             (ap firstRefusal same ∙ free, lock)

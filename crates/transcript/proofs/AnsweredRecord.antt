@@ -16,7 +16,7 @@ use Rattle.journal.proofs.RecordSizes.{found-record}
 use Rattle.model.specs.declared.answer.Answer.{Answer}
 use Rattle.model.specs.Cells.{Cells}
 use Rattle.model.specs.Serving.{Answers}
-use Rattle.transcript.specs.Lines.{line, hasRoom, Written, mostLine}
+use Rattle.transcript.specs.Lines.{line, hasRoom, LinePut, mostLine}
 use Rattle.transcript.specs.Internal.{Answered}
 
 module _ (s : List ℕ) (i : ℕ) where
@@ -53,7 +53,7 @@ module _ (s : List ℕ) (i : ℕ) where
   call-is p = ap callOf p ∙ (let n : i + 9 + word s (i + 7) - (i + 9) ≡ word s (i + 7) = omega arith in rw n)
 
   entry-answered : {place used r : ℕ} {d d′ : Cells} {b b′ : List ℕ} {answer : Answer} → used + mostLine ≤ length b → Answers d (recordOf s i) answer d′
-      → Written mostLine b used (line place (recordOf s i .letter) answer) b′ r → Answered s i place d b used d′ b′ (record { next = nextOf s i; used = r })
+      → LinePut mostLine b used (line place (recordOf s i .letter) answer) b′ r → Answered s i place d b used d′ b′ (record { next = nextOf s i; used = r })
   entry-answered {place} {used} {r} {d} {d′} {b} {b′} k g w =
       let e : hasRoom mostLine b used ≡ true = le-leb (used + mostLine) (length b) k in
       record {
@@ -65,7 +65,7 @@ module _ (s : List ℕ) (i : ℕ) where
       }
 
   pub answered : {place used r : ℕ} {d d′ : Cells} {b b′ : List ℕ} {e : Entry} {answer : Answer} → used + mostLine ≤ length b → e ≡ entryOf s i
-      → Answers d (callOf e) answer d′ → Written mostLine b used (line place (e .letter) answer) b′ r → Answered s i place d b used d′ b′ (record { next = e .next; used = r })
+      → Answers d (callOf e) answer d′ → LinePut mostLine b used (line place (e .letter) answer) b′ r → Answered s i place d b used d′ b′ (record { next = e .next; used = r })
   answered {place} {used} {r} {d} {d′} {b} {b′} {e} {answer} k p g w =
       subst (λ (n : ℕ). Answered s i place d b used d′ b′ (record { next = n; used = r })) (sym (ap (λ (x : Entry). x .next) p))
-      (entry-answered k (subst (λ (x : Call). Answers d x answer d′) (call-is p) g) (subst (λ (x : Entry). Written mostLine b used (line place (x .letter) answer) b′ r) p w))
+      (entry-answered k (subst (λ (x : Call). Answers d x answer d′) (call-is p) g) (subst (λ (x : Entry). LinePut mostLine b used (line place (x .letter) answer) b′ r) p w))

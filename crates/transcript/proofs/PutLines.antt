@@ -16,17 +16,17 @@ use Rattle.model.specs.declared.answer.Answer.the-variants.{Accepted, Refused}
 use Rattle.model.specs.declared.answer.Refusal.{Refusal}
 use Rattle.model.specs.declared.answer.Refusal.the-variants.{UnknownUser, NoThread, NoSegment, NoKey, NoLock, NotOwner, Unfit, AlreadyPresent, NotPresent, Full, Malformed, TooWide, Unsatisfiable, Denied, NotGranted, Corrupt}
 use Rattle.model.specs.Answers.{refusalNumber, secondNumber}
-use Rattle.transcript.specs.Lines.{outcome, line, fileLine, hasRoom, Written}
+use Rattle.transcript.specs.Lines.{outcome, line, fileLine, hasRoom, LinePut}
 use Rattle.transcript.specs.Internal.{Put}
 use Rattle.transcript.proofs.Decimals.{two-digits}
 use Rattle.transcript.proofs.PutBytes.{put-then}
 
-pub no-room : (most : ℕ) (b : List ℕ) (i : ℕ) (s : List ℕ) → length b < i + most → Written most b i s b i
+pub no-room : (most : ℕ) (b : List ℕ) (i : ℕ) (s : List ℕ) → length b < i + most → LinePut most b i s b i
 no-room most b i s h =
     let e : hasRoom most b i ≡ false = lt-leb (i + most) (length b) h in
     record { stored = rw e; ends = rw e; short = omega arith }
 
-pub room : (most : ℕ) {i r : ℕ} {b s e : List ℕ} → i + most ≤ length b → r ≤ i + most → Put b i s e r → Written most b i s e r
+pub room : (most : ℕ) {i r : ℕ} {b s e : List ℕ} → i + most ≤ length b → r ≤ i + most → Put b i s e r → LinePut most b i s e r
 room most {i} {r} {b} h k p =
     let e : hasRoom most b i ≡ true = le-leb (i + most) (length b) h in
     record { stored = p .stored ∙ rw e; ends = p .ends ∙ rw e; short = k }

@@ -14,7 +14,7 @@ use Rattle.formula.proofs.Examples.{examples as formula-examples}
 use Rattle.call.specs.Calls.{decodedOf, recordFits}
 use Rattle.journal.specs.Format.{fileBytes}
 use Rattle.journal.specs.Reading.{wholeAt, wholeFrom, recordsFrom, recordsOf, verdictOf}
-use Rattle.model.specs.Refusals.{opening, conditions}
+use Rattle.model.specs.Refusals.{openingProduct, conditions}
 use Rattle.model.specs.Effects.{update, answer}
 use Rattle.model.specs.Model.{step}
 use Rattle.model.specs.Cells.{stateOf}
@@ -23,7 +23,7 @@ use Rattle.transcript.specs.Lines.{line, fileLine, printed}
 use Rattle.transcript.specs.Theorems.Trials.{StarredTrials, Trials}
 
 pub starred-trials : StarredTrials
-unfolding bytes outcomeOf issuedTo readText readNots readAtom readNumber readDigits listOf products fits fitsNode narrow firsts consistent present sameProduct joinAll joinEach union insert contradictory clashes compareLiterals compareAtoms orderOf keyCode codeOf keyAt literalAt opens decodedOf opening conditions update answer step stateOf store stepCells digits decimal recordFits fileBytes wholeAt wholeFrom recordsFrom recordsOf verdictOf line fileLine printed
+unfolding bytes outcomeOf issuedTo readText readNots readAtom readNumber readDigits listOf products fits fitsNode narrow firsts consistent present sameProduct joinAll joinEach union insert contradictory clashes compareLiterals compareAtoms orderOf keyCode codeOf keyAt literalAt opens decodedOf openingProduct conditions update answer step stateOf store stepCells digits decimal recordFits fileBytes wholeAt wholeFrom recordsFrom recordsOf verdictOf line fileLine printed
 starred-trials =
     record {
       route = refl;

@@ -61,7 +61,7 @@ hasRoom most buffer place = leb (place + most) (length buffer)
 
 -- Line s was to be written from a place on: where there is room it was, and `next` is the place after it; else nothing
 -- was, and `next` is the place.
-pub record Written (most : ℕ) (before : List ℕ) (place : ℕ) (s after : List ℕ) (next : ℕ) : Type 0 where
+pub record LinePut (most : ℕ) (before : List ℕ) (place : ℕ) (s after : List ℕ) (next : ℕ) : Type 0 where
   pub stored : after ≡ cond (hasRoom most before place) (sets before place s) before
   pub ends : next ≡ cond (hasRoom most before place) (place + length s) place
   pub short : next ≤ place + most

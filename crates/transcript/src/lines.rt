@@ -2,7 +2,7 @@
 // lends.
 ghost use Prim.Native.Nat.{_+_, _≤_};
 ghost use lib.ListN.{length};
-ghost use Rattle.transcript.specs.Lines.{outcome as outcomeBytes, line as lineOf, fileLine, mostLine, mostFileLine, Written};
+ghost use Rattle.transcript.specs.Lines.{outcome as outcomeBytes, line as lineOf, fileLine, mostLine, mostFileLine, LinePut};
 ghost use Rattle.transcript.specs.Internal.{Put, mostOutcome};
 use crate::bytes::decimal;
 use crate::bytes::put;
@@ -19,7 +19,7 @@ const MOST_FILE_LINE: usize = 11;
 // Writes the line of the record at that place from `at` on, and answers the place after it. Where fewer than
 // MOST_LINE bytes are left it writes nothing, and the answer is `at`.
 pub fn line(buffer: &mut [u8], at: usize, place: u16, letter: u8, answer: Answer) -> usize
-    ensures { λ r. ⌜ Written mostLine (now (buffer .entry)) at (lineOf place letter answer) (now (buffer .exit)) r ⌝ }
+    ensures { λ r. ⌜ LinePut mostLine (now (buffer .entry)) at (lineOf place letter answer) (now (buffer .exit)) r ⌝ }
 {
     if buffer.len() < MOST_LINE {
         return at;
@@ -35,7 +35,7 @@ pub fn line(buffer: &mut [u8], at: usize, place: u16, letter: u8, answer: Answer
 
 // The same for the line of a file that is refused.
 pub fn file_line(buffer: &mut [u8], at: usize, refusal: journal::file::Refusal) -> usize
-    ensures { λ r. ⌜ Written mostFileLine (now (buffer .entry)) at (fileLine refusal) (now (buffer .exit)) r ⌝ }
+    ensures { λ r. ⌜ LinePut mostFileLine (now (buffer .entry)) at (fileLine refusal) (now (buffer .exit)) r ⌝ }
 {
     if buffer.len() < MOST_FILE_LINE {
         return at;

@@ -8,7 +8,7 @@ use lib.Dec.{leb, eqb}
 use lib.ListN.{length, getD, drop}
 use Rattle.product.specs.declared.literal.Key.the-variants.{User, Thread, Segment, Defined}
 use Rattle.product.specs.Atom.{Atom}
-use Rattle.formula.specs.Spelling.{digitZero, digitNine, letterU, letterR, letterS, letterD, notSign, andSign, orSign, opening, closing}
+use Rattle.formula.specs.Spelling.{digitZero, digitNine, letterU, letterR, letterS, letterD, notSign, andSign, orSign, openBracket, closeBracket}
 use Rattle.formula.specs.Text.{mostDeep}
 use Rattle.formula.specs.Tree.{Level, nots, ands, ors, Tree, atom, negate, bracket, factor, and, term, or}
 
@@ -43,7 +43,7 @@ next none g = none
 next (some p) g = g (p .0) (p .1)
 
 abbrev pub close : Tree ors → List ℕ → Found nots
-close t r = cond (eqb (getD r 0 0) closing) (found (bracket t) (drop 1 r)) none
+close t r = cond (eqb (getD r 0 0) closeBracket) (found (bracket t) (drop 1 r)) none
 
 -- the key of a letter and a number
 abbrev pub keyNamed : ℕ → ℕ → Option Atom
@@ -77,7 +77,7 @@ module _ (known : Atom → Bool) where
     readNots (suc f) k s =
         let negated = next (readNots f k (drop 1 s)) (λ t r. found (negate t) r) in
         let bracketed = readBracket f k (drop 1 s) in
-        cond (eqb (getD s 0 0) notSign) negated (cond (eqb (getD s 0 0) opening) bracketed (readAtom s))
+        cond (eqb (getD s 0 0) notSign) negated (cond (eqb (getD s 0 0) openBracket) bracketed (readAtom s))
 
     pub readBracket : ℕ → ℕ → List ℕ → Found nots
     readBracket zero k s = none

@@ -10,10 +10,10 @@ use lib.Dec.{ltb}
 use lib.ListN.{length, getD, drop}
 use Rattle.product.specs.Atom.{Atom}
 use Rattle.product.specs.Code.{numberLimit}
-use Rattle.product.specs.Cells.{rowsOf, Written}
+use Rattle.product.specs.Cells.{rowsOf, HoldsSum}
 use Rattle.formula.specs.declared.text.Issued.{Issued}
 use Rattle.formula.specs.declared.text.Row.{Row}
-use Rattle.formula.specs.declared.text.Verdict.{Verdict}
+use Rattle.formula.specs.declared.text.Status.{Status}
 use Rattle.formula.specs.declared.text.Compiled.{Compiled}
 use Rattle.formula.specs.declared.number.Numeral.{Numeral}
 use Rattle.formula.specs.declared.number.Numeral.the-variants.{Missing, Value}
@@ -49,7 +49,7 @@ lookupOf (some a) = Named a
 -- an answer and rows, of what was read: nothing, or a tree's products and the place after it
 pub data Reads (odd : Bool) (s : List ℕ) {l : Level} (rows : List (List ℕ)) : Read → Found l → Type 0 where
   failed : Reads odd s rows Malformed none
-  parsed : {t : Tree l} {rest : List ℕ} {at n : ℕ} → rest ≡ drop at s → Written (listOf odd t) rows n
+  parsed : {t : Tree l} {rest : List ℕ} {at n : ℕ} → rest ≡ drop at s → HoldsSum (listOf odd t) rows n
       → Reads odd s rows (Node at n) (some (t, rest))
 
 -- Each promise holds at any fuel that is enough for the bytes that remain.
@@ -69,11 +69,11 @@ module _ (i : Issued) (s : List ℕ) (level : ℕ) (odd : Bool) (r : Read) (rows
 
   -- of a row that goes on, whose left part's products are in the rows at first
   abbrev pub MoreAnd : ℕ → ℕ → List (List ℕ) → Type 0
-  MoreAnd at n old = (t : Tree ands) → Written (listOf odd t) old n → (f : ℕ) → 4 * (length s - at) + 2 ≤ f
+  MoreAnd at n old = (t : Tree ands) → HoldsSum (listOf odd t) old n → (f : ℕ) → 4 * (length s - at) + 2 ≤ f
       → Reads odd s rows r (moreAnds (issuedTo i) f level t (drop at s))
 
   abbrev pub MoreOr : ℕ → ℕ → List (List ℕ) → Type 0
-  MoreOr at n old = (t : Tree ors) → Written (listOf odd t) old n → (f : ℕ) → 4 * (length s - at) + 3 ≤ f
+  MoreOr at n old = (t : Tree ors) → HoldsSum (listOf odd t) old n → (f : ℕ) → 4 * (length s - at) + 3 ≤ f
       → Reads odd s rows r (moreOrs (issuedTo i) f level t (drop at s))
 
 abbrev pub AtomAt : Issued → List ℕ → Bool → Read → List (List ℕ) → ℕ → Type 0
@@ -86,5 +86,5 @@ eightRows rows =
     ∷ rowWith (getD rows 4 []) ∷ rowWith (getD rows 5 []) ∷ rowWith (getD rows 6 []) ∷ rowWith (getD rows 7 []) ∷ []
 
 -- the answer of a refusal
-abbrev pub refusedOf : Verdict → Compiled
-refusedOf v = record { verdict = v; count = 0; rows = map rowWith (rowsOf []) }
+abbrev pub refusedOf : Status → Compiled
+refusedOf v = record { status = v; count = 0; rows = map rowWith (rowsOf []) }

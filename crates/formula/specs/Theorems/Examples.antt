@@ -13,7 +13,7 @@ use Rattle.product.specs.Sum.{Sum, opensAny}
 use Rattle.product.specs.Cells.{blankRow}
 use Rattle.product.specs.Held.{heldBy}
 use Rattle.formula.specs.declared.text.Issued.{Issued}
-use Rattle.formula.specs.declared.text.Verdict.the-variants.{Accepted, Unsatisfiable}
+use Rattle.formula.specs.declared.text.Status.the-variants.{Accepted, Unsatisfiable}
 use Rattle.formula.specs.Spelling.{notSign}
 use Rattle.formula.specs.Outcome.{outcomeOf, sumIn, rowWith, compiledOf}
 use Rattle.formula.specs.Meaning.{textHolds}
@@ -45,12 +45,12 @@ pub record Examples : Type 0 where
   -- of a refusal
   pub rows : compiledOf (made 2) (bytes "!(D0|D1)")
       ≡ record {
-        verdict = Accepted;
+        status = Accepted;
         count = 1;
         rows = rowWith (393217 ∷ 393219 ∷ 0 ∷ 0 ∷ 0 ∷ 0 ∷ 0 ∷ 2 ∷ []) ∷ replicate 7 (rowWith blankRow);
       }
   pub blank : compiledOf (made 2) (bytes "D0&!D0")
-      ≡ record { verdict = Unsatisfiable; count = 0; rows = replicate 8 (rowWith blankRow) }
+      ≡ record { status = Unsatisfiable; count = 0; rows = replicate 8 (rowWith blankRow) }
 
 -- a different number of keys of each kind: U0; R0, R1; S0 to S2; D0 to D3
 abbrev pub several : Issued

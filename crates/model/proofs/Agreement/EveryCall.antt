@@ -27,7 +27,7 @@ use Rattle.model.specs.declared.answer.Refusal.{Refusal}
 use Rattle.base.specs.Lists.{adjust, tailOf}
 use Rattle.model.specs.Limits.{mostThreads, passes}
 use Rattle.model.specs.Threads.{Thread}
-use Rattle.model.specs.State.{State, emptyState, findThread, threadAt, isFree, placeFor, free, taken, Segment, blankSegment, segmentAt, liveIn, issued, isLive, isLock, homeOf, placeOf}
+use Rattle.model.specs.State.{State, emptyState, findThread, threadAt, isFree, placeFor, free, taken, Segment, blankSegment, segmentAt, liveIn, issued, isLive, isLock, lockSegment, placeOf}
 use Rattle.model.specs.Refusals.{isMalformed, isTooWide, isUnsatisfiable, conditions}
 use Rattle.model.specs.Effects.{onThread, pushFrame, popFrame, giveKey, takeKey, addProducts, dropProducts, onSegment, update, answer}
 use Rattle.model.specs.Model.{judged, stepDecoded, step}
@@ -170,9 +170,9 @@ module _ (compile : Compiler) (holds : Meaning) (laws : Laws compile holds) (tex
       let there : isLock d n ≡ true = not-false _ (all-fail (conditions compile d (request.DropLock a n) text) e .1 .0) in
       record {
         threads = c .threads;
-        segments = agree-unseen (d .segments) (h .segments) (c .segments) (homeOf d n) (dropProducts n) (λ g. refl);
+        segments = agree-unseen (d .segments) (h .segments) (c .segments) (lockSegment d n) (dropProducts n) (λ g. refl);
         locks = agree-drop compile (d .segments) (d .lockNumbers) (h .locks) (c .locks) n there;
-        counts = (u, t, length-set (d .segments) (homeOf d n) _ ∙ s, k, l, v);
+        counts = (u, t, length-set (d .segments) (lockSegment d n) _ ∙ s, k, l, v);
       }
 
   -- a change of a live thread: what the model makes of it, the history makes too
@@ -287,7 +287,7 @@ module _ (compile : Compiler) (holds : Meaning) (laws : Laws compile holds) wher
       record {
         threads = record { count = refl; home = λ n. 0; written = λ n. refl; here = λ i k t e. absurd (none-taken i k t e); below = λ i k t e. absurd (none-taken i k t e) };
         segments = λ s. refl;
-        locks = record { standing = []; home = λ n. 0; written = refl; rows = λ s. refl; sound = tt; rising = tt };
+        locks = record { standing = []; segmentFor = λ n. 0; written = refl; rows = λ s. refl; sound = tt; rising = tt };
         counts = (refl, refl, refl, refl, refl, refl);
       }
     where

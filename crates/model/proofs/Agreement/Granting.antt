@@ -23,7 +23,7 @@ use Rattle.model.specs.State.{State, emptyState}
 use Rattle.model.specs.Refusals.{conditions}
 use Rattle.model.specs.Model.{judged, stepDecoded, step}
 use Rattle.model.specs.History.{History, Lock, Event, history, acceptedOf}
-use Rattle.model.specs.HistoryCheck.{Operation, requestOf, threadOf, Fits, hasRoom, lockOpens, granted, Granted, verdict, answerFrom}
+use Rattle.model.specs.HistoryCheck.{Operation, requestOf, threadOf, Fits, hasRoom, lockOpens, granted, Granted, checkAnswer, answerFrom}
 use Rattle.model.specs.Theorems.Granting.{Grants, GrantingByLaws, Granting}
 use Rattle.model.specs.Replay.{stateAfter, eventsOf, reached, answerTo}
 use Rattle.base.proofs.Lists.{caseBool, clash, any-passes, any-found, isSome-first}
@@ -66,7 +66,7 @@ module _ (holds : Meaning) (h : History) (o : Operation) (t : Thread) where
       accepts (first barring (h .locks)) (first giving (h .locks)) (hasRoom o t)
       ∙ rw (isSome-first barring (h .locks), isSome-first giving (h .locks))
     where
-      accepts : (d g : Option Lock) (room : Bool) → isAccepted (verdict d g room) ≡ (not (isSome d) && (isSome g && room))
+      accepts : (d g : Option Lock) (room : Bool) → isAccepted (checkAnswer d g room) ≡ (not (isSome d) && (isSome g && room))
       accepts (some l) g room = refl
       accepts none none room = refl
       accepts none (some l) true = refl

@@ -27,11 +27,11 @@ use Rattle.model.specs.Limits.{mostFrames, passes}
 use Rattle.model.specs.Operations.{denies, grants, takes}
 use Rattle.model.specs.Threads.{Thread, keySet}
 use Rattle.model.specs.State.{State, LockProduct, segmentAt, findThread, threadAt, isSegment}
-use Rattle.model.specs.Refusals.{lockOf, opening, conditions}
+use Rattle.model.specs.Refusals.{lockOf, openingProduct, conditions}
 use Rattle.model.specs.Effects.{answer, update}
 use Rattle.model.specs.Model.{judged, stepDecoded, step}
 use Rattle.model.specs.History.{History, Entry, Lock, handsOut}
-use Rattle.model.specs.HistoryCheck.{Operation, calls, accesses, requestOf, threadOf, targetOf, operationOf, isKnown, hasRoom, lockOpens, verdict, answerFrom}
+use Rattle.model.specs.HistoryCheck.{Operation, calls, accesses, requestOf, threadOf, targetOf, operationOf, isKnown, hasRoom, lockOpens, checkAnswer, answerFrom}
 use Rattle.base.proofs.Lists.{caseBool, some-inj, some≢none}
 use Rattle.model.proofs.Agreement.Segments.{entry-low, entry-is}
 use Rattle.model.proofs.Agreement.Locks.{check-agrees}
@@ -74,7 +74,7 @@ judged-answer compile d q text (some r) = refl
 check-answers : (od og : Option LockProduct) (ld lg : Option Lock) (room : Bool)
     → mapOption (λ r. r .lock) od ≡ mapOption (λ l. l .number) ld → mapOption (λ r. r .lock) og ≡ mapOption (λ l. l .number) lg
     → answered (cond (isSome od) (some (Denied (lockOf od))) (cond (not (isSome og)) (some NotGranted) (cond (not room) (some Full) none))) (lockOf og)
-    ≡ verdict ld lg room
+    ≡ checkAnswer ld lg room
 check-answers (some r) og (some l) lg room p q = ap (λ (n : ℕ). Refused (Denied n)) (some-inj p)
 check-answers (some r) og none lg room p q = absurd (some≢none p)
 check-answers none og (some l) lg room p q = absurd (some≢none (sym p))
@@ -102,8 +102,8 @@ module _ (compile : Compiler) (holds : Meaning) (laws : Laws compile holds) (tex
     kind-is = ap (λ (e : Entry). e .kind) (entry-is (d .segments) (h .segments) (c .segments) (targetOf o) entry out)
 
     check : (stands : ℕ → ℕ → Bool)
-        → mapOption (λ r. r .lock) (opening d stands (threadOf o) (targetOf o) (operationOf o)) ≡ mapOption (λ l. l .number) (first (lockOpens holds stands o t) (h .locks))
-    unfolding opening
+        → mapOption (λ r. r .lock) (openingProduct d stands (threadOf o) (targetOf o) (operationOf o)) ≡ mapOption (λ l. l .number) (first (lockOpens holds stands o t) (h .locks))
+    unfolding openingProduct
     check stands =
         check-agrees compile holds laws (d .segments) (d .lockNumbers) (h .locks) (c .locks) stands (targetOf o) (operationOf o) (keySet (threadOf o) (threadAt d (threadOf o)))
         ∙ rw (thread-as compile d h count c (threadOf o) t live)
@@ -116,13 +116,13 @@ module _ (compile : Compiler) (holds : Meaning) (laws : Laws compile holds) (tex
       let o = calls a b in
       judged-answer compile d (request.CallSegment a b) text (firstRefusal (conditions compile d (request.CallSegment a b) text))
       ∙ simp (found o t live entry out, out-test o t live entry out, kind-is o t live entry out, fits, under-limit mostFrames (length (t .frames)))
-      (check-answers (opening d denies a b 1) (opening d grants a b 1) (first (lockOpens holds denies o t) (h .locks)) (first (lockOpens holds grants o t) (h .locks)) (hasRoom o t) (check o t live entry out denies) (check o t live entry out grants))
+      (check-answers (openingProduct d denies a b 1) (openingProduct d grants a b 1) (first (lockOpens holds denies o t) (h .locks)) (first (lockOpens holds grants o t) (h .locks)) (hasRoom o t) (check o t live entry out denies) (check o t live entry out grants))
   answers-from (accesses a b n) t live entry out number fits =
       let o = accesses a b n in
       judged-answer compile d (request.Access a b n) text (firstRefusal (conditions compile d (request.Access a b n) text))
       ∙ simp (found o t live entry out, out-test o t live entry out, kind-is o t live entry out, fits)
       (simp number
-      (check-answers (opening d denies a b n) (opening d grants a b n) (first (lockOpens holds denies o t) (h .locks)) (first (lockOpens holds grants o t) (h .locks)) true (check o t live entry out denies) (check o t live entry out grants)))
+      (check-answers (openingProduct d denies a b n) (openingProduct d grants a b n) (first (lockOpens holds denies o t) (h .locks)) (first (lockOpens holds grants o t) (h .locks)) true (check o t live entry out denies) (check o t live entry out grants)))
 
 -- the numbers that U, S, N, K and L answer
 pub counted-as : (compile : Compiler) (text : List ℕ) (d : State) (h : History) (count : ℕ → ℕ) → Agrees compile d h count

@@ -1,4 +1,4 @@
--- The conditions of an L are tests on the state, each of which the history tells; the text's verdict is the compiler's,
+-- The conditions of an L are tests on the state, each of which the history tells; the text's outcome is the compiler's,
 -- whose laws say where it is which.
 use mathlib.Core.Path.{_≡_, refl, sym, ap, subst, _∙_}
 use mathlib.Core.Bool.{Bool, true, false, cond, _||_, true≢false}
@@ -135,14 +135,14 @@ module _ (es : List Event) (d : Cells) (m : Mirrors es (stateOf d)) (k : Stores 
   abbrev text : List ℕ
   text = next .text
 
-  abbrev verdict : Outcome
-  verdict = outcomeOf (issued (stateOf d)) text
+  abbrev outcome : Outcome
+  outcome = outcomeOf (issued (stateOf d)) text
 
-  verdict-as : verdict ≡ outcomeOf (issuedBy es) text
-  verdict-as = ap (λ (i : Issued). outcomeOf i text) (m .handedOut)
+  outcome-as : outcome ≡ outcomeOf (issuedBy es) text
+  outcome-as = ap (λ (i : Issued). outcomeOf i text) (m .handedOut)
 
   abbrev over : Bool
-  over = overfull (length (segmentAt (stateOf d) b .products)) (length (sumIn verdict)) (stateOf d .lockNumbers)
+  over = overfull (length (segmentAt (stateOf d) b .products)) (length (sumIn outcome)) (stateOf d .lockNumbers)
 
   abbrev firstOf : Option Refusal
   firstOf = firstRefusal (conditions outcomeOf (stateOf d) (AddLock a b c) text)
@@ -171,20 +171,20 @@ module _ (es : List Event) (d : Cells) (m : Mirrors es (stateOf d)) (k : Stores 
       }
 
   -- a late answer is what the text and the limit say, in an L that no earlier number refuses
-  is-late : (r : Option Refusal) → isLate r ≡ true → firstOf ≡ r → Allowed es a b c × (late verdict over ≡ r)
+  is-late : (r : Option Refusal) → isLate r ≡ true → firstOf ≡ r → Allowed es a b c × (late outcome over ≡ r)
   unfolding conditions
   is-late r l h =
-      let (u, s, o, f) = passed (isUser (stateOf d) a) (isSegment (stateOf d) b) (owns (stateOf d) a b) (takesSet (segmentAt (stateOf d) b .kind) c) verdict over r l h in
-      (allowed u s o f, sym (reaches-text verdict over) ∙ sym (same u s o f) ∙ h)
+      let (u, s, o, f) = passed (isUser (stateOf d) a) (isSegment (stateOf d) b) (owns (stateOf d) a b) (takesSet (segmentAt (stateOf d) b .kind) c) outcome over r l h in
+      (allowed u s o f, sym (reaches-text outcome over) ∙ sym (same u s o f) ∙ h)
     where
       same : isUser (stateOf d) a ≡ true → isSegment (stateOf d) b ≡ true → owns (stateOf d) a b ≡ true → takesSet (segmentAt (stateOf d) b .kind) c ≡ true
-          → firstRefusal (tests (isUser (stateOf d) a) (isSegment (stateOf d) b) (owns (stateOf d) a b) (takesSet (segmentAt (stateOf d) b .kind) c) verdict over) ≡ firstRefusal (tests true true true true verdict over)
+          → firstRefusal (tests (isUser (stateOf d) a) (isSegment (stateOf d) b) (owns (stateOf d) a b) (takesSet (segmentAt (stateOf d) b .kind) c) outcome over) ≡ firstRefusal (tests true true true true outcome over)
       same u s o f = rw (u, s, o, f)
 
   -- and the other way round
-  reaches : Allowed es a b c → firstOf ≡ late verdict over
+  reaches : Allowed es a b c → firstOf ≡ late outcome over
   unfolding conditions
-  reaches w = same user segment owner fit ∙ reaches-text verdict over
+  reaches w = same user segment owner fit ∙ reaches-text outcome over
     where
       user : isUser (stateOf d) a ≡ true
       user = lt-ltb a (stateOf d .users) (subst (λ (n : ℕ). a < n) (sym (ap (λ (i : Issued). i .users) (m .handedOut))) (w .user))
@@ -199,42 +199,42 @@ module _ (es : List Event) (d : Cells) (m : Mirrors es (stateOf d)) (k : Stores 
       fit = ap (λ (n : ℕ). takesSet n c) (m .kind b (w .entry) (w .segment)) ∙ w .operations
 
       same : isUser (stateOf d) a ≡ true → isSegment (stateOf d) b ≡ true → owns (stateOf d) a b ≡ true → takesSet (segmentAt (stateOf d) b .kind) c ≡ true
-          → firstRefusal (tests (isUser (stateOf d) a) (isSegment (stateOf d) b) (owns (stateOf d) a b) (takesSet (segmentAt (stateOf d) b .kind) c) verdict over) ≡ firstRefusal (tests true true true true verdict over)
+          → firstRefusal (tests (isUser (stateOf d) a) (isSegment (stateOf d) b) (owns (stateOf d) a b) (takesSet (segmentAt (stateOf d) b .kind) c) outcome over) ≡ firstRefusal (tests true true true true outcome over)
       same u s o f = rw (u, s, o, f)
 
   -- a refusal of the text, exactly where the compiler gives it
-  by-verdict : {P : Type 0} (r : Refusal) (x : Outcome) → isLate (some r) ≡ true → ((y : Outcome) (t : Bool) → late y t ≡ some r → y ≡ x) → ((t : Bool) → late x t ≡ some r)
+  by-outcome : {P : Type 0} (r : Refusal) (x : Outcome) → isLate (some r) ≡ true → ((y : Outcome) (t : Bool) → late y t ≡ some r → y ≡ x) → ((t : Bool) → late x t ≡ some r)
       → (outcomeOf (issuedBy es) text ≡ x) ↔ P
       → (stepCells outcomeOf d next .answer ≡ Refused r) ↔ (Allowed es a b c × P)
-  by-verdict {P} r x l to from laws = (there, back)
+  by-outcome {P} r x l to from laws = (there, back)
     where
       there : stepCells outcomeOf d next .answer ≡ Refused r → Allowed es a b c × P
-      there h = let (w, q) = is-late (some r) l (refused-as r .0 h) in (w, laws .0 (sym verdict-as ∙ to verdict over q))
+      there h = let (w, q) = is-late (some r) l (refused-as r .0 h) in (w, laws .0 (sym outcome-as ∙ to outcome over q))
 
       back : Allowed es a b c × P → stepCells outcomeOf d next .answer ≡ Refused r
-      back p = refused-as r .1 (reaches (p .0) ∙ ap (λ (y : Outcome). late y over) (verdict-as ∙ laws .1 (p .1)) ∙ from over)
+      back p = refused-as r .1 (reaches (p .0) ∙ ap (λ (y : Outcome). late y over) (outcome-as ∙ laws .1 (p .1)) ∙ from over)
 
   -- ---- the limits
 
-  over-as : (ps : Sum) → verdict ≡ accepted ps → over ≡ overfull (standingProducts outcomeOf es b) (length ps) (acceptedOf 76 es)
+  over-as : (ps : Sum) → outcome ≡ accepted ps → over ≡ overfull (standingProducts outcomeOf es b) (length ps) (acceptedOf 76 es)
   over-as ps q =
       ap (λ (o : Outcome). overfull (length (segmentAt (stateOf d) b .products)) (length (sumIn o)) (stateOf d .lockNumbers)) q
       ∙ rw (k .count b, m .lockNumbers)
 
-  room-over : (ps : Sum) → verdict ≡ accepted ps → Room es b (length ps) → over ≡ false
+  room-over : (ps : Sum) → outcome ≡ accepted ps → Room es b (length ps) → over ≡ false
   room-over ps q r = over-as ps q ∙ rw (le-ltb 8 (standingProducts outcomeOf es b + length ps) (r .products), le-ltb 65536 (suc (acceptedOf 76 es)) (r .numbers))
 
-  over-room : (ps : Sum) → verdict ≡ accepted ps → over ≡ false → Room es b (length ps)
+  over-room : (ps : Sum) → outcome ≡ accepted ps → over ≡ false → Room es b (length ps)
   over-room ps q h =
       let (p, n) = neither (passes mostStanding (standingProducts outcomeOf es b + length ps)) (passes mostNumbers (suc (acceptedOf 76 es))) (sym (over-as ps q) ∙ h) in
       record { products = ltb-false 8 (standingProducts outcomeOf es b + length ps) p; numbers = ltb-false 65536 (suc (acceptedOf 76 es)) n }
 
   -- an accepted text's formula, and the products of such a one
-  satisfiable : (ps : Sum) → verdict ≡ accepted ps → Satisfiable (issuedBy es) text
-  satisfiable ps q = let o = opening-law (issuedBy es) text ps (sym verdict-as ∙ q) in record { tree = o .tree; text = o .text; fit = o .fit; true-for = o .witness }
+  satisfiable : (ps : Sum) → outcome ≡ accepted ps → Satisfiable (issuedBy es) text
+  satisfiable ps q = let o = opening-law (issuedBy es) text ps (sym outcome-as ∙ q) in record { tree = o .tree; text = o .text; fit = o .fit; true-for = o .witness }
 
-  accepts : (f : Satisfiable (issuedBy es) text) → verdict ≡ accepted (products false (f .tree))
-  accepts f = verdict-as ∙ accepted-where (issuedBy es) text (f .tree) (f .text) (f .fit) (f .true-for .0) (f .true-for .1)
+  accepts : (f : Satisfiable (issuedBy es) text) → outcome ≡ accepted (products false (f .tree))
+  accepts f = outcome-as ∙ accepted-where (issuedBy es) text (f .tree) (f .text) (f .fit) (f .true-for .0) (f .true-for .1)
 
   full-as : (stepCells outcomeOf d next .answer ≡ Refused Full) ↔ (Allowed es a b c × (f : Satisfiable (issuedBy es) text) × (Room es b (length (products false (f .tree))) → ⊥))
   full-as = (there, back)
@@ -242,7 +242,7 @@ module _ (es : List Event) (d : Cells) (m : Mirrors es (stateOf d)) (k : Stores 
       there : stepCells outcomeOf d next .answer ≡ Refused Full → Allowed es a b c × (f : Satisfiable (issuedBy es) text) × (Room es b (length (products false (f .tree))) → ⊥)
       there h =
           let (w, q) = is-late (some Full) refl (refused-as Full .0 h) in
-          let (ps, v, o) = late-full verdict over q in
+          let (ps, v, o) = late-full outcome over q in
           let f = satisfiable ps v in
           (w, f, λ r. true≢false (sym o ∙ room-over (products false (f .tree)) (accepts f) r))
 
@@ -250,7 +250,7 @@ module _ (es : List Event) (d : Cells) (m : Mirrors es (stateOf d)) (k : Stores 
       back p =
           let (w, f, none-left) = p in
           let o : over ≡ true = caseBool over (λ t. t) (λ t. absurd (none-left (over-room (products false (f .tree)) (accepts f) t))) in
-          refused-as Full .1 (reaches w ∙ late-over (products false (f .tree)) verdict over true (accepts f) o)
+          refused-as Full .1 (reaches w ∙ late-over (products false (f .tree)) outcome over true (accepts f) o)
 
   made-as : (isAccepted (stepCells outcomeOf d next .answer) ≡ true) ↔ (Allowed es a b c × (f : Satisfiable (issuedBy es) text) × Room es b (length (products false (f .tree))))
   made-as = (there, back)
@@ -258,19 +258,19 @@ module _ (es : List Event) (d : Cells) (m : Mirrors es (stateOf d)) (k : Stores 
       there : isAccepted (stepCells outcomeOf d next .answer) ≡ true → Allowed es a b c × (f : Satisfiable (issuedBy es) text) × Room es b (length (products false (f .tree)))
       there h =
           let (w, q) = is-late none refl (accepted-as .0 h) in
-          let (ps, v, o) = late-none verdict over q in
+          let (ps, v, o) = late-none outcome over q in
           let f = satisfiable ps v in
           (w, f, over-room (products false (f .tree)) (accepts f) o)
 
       back : Allowed es a b c × (f : Satisfiable (issuedBy es) text) × Room es b (length (products false (f .tree))) → isAccepted (stepCells outcomeOf d next .answer) ≡ true
       back p =
           let (w, f, room) = p in
-          accepted-as .1 (reaches w ∙ late-over (products false (f .tree)) verdict over false (accepts f) (room-over (products false (f .tree)) (accepts f) room))
+          accepted-as .1 (reaches w ∙ late-over (products false (f .tree)) outcome over false (accepts f) (room-over (products false (f .tree)) (accepts f) room))
 
   -- ---- the whole
 
   unsatisfiable-as : (stepCells outcomeOf d next .answer ≡ Refused Unsatisfiable) ↔ (Allowed es a b c × Never (issuedBy es) text)
-  unsatisfiable-as = by-verdict Unsatisfiable unsatisfiable refl late-unsatisfiable (λ t. refl) (unsatisfiable-exactly (issuedBy es) text)
+  unsatisfiable-as = by-outcome Unsatisfiable unsatisfiable refl late-unsatisfiable (λ t. refl) (unsatisfiable-exactly (issuedBy es) text)
 
   unsatisfiable-words : Allowed es a b c → (t : Tree ors) → Text (issuedBy es) text t → fits false t ≡ true
       → (stepCells outcomeOf d next .answer ≡ Refused Unsatisfiable) ↔ ((keys : KeySet) → holds keys t ≡ false)
@@ -284,8 +284,8 @@ module _ (es : List Event) (d : Cells) (m : Mirrors es (stateOf d)) (k : Stores 
   judged-as : TextJudged es a b c text (stepCells outcomeOf d next .answer)
   judged-as =
       record {
-        malformed = by-verdict Malformed malformed refl late-malformed (λ t. refl) (malformed-exactly (issuedBy es) text);
-        tooWide = by-verdict TooWide tooWide refl late-wide (λ t. refl) (too-wide-exactly (issuedBy es) text);
+        malformed = by-outcome Malformed malformed refl late-malformed (λ t. refl) (malformed-exactly (issuedBy es) text);
+        tooWide = by-outcome TooWide tooWide refl late-wide (λ t. refl) (too-wide-exactly (issuedBy es) text);
         unsatisfiable = unsatisfiable-as;
         unsatisfiableExactly = unsatisfiable-words;
         full = full-as;

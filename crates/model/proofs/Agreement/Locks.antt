@@ -109,26 +109,26 @@ rising-add new (l ∷ ls) b r = (All-append (λ k. l .number < k .number) ls (ne
 module _ (compile : Compiler) where
   -- its products are what the compiler made of its text, and there is one; its number is handed out, and tells its
   -- segment
-  pub record Sound (home : ℕ → ℕ) (numbers : ℕ) (l : Standing) : Type 0 where
+  pub record Sound (segmentFor : ℕ → ℕ) (numbers : ℕ) (l : Standing) : Type 0 where
     pub issue : Issued
     pub made : compile issue (l .text) ≡ accepted (l .products)
     pub filled : 1 ≤ length (l .products)
     pub below : l .number < numbers
-    pub homed : home (l .number) ≡ l .segment
+    pub homed : segmentFor (l .number) ≡ l .segment
 
   pub record AgreeLocks (segments : List Segment) (numbers : ℕ) (locks : List Lock) : Type 0 where
     pub standing : List Standing
-    pub home : ℕ → ℕ
+    pub segmentFor : ℕ → ℕ
     pub written : locks ≡ map lockIn standing
     pub rows : (s : ℕ) → productsAt segments s ≡ concatMap rowsOf (keep (isOn s) standing)
-    pub sound : All (Sound home numbers) standing
+    pub sound : All (Sound segmentFor numbers) standing
     pub rising : Rising standing
 
   -- ---- the check
 
-  lock-opens : (holds : Meaning) → Laws compile holds → (home : ℕ → ℕ) (numbers : ℕ) (stands : ℕ → ℕ → Bool) (s n : ℕ) (keys : KeySet) (l : Standing) → Sound home numbers l
+  lock-opens : (holds : Meaning) → Laws compile holds → (segmentFor : ℕ → ℕ) (numbers : ℕ) (stands : ℕ → ℕ → Bool) (s n : ℕ) (keys : KeySet) (l : Standing) → Sound segmentFor numbers l
       → (isOn s l && any (opensFor stands n keys) (rowsOf l)) ≡ (isOn s l && (stands (l .operations) n && holds keys (l .text)))
-  lock-opens holds laws home numbers stands s n keys l c =
+  lock-opens holds laws segmentFor numbers stands s n keys l c =
       ap (λ (b : Bool). isOn s l && b)
       (any-map (opensFor stands n keys) (lockProduct (l .number) (l .operations)) (l .products)
       ∙ any-and (stands (l .operations) n) (opens keys) (l .products)
@@ -146,7 +146,7 @@ module _ (compile : Compiler) where
       ∙ first-lock p (keep (isOn s) (c .standing))
       ∙ ap (mapOption (λ (l : Standing). l .number))
       (first-keep (λ l. any p (rowsOf l)) (isOn s) (c .standing)
-      ∙ first-same (λ l. isOn s l && any p (rowsOf l)) (λ l. q (lockIn l)) (c .standing) (All-map (λ l h. lock-opens holds laws (c .home) numbers stands s n keys l h) (c .standing) (c .sound)))
+      ∙ first-same (λ l. isOn s l && any p (rowsOf l)) (λ l. q (lockIn l)) (c .standing) (All-map (λ l h. lock-opens holds laws (c .segmentFor) numbers stands s n keys l h) (c .standing) (c .sound)))
       ∙ sym (ap (λ (ls : List Lock). mapOption (λ (l : Lock). l .number) (first q ls)) (c .written)
       ∙ ap (mapOption (λ (l : Lock). l .number)) (first-map q lockIn (c .standing))
       ∙ numbers-same (first (λ l. q (lockIn l)) (c .standing)))
@@ -157,14 +157,14 @@ module _ (compile : Compiler) where
 
   -- ---- numbers
 
-  homed-all : (home : ℕ → ℕ) (numbers : ℕ) (ls : List Standing) → All (Sound home numbers) ls → (l : Lock) → List·Memᴰ l (map lockIn ls) → home (l .number) ≡ l .segment
-  homed-all home numbers (x ∷ xs) s l (List·Memᴰ·head e) = ap (λ (k : Lock). home (k .number)) e ∙ s .0 .homed ∙ ap (λ (k : Lock). k .segment) (sym e)
-  homed-all home numbers (x ∷ xs) s l (List·Memᴰ·tail m) = homed-all home numbers xs (s .1) l m
+  homed-all : (segmentFor : ℕ → ℕ) (numbers : ℕ) (ls : List Standing) → All (Sound segmentFor numbers) ls → (l : Lock) → List·Memᴰ l (map lockIn ls) → segmentFor (l .number) ≡ l .segment
+  homed-all segmentFor numbers (x ∷ xs) s l (List·Memᴰ·head e) = ap (λ (k : Lock). segmentFor (k .number)) e ∙ s .0 .homed ∙ ap (λ (k : Lock). k .segment) (sym e)
+  homed-all segmentFor numbers (x ∷ xs) s l (List·Memᴰ·tail m) = homed-all segmentFor numbers xs (s .1) l m
 
   -- the ghost map tells a standing lock's segment
   pub lock-homed : (segments : List Segment) (numbers : ℕ) (locks : List Lock) (c : AgreeLocks segments numbers locks) (l : Lock) → List·Memᴰ l locks
-      → c .home (l .number) ≡ l .segment
-  lock-homed segments numbers locks c l m = homed-all (c .home) numbers (c .standing) (c .sound) l (rw (c .written) at m)
+      → c .segmentFor (l .number) ≡ l .segment
+  lock-homed segments numbers locks c l m = homed-all (c .segmentFor) numbers (c .standing) (c .sound) l (rw (c .written) at m)
 
   rising-numbers : (ls : List Standing) → Rising ls → rising (map (λ l. l .number) (map lockIn ls)) ≡ true
   rising-numbers [] r = refl
@@ -237,10 +237,10 @@ module _ (compile : Compiler) where
 
   module _ (meaning : Meaning) (laws : Laws compile meaning) (segments : List Segment) (numbers : ℕ) (locks : List Lock) (c : AgreeLocks segments numbers locks) where
     -- which keys were handed out when the lock was made makes no difference
-    made-of : (l : Standing) → Sound (c .home) numbers l → compile everything (l .text) ≡ accepted (l .products)
+    made-of : (l : Standing) → Sound (c .segmentFor) numbers l → compile everything (l .text) ≡ accepted (l .products)
     made-of l k = laws .everywhere (k .issue) (l .text) (l .products) (k .made)
 
-    rows-stored : (l : Standing) → Sound (c .home) numbers l → rowsOf l ≡ storedOf compile (lockIn l)
+    rows-stored : (l : Standing) → Sound (c .segmentFor) numbers l → rowsOf l ≡ storedOf compile (lockIn l)
     rows-stored l k = ap (λ (o : Outcome). map (lockProduct (l .number) (l .operations)) (sumIn o)) (sym (made-of l k))
 
     pub segment-stores : (s : ℕ) → productsAt segments s ≡ concatMap (storedOf compile) (keep (standsOn s) locks)
@@ -258,7 +258,7 @@ module _ (compile : Compiler) where
       pub lock-made : compile everything (l .text) ≡ accepted (productsOf compile (l .text))
       lock-made =
           let (x, e, i, k) = one in
-          let made = made-of x (all-at (Sound (c .home) numbers) (c .standing) (c .sound) x i) in
+          let made = made-of x (all-at (Sound (c .segmentFor) numbers) (c .standing) (c .sound) x i) in
           subst (λ (z : Lock). compile everything (z .text) ≡ accepted (productsOf compile (z .text))) e (made ∙ ap (λ (o : Outcome). accepted (sumIn o)) (sym made))
 
       -- what is stored for a standing lock, on its segment and on any other
@@ -270,7 +270,7 @@ module _ (compile : Compiler) where
           ∙ keep-concatMap (isOfLock n) (λ y. eqb (y .number) n) rowsOf (own-rows n) (keep (isOn s) (c .standing))
           ∙ ap (concatMap rowsOf) (keep-keep (λ y. eqb (y .number) n) (isOn s) (c .standing) ∙ ap (keep (isOn s)) k)
           ∙ alone x
-          ∙ ap (λ (rs : List LockProduct). cond (isOn s x) rs []) (rows-stored x (all-at (Sound (c .home) numbers) (c .standing) (c .sound) x i))
+          ∙ ap (λ (rs : List LockProduct). cond (isOn s x) rs []) (rows-stored x (all-at (Sound (c .segmentFor) numbers) (c .standing) (c .sound) x i))
           ∙ ap (λ (z : Lock). cond (standsOn s z) (storedOf compile z) []) e
         where
           alone : (x : Standing) → concatMap rowsOf (keep (isOn s) (x ∷ [])) ≡ cond (isOn s x) (rowsOf x) []
@@ -282,17 +282,17 @@ module _ (compile : Compiler) where
     -- a call that touches no product
     pub agree-rows : (segments′ : List Segment) → ((s : ℕ) → productsAt segments′ s ≡ productsAt segments s) → AgreeLocks segments′ numbers locks
     agree-rows segments′ h =
-        record { standing = c .standing; home = c .home; written = c .written; rows = λ s. h s ∙ c .rows s; sound = c .sound; rising = c .rising }
+        record { standing = c .standing; segmentFor = c .segmentFor; written = c .written; rows = λ s. h s ∙ c .rows s; sound = c .sound; rising = c .rising }
 
     module _ (s operations : ℕ) (text : List ℕ) (ps : Sum) where
       new : Standing
       new = record { number = numbers; segment = s; operations = operations; text = text; products = ps }
 
-      home′ : ℕ → ℕ
-      home′ n = cond (eqb n numbers) s (c .home n)
+      segmentFor′ : ℕ → ℕ
+      segmentFor′ n = cond (eqb n numbers) s (c .segmentFor n)
 
-      still-sound : (l : Standing) → Sound (c .home) numbers l → Sound home′ (suc numbers) l
-      unfolding home′
+      still-sound : (l : Standing) → Sound (c .segmentFor) numbers l → Sound segmentFor′ (suc numbers) l
+      unfolding segmentFor′
       still-sound l k =
           let b = k .below in
           record { issue = k .issue; made = k .made; filled = k .filled; below = omega arith; homed = simp (ne-eqb (l .number) numbers (λ p. omega arith)) (k .homed) }
@@ -308,15 +308,15 @@ module _ (compile : Compiler) where
       pub agree-add : s < length segments → 1 ≤ length ps → (i : Issued) → compile i text ≡ accepted ps
           → AgreeLocks (set segments s (addProducts numbers operations ps (getD segments s blankSegment))) (suc numbers)
           (locks ++ record { number = numbers; segment = s; operations = operations; text = text } ∷ [])
-      unfolding new home′
+      unfolding new segmentFor′
       agree-add h some-product i m =
           record {
             standing = c .standing ++ new ∷ [];
-            home = home′;
+            segmentFor = segmentFor′;
             written = ap (λ ls. ls ++ lockIn new ∷ []) (c .written) ∙ sym (map-append lockIn (c .standing) (new ∷ []));
             rows = λ t. products-set segments s _ h t ∙ new-rows t;
             sound =
-                All-append (Sound home′ (suc numbers)) (c .standing) (new ∷ [])
+                All-append (Sound segmentFor′ (suc numbers)) (c .standing) (new ∷ [])
                 (All-map still-sound (c .standing) (c .sound))
                 (record { issue = i; made = m; filled = some-product; below = omega arith; homed = simp (eqb-self numbers) }, tt);
             rising = rising-add new (c .standing) (All-map (λ l k. k .below) (c .standing) (c .sound)) (c .rising);
@@ -327,13 +327,13 @@ module _ (compile : Compiler) where
       place = indexOf (hasLock n) segments
 
       -- the lock is on the segment where it is found
-      pub found : c .home n ≡ place
+      pub found : c .segmentFor n ≡ place
       found =
-          from-any (λ l. isOn place l && any (isOfLock n) (rowsOf l)) (Sound (c .home) numbers) (c .standing) (c .sound)
+          from-any (λ l. isOn place l && any (isOfLock n) (rowsOf l)) (Sound (c .segmentFor) numbers) (c .standing) (c .sound)
           (λ l k t.
           let h = eqb-true (l .segment) place (and-left (isOn place l) (any (isOfLock n) (rowsOf l)) t) in
           let m = eqb-true (l .number) n (sym (row-number n l (k .filled)) ∙ and-right (isOn place l) (any (isOfLock n) (rowsOf l)) t) in
-          ap (c .home) (sym m) ∙ k .homed ∙ h)
+          ap (c .segmentFor) (sym m) ∙ k .homed ∙ h)
           (sym (any-keep (λ l. any (isOfLock n) (rowsOf l)) (isOn place) (c .standing))
           ∙ sym (any-concatMap (isOfLock n) rowsOf (keep (isOn place) (c .standing)))
           ∙ ap (any (isOfLock n)) (sym (c .rows place))
@@ -350,19 +350,19 @@ module _ (compile : Compiler) where
           (c .rows t
           ∙ ap (concatMap rowsOf) (sym (keep-idle (stays n) (isOn t) (c .standing) (All-map (elsewhere t e) (c .standing) (c .sound))))))
         where
-          elsewhere : (t : ℕ) → eqb t place ≡ false → (l : Standing) → Sound (c .home) numbers l → isOn t l ≡ true → stays n l ≡ true
+          elsewhere : (t : ℕ) → eqb t place ≡ false → (l : Standing) → Sound (c .segmentFor) numbers l → isOn t l ≡ true → stays n l ≡ true
           elsewhere t e l k on =
               caseBool (eqb (l .number) n)
-              (λ q. absurd (eqb-false t place e (sym (eqb-true (l .segment) t on) ∙ sym (k .homed) ∙ ap (c .home) (eqb-true (l .number) n q) ∙ found)))
+              (λ q. absurd (eqb-false t place e (sym (eqb-true (l .segment) t on) ∙ sym (k .homed) ∙ ap (c .segmentFor) (eqb-true (l .number) n q) ∙ found)))
               (λ q. simp q)
 
       pub agree-drop : AgreeLocks (set segments place (dropProducts n (getD segments place blankSegment))) numbers (keep (λ l. not (eqb (l .number) n)) locks)
       agree-drop =
           record {
             standing = keep (stays n) (c .standing);
-            home = c .home;
+            segmentFor = c .segmentFor;
             written = ap (keep (λ (l : Lock). not (eqb (l .number) n))) (c .written) ∙ keep-map (λ (l : Lock). not (eqb (l .number) n)) lockIn (c .standing);
             rows = λ t. products-set segments place _ (indexOf-lt (hasLock n) segments there) t ∙ dropped-rows t;
-            sound = All-keep (Sound (c .home) numbers) (stays n) (c .standing) (c .sound);
+            sound = All-keep (Sound (c .segmentFor) numbers) (stays n) (c .standing) (c .sound);
             rising = rising-keep (stays n) (c .standing) (c .rising);
           }

@@ -28,7 +28,7 @@ use Rattle.call.proofs.Requests.{requests-exactly}
 use Rattle.model.specs.declared.answer.Refusal.{Refusal}
 use Rattle.model.specs.declared.answer.Answer.the-variants.{Accepted}
 use Rattle.base.specs.Lists.{isSome, mapOption, keep, tailOf}
-use Rattle.model.specs.State.{State, emptyState, Segment, issued, blankSegment, segmentAt, isSegment, isLock, homeOf}
+use Rattle.model.specs.State.{State, emptyState, Segment, issued, blankSegment, segmentAt, isSegment, isLock, lockSegment}
 use Rattle.model.specs.Refusals.{conditions}
 use Rattle.model.specs.Effects.{update, answer}
 use Rattle.model.specs.Model.{judged, stepDecoded, step}
@@ -60,7 +60,7 @@ module _ (compile : Compiler) (es : List Event) (d : State) (c : Agrees compile 
   entry-as : (s : ℕ) (e : Entry) → history es .segments s ≡ some e → entryOf (segmentAt d s) ≡ e
   entry-as s e h = entry-is (d .segments) (history es .segments) (c .segments) s e h
 
-  home-as : (l : Lock) → List·Memᴰ l (history es .locks) → homeOf d (l .number) ≡ l .segment
+  home-as : (l : Lock) → List·Memᴰ l (history es .locks) → lockSegment d (l .number) ≡ l .segment
   home-as l m =
       let there : isLock d (l .number) ≡ true =
       lock-stands compile (d .segments) (d .lockNumbers) (history es .locks) (c .locks) (l .number)
@@ -159,7 +159,7 @@ mirror-by-laws compile meaning law xs =
           let (rest, q) = owned s (segment-as compile es d c s ∙ ap isSome h) in
           (rest, sym (ap (λ (x : Entry). x .keys) (entry s e h)) ∙ q);
       lock = lock-stands compile (d .segments) (d .lockNumbers) (history es .locks) (c .locks);
-      home = home-as compile es d c;
+      segmentFor = home-as compile es d c;
     })
 
 spelt : (i : Issued) (s : List ℕ) (ps : Sum) → outcomeOf i s ≡ accepted ps → Spelt s

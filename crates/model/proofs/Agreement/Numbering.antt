@@ -20,7 +20,7 @@ use Rattle.model.specs.declared.answer.Answer.{Answer}
 use Rattle.model.specs.declared.answer.Answer.the-variants.{Accepted}
 use Rattle.base.specs.Lists.{keep}
 use Rattle.model.specs.Threads.{Frame, Thread}
-use Rattle.model.specs.State.{State, emptyState, Segment, blankSegment, segmentAt, isLock, isOfLock, homeOf}
+use Rattle.model.specs.State.{State, emptyState, Segment, blankSegment, segmentAt, isLock, isOfLock, lockSegment}
 use Rattle.model.specs.Effects.{lockProduct, giveKey, takeKey, newest, update, answer}
 use Rattle.model.specs.Refusals.{conditions}
 use Rattle.model.specs.Model.{step}
@@ -81,13 +81,13 @@ module _ (compile : Compiler) (holds : Meaning) (law : Laws compile holds) (d : 
   dropped-as a b n e w l m same =
       let t = taken compile d next (DropLock a b) n e w in
       let there : isLock d b ≡ true = not-false _ (all-fail (conditions compile d (DropLock a b) text) (t .free) .1 .0) in
-      let home : homeOf d b ≡ l .segment =
+      let segmentFor : lockSegment d b ≡ l .segment =
       sym (found compile (d .segments) (d .lockNumbers) (h .locks) (c .locks) b there)
-      ∙ ap (c .locks .home) (sym same) ∙ lock-homed compile (d .segments) (d .lockNumbers) (h .locks) (c .locks) l m in
+      ∙ ap (c .locks .segmentFor) (sym same) ∙ lock-homed compile (d .segments) (d .lockNumbers) (h .locks) (c .locks) l m in
       let own : keep (isOfLock (l .number)) (segmentAt d (l .segment) .products) ≡ storedOf compile l =
       lock-stores compile holds law (d .segments) (d .lockNumbers) (h .locks) (c .locks) l m (l .segment) ∙ rw (eqb-self (l .segment)) in
       t .number
-      ∙ ap₂ (λ (k s : ℕ). length (keep (isOfLock k) (segmentAt d s .products))) (sym same) home
+      ∙ ap₂ (λ (k s : ℕ). length (keep (isOfLock k) (segmentAt d s .products))) (sym same) segmentFor
       ∙ ap length own
       ∙ length-map (productsOf compile (l .text)) (lockProduct (l .number) (l .operations))
 

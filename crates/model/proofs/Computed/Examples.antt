@@ -10,7 +10,7 @@ use Rattle.formula.specs.Internal.Reader.{readDigits, readNumber, readAtom, rea
 use Rattle.formula.specs.Outcome.{outcomeOf}
 use Rattle.base.specs.Bytes.{bytes}
 use Rattle.call.specs.Calls.{decodedOf}
-use Rattle.model.specs.Refusals.{opening, conditions}
+use Rattle.model.specs.Refusals.{openingProduct, conditions}
 use Rattle.model.specs.Effects.{update, answer}
 use Rattle.model.specs.Model.{step}
 use Rattle.model.specs.Cells.{stateOf}
@@ -19,7 +19,7 @@ use Rattle.model.specs.History.{note, advance}
 use Rattle.model.specs.Theorems.Examples.{Examples}
 
 pub examples : Examples
-unfolding bytes outcomeOf issuedTo readText readNots readAtom readNumber readDigits listOf products fits fitsNode narrow firsts consistent present sameProduct joinAll joinEach union insert contradictory clashes compareLiterals compareAtoms orderOf keyCode codeOf keyAt literalAt opens decodedOf opening conditions update answer step stateOf store stepCells note advance
+unfolding bytes outcomeOf issuedTo readText readNots readAtom readNumber readDigits listOf products fits fitsNode narrow firsts consistent present sameProduct joinAll joinEach union insert contradictory clashes compareLiterals compareAtoms orderOf keyCode codeOf keyAt literalAt opens decodedOf openingProduct conditions update answer step stateOf store stepCells note advance
 examples =
     record {
       routeHappens = refl;

@@ -10,7 +10,7 @@ use Rattle.formula.specs.Internal.Reader.{readDigits, readNumber, readAtom, rea
 use Rattle.formula.specs.Outcome.{outcomeOf}
 use Rattle.base.specs.Bytes.{bytes}
 use Rattle.call.specs.Calls.{decodedOf}
-use Rattle.model.specs.Refusals.{opening, conditions}
+use Rattle.model.specs.Refusals.{openingProduct, conditions}
 use Rattle.model.specs.Effects.{update, answer}
 use Rattle.model.specs.Model.{step}
 use Rattle.model.specs.Cells.{stateOf}
@@ -18,7 +18,7 @@ use Rattle.model.specs.Stores.{store, stepCells}
 use Rattle.model.specs.Theorems.Trials.{Trials}
 
 pub trials : Trials
-unfolding bytes outcomeOf issuedTo readText readNots readAtom readNumber readDigits listOf products fits fitsNode narrow firsts consistent present sameProduct joinAll joinEach union insert contradictory clashes compareLiterals compareAtoms orderOf keyCode codeOf keyAt literalAt opens decodedOf opening conditions update answer step stateOf store stepCells
+unfolding bytes outcomeOf issuedTo readText readNots readAtom readNumber readDigits listOf products fits fitsNode narrow firsts consistent present sameProduct joinAll joinEach union insert contradictory clashes compareLiterals compareAtoms orderOf keyCode codeOf keyAt literalAt opens decodedOf openingProduct conditions update answer step stateOf store stepCells
 trials =
     record {
       table = refl;

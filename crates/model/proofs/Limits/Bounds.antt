@@ -27,7 +27,7 @@ use Rattle.model.specs.declared.answer.Refusal.{Refusal}
 use Rattle.base.specs.Lists.{orDefault, tailOf}
 use Rattle.model.specs.Limits.{mostUsers, mostThreads, mostSegments, mostDefined, mostListed, mostStanding, mostFrames, mostNumbers, passes}
 use Rattle.model.specs.Threads.{Thread, sameKey}
-use Rattle.model.specs.State.{State, emptyState, Segment, blankSegment, segmentAt, Place, free, taken, isFree, liveIn, threadIn, blankThread, placeFor, placeOf, threadAt, isOfLock, homeOf, issued}
+use Rattle.model.specs.State.{State, emptyState, Segment, blankSegment, segmentAt, Place, free, taken, isFree, liveIn, threadIn, blankThread, placeFor, placeOf, threadAt, isOfLock, lockSegment, issued}
 use Rattle.model.specs.Refusals.{conditions}
 use Rattle.model.specs.Effects.{withUsers, withThreadNumbers, withLockNumbers, withMakers, withSegments, withPlaces, onSegment, onThread, atPlace, pushFrame, popFrame, giveKey, takeKey, lockProduct, addProducts, dropProducts, update}
 use Rattle.model.specs.Model.{judged, stepDecoded, step}
@@ -243,7 +243,7 @@ module _ (compile : Compiler) (d : State) (k : Kept d) (text : List ℕ) where
 
   keep-drop : (a b : ℕ) → Keeps (request.DropLock a b)
   unfolding conditions update
-  keep-drop a b e = on-segment (homeOf d b) (dropProducts b) (drop-kept b (segmentAt d (homeOf d b)) (k .segments .each (homeOf d b)))
+  keep-drop a b e = on-segment (lockSegment d b) (dropProducts b) (drop-kept b (segmentAt d (lockSegment d b)) (k .segments .each (lockSegment d b)))
 
   keep-call : (a b : ℕ) → Keeps (request.CallSegment a b)
   unfolding conditions update

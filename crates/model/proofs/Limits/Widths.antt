@@ -41,8 +41,8 @@ use Rattle.base.specs.Lists.{keep, first, orDefault}
 use Rattle.model.specs.Limits.{mostUsers, mostThreads, mostSegments, mostDefined, mostListed, mostStanding, mostFrames, mostNumbers, passes}
 use Rattle.model.specs.Operations.{denies, grants, execute}
 use Rattle.model.specs.Threads.{Thread, sameKey, keySet}
-use Rattle.model.specs.State.{LockProduct, Segment, blankSegment, segmentAt, Place, free, isFree, liveIn, threadIn, blankThread, placeFor, placeOf, threadAt, isOfLock, hasLock, isLock, homeOf, issued}
-use Rattle.model.specs.Refusals.{opensFor, opening, lockOf, conditions}
+use Rattle.model.specs.State.{LockProduct, Segment, blankSegment, segmentAt, Place, free, isFree, liveIn, threadIn, blankThread, placeFor, placeOf, threadAt, isOfLock, hasLock, isLock, lockSegment, issued}
+use Rattle.model.specs.Refusals.{opensFor, openingProduct, lockOf, conditions}
 use Rattle.model.specs.Effects.{newest, answer}
 use Rattle.model.specs.Cells.{Row, Table, Cells, Sized, cell, rowAt, tableAt, userCount, threadCount, segmentCount, definedCount, lockCount, frameCount, liveCell, noKey, definedCell, keyIn, hasKey, keyRow, literalCell, isUsed, usedRows, framesOf, depthOf, placeIn, productIn, listRow, segmentOf, stateOf, registryIs, makersAre, segmentsAre, locksAre, threadsAre, zeros, emptyCells}
 use Rattle.model.specs.Stores.{setCell, onTable, handOut, startThread, endThread, newSegment, giveCode, takeCode, endRows, storeRows, productRow, addRows, dropRows, pushRow, popRow, atThread, store, judgedCells, stepCellsDecoded, stepCells}
@@ -267,8 +267,8 @@ module _ (compile : Compiler) (d : Cells) (c : Sized d) (k : Fitting d) (text : 
       subst SegmentFits (sym (segment-is d c s lt))
       (table-fits s (tableAt (d .segments) s) (tableAt (d .locks) s) (c .segments .cells s 1 (omega arith) (omega arith)) (c .locks .rows s (omega arith)) (k .locks s))
 
-  opening-low : (stands : ℕ → ℕ → Bool) (a b n : ℕ) → lockOf (opening (stateOf d) stands a b n) < word
-  unfolding opening
+  opening-low : (stands : ℕ → ℕ → Bool) (a b n : ℕ) → lockOf (openingProduct (stateOf d) stands a b n) < word
+  unfolding openingProduct
   opening-low stands a b n = lock-low (opensFor stands n (keySet a (threadAt (stateOf d) a))) (segmentAt (stateOf d) b .products) low
     where
       low : All (λ r. r .lock < word) (segmentAt (stateOf d) b .products)
@@ -420,7 +420,7 @@ module _ (compile : Compiler) (d : Cells) (c : Sized d) (k : Fitting d) (text : 
   unfolding conditions store answer stateOf
   fit-drop a n l e =
       let there : isLock (stateOf d) n ≡ true = not-false _ (all-fail (conditions compile (stateOf d) (request.DropLock a n) text) e .1 .0) in
-      let s : ℕ = homeOf (stateOf d) n in
+      let s : ℕ = lockSegment (stateOf d) n in
       let many : length (stateOf d .segments) ≡ count d c = length-segments d c in
       let inside : s < length (stateOf d .segments) = indexOf-lt (hasLock n) (stateOf d .segments) there in
       let rows : List LockProduct = segmentAt (stateOf d) s .products in

@@ -22,7 +22,7 @@ use Rattle.call.specs.Calls.{Call}
 use Rattle.call.specs.Letters as letters
 use Rattle.base.specs.Lists.{any, isSome}
 use Rattle.model.specs.Threads.{Thread}
-use Rattle.model.specs.State.{State, issued, liveIn, isLive, threadAt, isSegment, segmentAt, isLock, homeOf}
+use Rattle.model.specs.State.{State, issued, liveIn, isLive, threadAt, isSegment, segmentAt, isLock, lockSegment}
 use Rattle.model.specs.Cells.{stateOf}
 use Rattle.model.specs.History.{Event, Entry, Lock, history, acceptedOf, makersOf, issuedBy}
 use Rattle.model.specs.Replay.{reached, events, historyOf}
@@ -46,7 +46,7 @@ pub record Mirrors (es : List Event) (d : State) : Type 0 where
   pub own : (s : ℕ) (e : Entry) → history es .segments s ≡ some e → (rest : List Key) × (e .keys ≡ SegmentKey s ∷ rest)
   -- standing locks, with their segment
   pub lock : (n : ℕ) → isLock d n ≡ any (λ l. eqb (l .number) n) (history es .locks)
-  pub home : (l : Lock) → List·Memᴰ l (history es .locks) → homeOf d (l .number) ≡ l .segment
+  pub segmentFor : (l : Lock) → List·Memᴰ l (history es .locks) → lockSegment d (l .number) ≡ l .segment
 
 abbrev pub MirrorByLaws : Type 0
 MirrorByLaws = (compile : Compiler) (meaning : Meaning) → Laws compile meaning → (xs : List Call) → Mirrors (events compile xs) (stateOf (reached compile xs))

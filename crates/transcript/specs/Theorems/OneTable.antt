@@ -1,7 +1,7 @@
 -- Document 01 has one table of refusals, and each crate has the part of it that its answers need. Where two crates have
 -- a refusal, they give it the same number. Proved in `proofs/Numbers.antt`.
 use mathlib.Core.Path.{_≡_}
-use Rattle.formula.specs.declared.text.Verdict.the-variants.{Malformed as MalformedText, TooWide as TooWideText, Unsatisfiable as UnsatisfiableText}
+use Rattle.formula.specs.declared.text.Status.the-variants.{Malformed as MalformedText, TooWide as TooWideText, Unsatisfiable as UnsatisfiableText}
 use Rattle.formula.specs.Outcome.{refusalNumber as textNumber}
 use Rattle.call.specs.declared.request.Decoded.the-variants.{Corrupt as CorruptCall}
 use Rattle.call.specs.Numbers.{decodedNumber}

@@ -9,9 +9,9 @@ use lib.ListN.{length, set, length-map}
 use lib.Seq.{set-getD}
 use borrow.Author.Tests.{eq-eqb, ne-eqb, lt-ltb, le-ltb}
 use Rattle.formula.specs.declared.text.Issued.{Issued}
-use Rattle.formula.specs.declared.text.Verdict.{Verdict}
+use Rattle.formula.specs.declared.text.Status.{Status}
 use Rattle.formula.specs.declared.text.Compiled.{Compiled}
-use Rattle.formula.specs.Outcome.{Outcome, outcomeOf, refusalNumber, verdictOf, sumIn, compiledOf}
+use Rattle.formula.specs.Outcome.{Outcome, outcomeOf, refusalNumber, statusOf, sumIn, compiledOf}
 use Rattle.call.specs.declared.request.Request.{Request}
 use Rattle.call.specs.declared.request.Request.the-variants.{AddLock}
 use Rattle.model.specs.declared.answer.Refusal.the-variants.{UnknownUser, NoSegment, NotOwner, Unfit}
@@ -91,8 +91,8 @@ module _ (d : Cells) (user s operations : ℕ) (text : List ℕ) where
           abbrev lock : ℕ
           lock = cell (d .registry) lockCount
 
-          verdict : {v : Verdict} → x .verdict ≡ v → Judged o (refusalNumber v)
-          verdict v = judged o (sym (ap (λ (y : Compiled). y .verdict) outcome) ∙ v)
+          status : {v : Status} → x .status ≡ v → Judged o (refusalNumber v)
+          status v = judged o (sym (ap (λ (y : Compiled). y .status) outcome) ∙ v)
 
           full-is : (passes mostStanding (length (segmentAt (stateOf d) s .products) + length (sumIn o)) || passes mostNumbers (suc lock)) ≡ isFull (d .registry) t (x .count)
           unfolding isFull
@@ -102,7 +102,7 @@ module _ (d : Cells) (user s operations : ℕ) (text : List ℕ) where
               (sym (ap (λ (y : Compiled). y .count) outcome))
 
           rows-are : rowsFrom lock operations x ≡ map (productRow lock operations) (sumIn o)
-          rows-are = ap (rowsFrom lock operations) outcome ∙ rows-stored lock operations (verdictOf o) (sumIn o) (sum-kept (issued (stateOf d)) text)
+          rows-are = ap (rowsFrom lock operations) outcome ∙ rows-stored lock operations (statusOf o) (sumIn o) (sum-kept (issued (stateOf d)) text)
 
           same-locks : set (d .locks) s t ≡ d .locks
           same-locks = set-getD (d .locks) s []
@@ -110,15 +110,15 @@ module _ (d : Cells) (user s operations : ℕ) (text : List ℕ) where
           served : {r : Answer} {registry′ : Row} {t′ : Table} → LockJudged (d .registry) t operations x r registry′ t′
               → Serves d q text r (registryIs registry′ (locksAre (set (d .locks) s t′) d))
           unfolding conditions answer store stateOf
-          served (malformed-text v) = let j = verdict v in rw same-locks (serves-refused d q text (rw (u, there, own, fit, j .malformed)))
-          served (wide-text v) = let j = verdict v in rw same-locks (serves-refused d q text (rw (u, there, own, fit, j .malformed, j .wide)))
-          served (unsatisfiable-text v) = let j = verdict v in rw same-locks (serves-refused d q text (rw (u, there, own, fit, j .malformed, j .wide, j .unsatisfiable)))
+          served (malformed-text v) = let j = status v in rw same-locks (serves-refused d q text (rw (u, there, own, fit, j .malformed)))
+          served (wide-text v) = let j = status v in rw same-locks (serves-refused d q text (rw (u, there, own, fit, j .malformed, j .wide)))
+          served (unsatisfiable-text v) = let j = status v in rw same-locks (serves-refused d q text (rw (u, there, own, fit, j .malformed, j .wide, j .unsatisfiable)))
           served (accepted-text v (full h)) =
-              let j = verdict v in
+              let j = status v in
               let most = full-is ∙ h in
               rw same-locks (serves-refused d q text (rw (u, there, own, fit, j .malformed, j .wide, j .unsatisfiable, most)))
           served (accepted-text v (stored h)) =
-              let j = verdict v in
+              let j = status v in
               let room = full-is ∙ h in
               serves-accepted d q text (rw (u, there, own, fit, j .malformed, j .wide, j .unsatisfiable, room)) refl
               (ap (λ (ws : Table). registryIs (countUp (d .registry) lockCount) (locksAre (set (d .locks) s (storeRows (length (usedRows t)) ws t)) d)) rows-are)

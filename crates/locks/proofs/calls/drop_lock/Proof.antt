@@ -13,15 +13,15 @@ use Rattle.model.specs.declared.answer.Refusal.the-variants.{UnknownUser, NoLoc
 use Rattle.model.specs.declared.answer.Answer.the-variants.{Accepted, Refused}
 use Rattle.model.specs.Refusals.{conditions}
 use Rattle.model.specs.Effects.{answer}
-use Rattle.model.specs.State.{owns, homeOf, segmentAt, isOfLock}
+use Rattle.model.specs.State.{owns, lockSegment, segmentAt, isOfLock}
 use Rattle.base.specs.Lists.{keep}
 use Rattle.model.specs.Cells.{Table, Cells, locksAre, cell, rowAt, tableAt, userCount, ownerCell, stateOf}
 use Rattle.model.specs.Stores.{onTable, dropRows, store}
 use Rattle.model.specs.Serving.{Serves}
 use Rattle.model.proofs.Refinement.Serving.{serves-refused, serves-accepted, segmentsIn, segment-at}
-use Rattle.locks.specs.Internal.{homeIn, HomeFound, Dropped}
+use Rattle.locks.specs.Internal.{segmentOfLock, HomeFound, Dropped}
 use Rattle.locks.proofs.Tests.{test-fails, test-holds}
-use Rattle.locks.proofs.LockSegments.{home-is, no-home, has-home, count-at}
+use Rattle.locks.proofs.LockSegments.{lock-segment-is, no-lock-segment, has-lock-segment, count-at}
 use borrow.Author.Needs.{needs}
 use Rattle.locks.proofs.calls.drop_lock.Statement.{statement}
 use Rattle.locks.proofs.calls.drop_lock.Tie as tie
@@ -35,27 +35,27 @@ module _ (d : Cells) (user lock : ℕ) (text : List ℕ) where
   unknown-user u = serves-refused d q text (rw u)
 
   module _ (n s : ℕ) (u : ltb user (cell (d .registry) userCount) ≡ true) (count : n ≡ segmentsIn d) (found : HomeFound lock n (d .locks) s) where
-    place : homeOf (stateOf d) lock ≡ s
-    place = home-is d lock ∙ sym (found .place ∙ ap (λ (k : ℕ). homeIn lock k (d .locks)) count)
+    place : lockSegment (stateOf d) lock ≡ s
+    place = lock-segment-is d lock ∙ sym (found .place ∙ ap (λ (k : ℕ). segmentOfLock lock k (d .locks)) count)
 
     unknown-lock : n ≤ s → Serves d q text (Refused NoLock) d
     unfolding conditions stateOf
-    unknown-lock h = let none = no-home d lock (omega (arith, place)) in serves-refused d q text (rw (u, none))
+    unknown-lock h = let none = no-lock-segment d lock (omega (arith, place)) in serves-refused d q text (rw (u, none))
 
     module _ (here : s < n) where
-      owner-is : owns (stateOf d) user (homeOf (stateOf d) lock) ≡ eqb (cell (rowAt (tableAt (d .segments) s) 0) ownerCell) user
+      owner-is : owns (stateOf d) user (lockSegment (stateOf d) lock) ≡ eqb (cell (rowAt (tableAt (d .segments) s) 0) ownerCell) user
       owner-is = ap (owns (stateOf d) user) place ∙ ap (λ g. eqb (g .owner) user) (segment-at d s (omega arith))
 
       other : (cell (rowAt (tableAt (d .segments) s) 0) ownerCell ≡ user → ⊥) → Serves d q text (Refused NotOwner) d
       unfolding conditions stateOf
-      other o = let none = owner-is ∙ ne-eqb _ _ o in let stands = has-home d lock (omega (arith, place)) in serves-refused d q text (rw (u, stands, none))
+      other o = let none = owner-is ∙ ne-eqb _ _ o in let stands = has-lock-segment d lock (omega (arith, place)) in serves-refused d q text (rw (u, stands, none))
 
       gone : {t : Table} {r : ℕ} → cell (rowAt (tableAt (d .segments) s) 0) ownerCell ≡ user → Dropped lock (tableAt (d .locks) s) t r
           → Serves d q text (Accepted r) (locksAre (set (d .locks) s t) d)
       unfolding conditions answer store stateOf
       gone {t} {r} o drop =
           let own = owner-is ∙ eq-eqb _ _ o in
-          let stands = has-home d lock (omega (arith, place)) in
+          let stands = has-lock-segment d lock (omega (arith, place)) in
           serves-accepted d q text
           (rw (u, stands, own))
           (drop .count ∙ sym (ap (λ (k : ℕ). length (keep (isOfLock lock) (segmentAt (stateOf d) k .products))) place ∙ count-at d lock s (omega arith)))
@@ -68,14 +68,14 @@ returns c = λ text d. unknown-user _ _ _ text (test-fails (c .before .is-user .
 returns-2 : tie.Need-returns-2
 returns-2 c =
     let b = c .before .before .before .before in
-    λ text d. unknown-lock _ _ _ text _ _ (test-holds (b .before .is-user .ensures) (b .if1 .left)) (c .before .before .before .segments .ensures .count) (c .before .home .ensures) (c .if2 .taken)
+    λ text d. unknown-lock _ _ _ text _ _ (test-holds (b .before .is-user .ensures) (b .if1 .left)) (c .before .before .before .segments .ensures .count) (c .before .segment-of .ensures) (c .if2 .taken)
 
 returns-3 : tie.Need-returns-3
 returns-3 c =
     let b = c .before .before in
     let e = b .before .before .before .before in
     λ text d.
-    other _ _ _ text _ _ (test-holds (e .before .is-user .ensures) (e .if1 .left)) (b .before .before .before .segments .ensures .count) (b .before .home .ensures) (b .if2 .left)
+    other _ _ _ text _ _ (test-holds (e .before .is-user .ensures) (e .if1 .left)) (b .before .before .before .segments .ensures .count) (b .before .segment-of .ensures) (b .if2 .left)
     (c .if3 .taken)
 
 returns-4 : tie.Need-returns-4
@@ -84,7 +84,7 @@ returns-4 c =
     let b = f .before .before in
     let e = b .before .before .before .before in
     λ text d.
-    gone _ _ _ text _ _ (test-holds (e .before .is-user .ensures) (e .if1 .left)) (b .before .before .before .segments .ensures .count) (b .before .home .ensures) (b .if2 .left)
+    gone _ _ _ text _ _ (test-holds (e .before .is-user .ensures) (e .if1 .left)) (b .before .before .before .segments .ensures .count) (b .before .segment-of .ensures) (b .if2 .left)
     (f .if3 .left) (c .drop-rows .ensures)
 
 pub drop-lock-spec : {M : Type 1} → statement M
@@ -94,7 +94,7 @@ drop-lock-spec =
     (λ c κs. search needs)  -- is-user-requires
     returns
     (λ c κs. search needs)  -- segments-requires
-    (λ c κs. search needs)  -- home-requires
+    (λ c κs. search needs)  -- segment-of-requires
     returns-2
     (λ c. search needs)  -- mul-owner
     (λ c. search needs)  -- index-1-owner

@@ -1,4 +1,4 @@
--- By the verdict.
+-- By the status.
 use Rattle.locks.specs.Internal.{malformed-text, wide-text, unsatisfiable-text, accepted-text}
 use borrow.Author.Needs.{needs}
 use Rattle.locks.proofs.calls.judge_lock.Statement.{statement}

@@ -5,8 +5,8 @@ use Rattle.model.specs.Cells.{tableAt}
 use Rattle.locks.specs.Internal.{hasRow}
 use Rattle.locks.proofs.UsedRows.{Searching, searching-start, searching-found, searching-on, searching-past}
 use borrow.Author.Needs.{needs}
-use Rattle.locks.proofs.rows.home.Statement.{statement}
-use Rattle.locks.proofs.rows.home.Tie as tie
+use Rattle.locks.proofs.rows.segment_of.Statement.{statement}
+use Rattle.locks.proofs.rows.segment_of.Tie as tie
 
 abbrev Inv-loop : tie.InvT-loop
 Inv-loop locks n lock s₀ s = Searching (hasRow lock) (tableAt locks) n s
@@ -26,8 +26,8 @@ loop-again c = let b = c .before .before in searching-on _ _ _ (b .before .befor
 returns-2 : tie.Need-returns-2 Inv-loop μ-loop
 returns-2 c = record { place = searching-past _ _ _ (c .before .loop .inv) (search needs); low = search needs }
 
-pub home-spec : {M : Type 1} → statement M
-home-spec =
+pub segment-of-spec : {M : Type 1} → statement M
+segment-of-spec =
     tie.close
     (tie.spec
     Inv-loop
