@@ -1,4 +1,5 @@
 pub mod Conditions
 pub mod Lists
 pub mod Parts
+pub mod Scans
 pub mod Truth

@@ -169,10 +169,6 @@ module _ {A B : Type 0} where
   any-concatMap p f [] = refl
   any-concatMap p f (x ∷ xs) = any-append p (f x) (concatMap f xs) ∙ rw (any-concatMap p f xs)
 
-  pub map-append : (f : A → B) (xs ys : List A) → map f (xs ++ ys) ≡ map f xs ++ map f ys
-  map-append f [] ys = refl
-  map-append f (x ∷ xs) ys = rw (map-append f xs ys)
-
   pub map-same : (f g : A → B) → ((x : A) → f x ≡ g x) → (xs : List A) → map f xs ≡ map g xs
   map-same f g h [] = refl
   map-same f g h (x ∷ xs) = rw (h x, map-same f g h xs)

@@ -3,3 +3,4 @@ pub mod Requests
 pub mod Examples
 pub mod TableLines
 pub mod Values
+pub mod Computing

@@ -4,6 +4,7 @@ use mathlib.Core.Bool.{Bool, true, false, cond, _&&_}
 use mathlib.Core.List.{List, [], _∷_}
 use Prim.Native.Nat.{ℕ}
 use lib.Dec.{eqb}
+use borrow.Author.Tests.{ne-eqb}
 use Rattle.call.specs.declared.request.Request.{Request}
 use Rattle.call.specs.declared.request.Line.{Line}
 use Rattle.call.specs.declared.request.Line.the-variants.{Of, Unknown}
@@ -40,3 +41,25 @@ module _ (letter a b c n : ℕ) where
 
     pub unfit : z && textNamed letter n ≡ false → Corrupt ≡ decodedOf letter a b c n
     unfit h = rw h at line-decodes
+
+-- ---- no line
+
+module _ (letter : ℕ) where
+  -- the letter is none of the rows', said beside what was said before them
+  abbrev Unlisted : Type 0 → List TableRow → Type 0
+  Unlisted before [] = before
+  Unlisted before (r ∷ rs) = Unlisted (before × (letter ≡ r .letter → ⊥)) rs
+
+  said-before : (A : Type 0) (rs : List TableRow) → Unlisted A rs → A
+  said-before A [] u = u
+  said-before A (r ∷ rs) u = said-before (A × (letter ≡ r .letter → ⊥)) rs u .0
+
+  in-none : (A : Type 0) (rs : List TableRow) → Unlisted A rs → Unknown ≡ lineIn rs letter
+  in-none A [] u = refl
+  in-none A (r ∷ rs) u =
+      let before = A × (letter ≡ r .letter → ⊥) in
+      rw (ne-eqb letter (r .letter) (said-before before rs u .1)) (in-none before rs u)
+
+pub unlisted : (letter a b c : ℕ) → Unlisted letter (Unit {0}) (table a b c) → Unknown ≡ lineOf letter a b c
+unfolding lineOf
+unlisted letter a b c u = in-none letter (Unit {0}) (table a b c) u

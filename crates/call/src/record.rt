@@ -1,6 +1,7 @@
 // A call as a journal may hold it: well formed, and with a text of the right length.
 ghost use mathlib.Core.Path.{_≡_};
 ghost use Rattle.call.specs.Calls.{textFits, recordFits};
+use crate::letters::ADD_LOCK;
 use crate::request::Decoded;
 use crate::request::decode;
 
@@ -22,7 +23,7 @@ pub fn fits(letter: u8, a: u16, b: u16, c: u16, size: usize) -> bool
 fn text_fits(letter: u8, size: usize) -> bool
     ensures { λ r. ⌜ r ≡ textFits letter size ⌝ }
 {
-    if letter == b'L' {
+    if letter == ADD_LOCK {
         (1 <= size) & (size <= MOST_TEXT)
     } else {
         size == 0

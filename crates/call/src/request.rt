@@ -2,6 +2,7 @@
 ghost use mathlib.Core.Path.{_≡_};
 ghost use Rattle.call.specs.Calls.{unnamedZero, decodedOf};
 ghost use Rattle.call.specs.Internal.{lineOf};
+use crate::letters;
 
 // A well formed call, with the fields that its letter names; beside each stands its letter and document 01's word.
 // The text of a lock is not in it.
@@ -46,7 +47,7 @@ pub fn decode(letter: u8, a: u16, b: u16, c: u16, size: usize) -> Decoded
     match find_line(letter, a, b, c) {
         Line::Unknown => Decoded::Corrupt,
         Line::Of(request, named) => {
-            if unnamed_zero(named, a, b, c) & ((letter == b'L') | (size == 0)) {
+            if unnamed_zero(named, a, b, c) & ((letter == letters::ADD_LOCK) | (size == 0)) {
                 Decoded::WellFormed(request)
             } else {
                 Decoded::Corrupt
@@ -65,18 +66,18 @@ fn find_line(letter: u8, a: u16, b: u16, c: u16) -> Line
     ensures { λ r. ⌜ r ≡ lineOf letter a b c ⌝ }
 {
     match letter {
-        b'U' => Line::Of(Request::NewUser, 0),
-        b'S' => Line::Of(Request::StartThread(a), 1),
-        b'E' => Line::Of(Request::EndThread(a), 1),
-        b'N' => Line::Of(Request::NewSegment(a, b), 2),
-        b'K' => Line::Of(Request::NewKey(a), 1),
-        b'G' => Line::Of(Request::GiveKey(a, b, c), 3),
-        b'T' => Line::Of(Request::TakeKey(a, b, c), 3),
-        b'L' => Line::Of(Request::AddLock(a, b, c), 3),
-        b'D' => Line::Of(Request::DropLock(a, b), 2),
-        b'C' => Line::Of(Request::CallSegment(a, b), 2),
-        b'R' => Line::Of(Request::ReturnCall(a), 1),
-        b'A' => Line::Of(Request::Access(a, b, c), 3),
+        letters::NEW_USER => Line::Of(Request::NewUser, 0),
+        letters::START_THREAD => Line::Of(Request::StartThread(a), 1),
+        letters::END_THREAD => Line::Of(Request::EndThread(a), 1),
+        letters::NEW_SEGMENT => Line::Of(Request::NewSegment(a, b), 2),
+        letters::NEW_KEY => Line::Of(Request::NewKey(a), 1),
+        letters::GIVE_KEY => Line::Of(Request::GiveKey(a, b, c), 3),
+        letters::TAKE_KEY => Line::Of(Request::TakeKey(a, b, c), 3),
+        letters::ADD_LOCK => Line::Of(Request::AddLock(a, b, c), 3),
+        letters::DROP_LOCK => Line::Of(Request::DropLock(a, b), 2),
+        letters::CALL_SEGMENT => Line::Of(Request::CallSegment(a, b), 2),
+        letters::RETURN_CALL => Line::Of(Request::ReturnCall(a), 1),
+        letters::ACCESS => Line::Of(Request::Access(a, b, c), 3),
         _ => Line::Unknown,
     }
 }

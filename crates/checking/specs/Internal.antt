@@ -1,15 +1,14 @@
 -- What the crate's private functions promise each other. Nothing here is part of what a reader must believe.
-use mathlib.Core.Path.{_≡_}
 use mathlib.Core.Bool.{Bool, true, false, _&&_, _||_, not, cond}
 use mathlib.Core.Option.{Option}
-use Prim.Native.Nat.{ℕ, zero, suc, _-_, _/_, _≤_, min}
+use Prim.Native.Nat.{ℕ, zero, suc, _-_, _/_}
 use lib.Dec.{eqb, ltb}
 use lib.ListN.{drop}
 use Rattle.product.specs.Product.{opens}
 use Rattle.base.specs.Lists.{any, first, isSome, orDefault}
 use Rattle.product.specs.declared.literal.Key.{Key}
 use Rattle.product.specs.declared.literal.Key.the-variants.{User, Thread as ThreadKey, Segment as SegmentKey, Defined}
-use Rattle.model.specs.Limits.{mostFrames, mostSegments}
+use Rattle.model.specs.Limits.{mostSegments}
 use Rattle.model.specs.Operations.{deny, shares}
 use Rattle.model.specs.Threads.{KeySet}
 use Rattle.model.specs.Cells.{Row, Table, cell, rowAt, usedRows, productIn, noKey, definedCell}
@@ -32,12 +31,6 @@ listable (User n) = true
 listable (ThreadKey n) = true
 listable (SegmentKey n) = ltb n mostSegments
 listable (Defined n) = ltb (definedCell n) noKey
-
--- a number of frames, read as no more than its limit
-pub record Clamped (frames r : ℕ) : Type 0 where
-  pub count : r ≡ min frames mostFrames
-  -- follows from it, and is said so that callers find the bound
-  pub low : r ≤ mostFrames
 
 abbrev pub isDeny : Row → Bool
 isDeny w = shares (cell w 0) deny

@@ -3,9 +3,10 @@ ghost use mathlib.Core.Path.{_≡_};
 ghost use mathlib.Core.Bool.{true};
 ghost use Prim.Native.Nat.{_≤_};
 ghost use Rattle.product.specs.Atom.{agrees, atomOf};
+ghost use Rattle.model.specs.Limits.{mostFrames};
 ghost use Rattle.model.specs.Cells.{literalIn};
 ghost use Rattle.checking.specs.Deciding.{keysAt};
-ghost use Rattle.checking.specs.Internal.{hasCode, inherited, listable, Clamped};
+ghost use Rattle.checking.specs.Internal.{hasCode, inherited, listable};
 use model::arrays::BARRED_LISTED;
 use model::arrays::BARRED_OWN;
 use model::arrays::DEFINED_CODES;
@@ -17,16 +18,6 @@ use model::arrays::Thread;
 use model::arrays::USER;
 use product::literal::Key;
 use product::literal::Literal;
-
-const MOST_FRAMES: usize = 16;
-
-// A number of frames (document 01: open calls), read as no more than there can be.
-pub(crate) fn clamp(frames: u16) -> usize
-    ensures { λ r. ⌜ Clamped frames r ⌝ }
-{
-    let n = frames as usize;
-    if n <= MOST_FRAMES { n } else { MOST_FRAMES }
-}
 
 // The literal that a cell of a product row stands for.
 pub(crate) fn literal_in(x: u32) -> Literal
@@ -68,7 +59,7 @@ pub(crate) fn literal_in(x: u32) -> Literal
 // one is not. Its U and R keys are the user's and the thread's own, its S and D keys those that the frames hand over,
 // asked for by their code in a key list.
 pub(crate) fn agrees(thread: &Thread, depth: usize, literal: Literal) -> bool
-    requires { ⌜ (depth ≤ 16) × (listable (atomOf literal) ≡ true) ⌝ }
+    requires { ⌜ (depth ≤ mostFrames) × (listable (atomOf literal) ≡ true) ⌝ }
     ensures { λ r. ⌜ r ≡ agrees (keysAt (now (thread .entry)) depth) literal ⌝ }
 {
     match literal {
@@ -103,7 +94,7 @@ pub(crate) fn agrees(thread: &Thread, depth: usize, literal: Literal) -> bool
 
 // Whether one of the frames handed the key over (the thread inherits it), the newest asked first.
 fn inherits(thread: &Thread, depth: usize, code: u16) -> bool
-    requires { ⌜ depth ≤ 16 ⌝ }
+    requires { ⌜ depth ≤ mostFrames ⌝ }
     ensures { λ r. ⌜ r ≡ inherited (now (thread .entry)) depth code ⌝ }
 {
     let mut i = depth;

@@ -5,8 +5,8 @@ ghost use lib.ListN.{length};
 ghost use Rattle.checking.specs.Deciding.{checkOf, answerOf};
 ghost use Rattle.checking.specs.Internal.{openingOf, headChecked, codeChecked, deniesFrom};
 use crate::keys::agrees;
-use crate::keys::clamp;
 use crate::keys::literal_in;
+use base::cells::count_in_u16;
 use model::answer::Answer;
 use model::answer::Refusal;
 use model::arrays::FRAMES;
@@ -15,6 +15,7 @@ use model::arrays::LITERAL_UNIT;
 use model::arrays::LOCK_UNIT;
 use model::arrays::Products;
 use model::arrays::Thread;
+use model::bounds::MOST_FRAMES;
 use model::operations::Operations;
 use model::operations::is_access;
 
@@ -94,7 +95,7 @@ fn head_code(head: u32) -> u32
 fn opening(thread: &Thread, products: &Products, operation: u32) -> u32
     ensures { λ r. ⌜ codeChecked r ≡ headChecked (openingOf (now (thread .entry)) (now (products .entry)) operation) ⌝ }
 {
-    let depth = clamp(thread[0][FRAMES]);
+    let depth = count_in_u16(thread[0][FRAMES], MOST_FRAMES);
     let rows = count(products);
     let mut found = 0;
     let mut p: usize = 0;

@@ -83,7 +83,7 @@ number-read (suc m) r h =
 
 -- what is read is spelt
 
-pub digits-fuel : (f g n : ℕ) → n < f → n < g → digits f n ≡ digits g n
+digits-fuel : (f g n : ℕ) → n < f → n < g → digits f n ≡ digits g n
 unfolding digits
 digits-fuel zero g n h k = let z : ⊥ = omega arith in absurd z
 digits-fuel (suc f) zero n h k = let z : ⊥ = omega arith in absurd z
@@ -94,12 +94,20 @@ digits-fuel (suc f) (suc g) n h k = go (digits-fuel f g (n / 10)) (ltb n 10) ref
     go ih true e = refl
     go ih false e = let l : 10 ≤ n = ltb-false n 10 e in rw (ih (omega arith) (omega arith))
 
-decimal-more : (a b : ℕ) → 1 ≤ a → 48 ≤ b → b ≤ 57 → decimal (10 * a + (b - 48)) ≡ decimal a ++ b ∷ []
+pub decimal-one : (n : ℕ) → n < 10 → decimal n ≡ (48 + n) ∷ []
 unfolding decimal digits
-decimal-more a b p h k =
+decimal-one n h = rw (lt-ltb n 10 h)
+
+pub decimal-more : (n : ℕ) → 10 ≤ n → decimal n ≡ decimal (n / 10) ++ (48 + n % 10) ∷ []
+unfolding decimal digits
+decimal-more n h = rw (le-ltb n 10 h, digits-fuel n (suc (n / 10)) (n / 10) (omega arith) (omega arith))
+
+-- a number that is read one digit further
+decimal-further : (a b : ℕ) → 1 ≤ a → 48 ≤ b → b ≤ 57 → decimal (10 * a + (b - 48)) ≡ decimal a ++ b ∷ []
+decimal-further a b p h k =
     let q : (10 * a + (b - 48)) / 10 ≡ a = omega arith in
     let m : 48 + (10 * a + (b - 48)) % 10 ≡ b = omega arith in
-    rw (le-ltb (10 * a + (b - 48)) 10 (omega arith), q, m, digits-fuel (10 * a + (b - 48)) (suc a) a (omega arith) (omega arith))
+    decimal-more (10 * a + (b - 48)) (omega arith) ∙ rw (q, m)
 
 digits-spelt : (a : ℕ) (s : List ℕ) → 1 ≤ a → decimal a ++ s ≡ decimal (readDigits a s .0) ++ readDigits a s .1
 unfolding readDigits
@@ -113,15 +121,14 @@ digits-spelt a (b ∷ s) p = go (digits-spelt (10 * a + (b - 48)) s (omega arith
         → (x : Bool) → digit b ≡ x → Spelt (cond x (readDigits (10 * a + (b - 48)) s) (a, b ∷ s))
     go ih true e =
         let l = digit-range b e in
-        sym (append-assoc (decimal a) (b ∷ []) s) ∙ rw (← decimal-more a b p (l .0) (l .1)) ih
+        sym (append-assoc (decimal a) (b ∷ []) s) ∙ rw (← decimal-further a b p (l .0) (l .1)) ih
     go ih false e = refl
 
 decimal-digit : (b : ℕ) → digit b ≡ true → decimal (b - 48) ≡ b ∷ []
-unfolding decimal digits
 decimal-digit b e =
     let l = digit-range b e in
     let q : 48 + (b - 48) ≡ b = omega arith in
-    rw (lt-ltb (b - 48) 10 (omega arith), q)
+    decimal-one (b - 48) (omega arith) ∙ rw q
 
 digits-start : (b : ℕ) (s : List ℕ) → digit b ≡ true → readDigits 0 (b ∷ s) ≡ readDigits (b - 48) s
 unfolding readDigits

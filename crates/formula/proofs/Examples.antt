@@ -1,21 +1,10 @@
 -- Each answer is computed.
 use mathlib.Core.Path.{refl}
-use Rattle.product.specs.Atom.{orderOf, compareAtoms, compareLiterals}
-use Rattle.product.specs.Product.{opens, insert, union, clashes, contradictory, sameProduct}
-use Rattle.product.specs.Sum.{opensAny, joinEach, joinAll, present, consistent, firsts, narrow, fitsNode}
-use Rattle.product.specs.Code.{keyCode, codeOf}
-use Rattle.product.specs.Held.{member}
-use Rattle.formula.specs.Text.{issuedTo}
-use Rattle.formula.specs.Tree.{holds}
-use Rattle.formula.specs.Nodes.{products, fits, listOf}
-use Rattle.formula.specs.Internal.Reader.{readDigits, readNumber, readAtom, readNots, readText}
-use Rattle.formula.specs.Outcome.{outcomeOf}
-use Rattle.formula.specs.Meaning.{textHolds}
-use Rattle.base.specs.Bytes.{bytes}
+use Rattle.formula.proofs.Computing.{computing}
 use Rattle.formula.specs.Theorems.Examples.{Examples, FurtherExamples}
 
 pub examples : Examples
-unfolding bytes outcomeOf issuedTo readText readNots readAtom readNumber readDigits listOf products fits fitsNode narrow firsts consistent present sameProduct joinAll joinEach union insert contradictory clashes compareLiterals compareAtoms orderOf keyCode codeOf
+unfolding computing
 examples =
     record {
       contradiction = refl;
@@ -33,7 +22,7 @@ examples =
     }
 
 pub further-examples : FurtherExamples
-unfolding bytes outcomeOf issuedTo readText readNots readAtom readNumber readDigits listOf products fits fitsNode narrow firsts consistent present sameProduct joinAll joinEach union insert contradictory clashes compareLiterals compareAtoms orderOf keyCode codeOf textHolds holds opens opensAny member
+unfolding computing
 further-examples =
     record {
       empty = refl;

@@ -14,7 +14,8 @@ use Rattle.product.specs.declared.literal.Literal.the-variants.{Plain, Barred}
 use Rattle.product.specs.Atom.{Atom, atomOf}
 use Rattle.product.specs.Product.{Product, opens, clashes, contradictory, All, no-more, and-more}
 use Rattle.product.specs.Sum.{Sum, opensAny, joinAll, conjoin, disjoin, narrow, fitsNode, joined}
-use Rattle.base.proofs.Truth.{and-both, and-last, both-and, true-false}
+use Rattle.base.proofs.Lists.{clash}
+use Rattle.base.proofs.Truth.{and-both, and-last, both-and}
 use Rattle.product.proofs.EveryLiteral.{all-append, all-union, all-tidy, all-join, Consistent, tidy-consistent}
 use Rattle.product.proofs.Valuations.{any-conjoin, any-disjoin, plains, any-own}
 use Rattle.product.proofs.OrderedProducts.{Ordered, ordered-single, ordered-conjoin, ordered-disjoin}
@@ -138,7 +139,7 @@ products-empty t =
   where
     go : (ps : Sum) → All Consistent ps → ((ρ : Atom → Bool) → opensAny ρ ps ≡ false) → ps ≡ []
     go [] c n = refl
-    go (p ∷ ps) (and-more c k) n = absurd (true-false (any-own p ps c) (n (plains p)))
+    go (p ∷ ps) (and-more c k) n = clash (any-own p ps c) (n (plains p))
 
 pub products-witness : {l : Level} (t : Tree l) → 1 ≤ length (products false t) → (ρ : Atom → Bool) × (holds ρ t ≡ true)
 products-witness t h =

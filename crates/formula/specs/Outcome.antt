@@ -1,4 +1,6 @@
 -- What compiling a formula text answers: its products, or a refusal. Document 01, 'Lock text' and refusals 11 to 13.
+-- The reader need not be believed: `MalformedExactly` (Theorems/Grammar), `TooWideExactly` (Theorems/Width),
+-- `UnsatisfiableExactly` (Theorems/Unsatisfiable) and `OpeningLaw` (Theorems/Opening) say each answer without it.
 use mathlib.Core.Bool.{false, cond}
 use mathlib.Core.List.{List, [], _∷_, map}
 use mathlib.Core.Option.{Option, none, some}

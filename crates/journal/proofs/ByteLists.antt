@@ -1,13 +1,13 @@
--- Lists of bytes, element by element; joined and cut.
+-- Lists of bytes, element by element, and cut.
 use Prim.Native.Nat.{ℕ, zero, suc, _<_}
-use mathlib.Core.List.{List, [], _∷_, _++_}
+use mathlib.Core.List.{List, [], _∷_}
 use native.Mathlib.Omega.{arith}
 use lib.ListN.{take, drop}
+use Rattle.base.proofs.Lists.{All}
 use Rattle.journal.specs.Format.{Bytes}
 
 abbrev pub Each : List ℕ → Type 0
-Each [] = Unit {0}
-Each (x ∷ s) = (x < 256) × Each s
+Each s = All (λ x. x < 256) s
 
 pub each : (s : List ℕ) → Bytes s → Each s
 each [] b = tt
@@ -17,10 +17,6 @@ pub all-are : (s : List ℕ) → Each s → Bytes s
 all-are [] e i = omega arith
 all-are (x ∷ s) e zero = e .0
 all-are (x ∷ s) e (suc i) = all-are s (e .1) i
-
-pub each-append : (p q : List ℕ) → Each p → Each q → Each (p ++ q)
-each-append [] q a b = b
-each-append (x ∷ p) q a b = (a .0, each-append p q (a .1) b)
 
 pub bytes-take : (n : ℕ) (s : List ℕ) → Bytes s → Bytes (take n s)
 bytes-take zero s b i = omega arith

@@ -10,15 +10,16 @@ use lib.ListN.{length, take, replicate, length-append}
 use lib.Seq.{take-append-seam}
 use lib.Dec.{lit<}
 use borrow.Author.Tests.{le-leb, lt-ltb, le-ltb}
-use Rattle.call.specs.Calls.{Call, callWith, decodedOf, recordFits}
+use Rattle.call.specs.Calls.{Call, callWith}
 use Rattle.journal.specs.declared.file.Refusal.the-variants.{Full, Corrupt}
 use Rattle.journal.specs.declared.file.Verdict.the-variants.{Readable, Refused}
 use Rattle.journal.specs.declared.append.Appended.the-variants.{Declined}
 use Rattle.journal.specs.Format.{allBytes, fileHead, fileBytes, mostBytes, isFit, Recordable, AllRecordable}
-use Rattle.journal.specs.Reading.{wholeAt, foundAt, wholeFrom, recordsFrom, recordsOf, verdictOf}
+use Rattle.journal.specs.Reading.{verdictOf}
 use Rattle.journal.specs.Appending.{appendAnswer, withRecord, emptyAnswer}
 use Rattle.journal.specs.Theorems.Declines.{full}
 use Rattle.journal.specs.Theorems.Examples.{usersThen, eightBytes, longest, oneMore, callU, Examples, AppendExamples, NumberExamples}
+use Rattle.journal.proofs.Computing.{computing}
 use Rattle.journal.proofs.ByteLists.{all-are}
 use Rattle.journal.proofs.ReadsBack.{file-length, written-readable}
 use Rattle.journal.proofs.Declines.{declined-exactly}
@@ -29,19 +30,19 @@ users-length zero rs = omega arith
 users-length (suc n) rs = omega (arith, users-length n rs)
 
 users-recordable : (n : ℕ) (rs : List Call) → AllRecordable rs → AllRecordable (usersThen n rs)
-unfolding usersThen recordFits decodedOf
+unfolding usersThen computing
 users-recordable zero rs v = v
 users-recordable (suc n) rs v =
     (record { fit = refl; letter-byte = lit< tt; a-word = lit< tt; b-word = lit< tt; c-word = lit< tt; text-bytes = all-are [] tt }, users-recordable n rs v)
 
 long-refused : (rs : List Call) → mostBytes < length (fileBytes rs) → verdictOf (fileBytes rs) ≡ Refused Corrupt
-unfolding verdictOf fileBytes
+unfolding computing
 long-refused rs h =
     let s = fileHead (length rs) ++ allBytes rs in
     rw (le-leb 3 (length s) (omega arith), le-ltb (length s) 7 (omega arith), lt-ltb mostBytes (length s) h)
 
 lock-recordable : Recordable (callWith 76 0 0 1 eightBytes)
-unfolding recordFits decodedOf
+unfolding computing
 lock-recordable =
     record {
       fit = refl;
@@ -53,7 +54,7 @@ lock-recordable =
     }
 
 user-fit : isFit callU ≡ true
-unfolding recordFits decodedOf
+unfolding computing
 user-fit = refl
 
 longest-is : length (fileBytes longest) ≡ 65535
@@ -74,7 +75,7 @@ longest-full =
     declined-exactly d 65535 callU Full .1 (full inside (ap verdictOf file ∙ longest-reads) user-fit (inr (lit< tt)))
 
 pub examples : Examples
-unfolding verdictOf recordsOf recordsFrom wholeFrom wholeAt foundAt fileBytes recordFits decodedOf
+unfolding computing
 examples =
     record {
       empty-readable = refl;
@@ -119,7 +120,7 @@ examples =
     }
 
 pub append-examples : AppendExamples
-unfolding appendAnswer emptyAnswer withRecord wholeFrom wholeAt fileBytes recordFits decodedOf
+unfolding computing appendAnswer emptyAnswer withRecord
 append-examples =
     record {
       beyond-buffer = refl;

@@ -14,7 +14,8 @@ use Rattle.journal.specs.Reading.{word, recordOf, nextOf, wholeAt, whole
 use Rattle.journal.specs.declared.file.Verdict.the-variants.{Readable}
 use Rattle.journal.specs.Theorems.ReadsBack.{WrittenReadable, WrittenBytes, RecordsBack}
 use Rattle.call.proofs.Texts.{text-short}
-use Rattle.journal.proofs.ByteLists.{Each, each, all-are, each-append}
+use Rattle.base.proofs.Lists.{All-append}
+use Rattle.journal.proofs.ByteLists.{Each, each, all-are}
 use Rattle.journal.proofs.Files.{shut-file}
 
 pub word-value : (w : ℕ) → low w + high w * 256 ≡ w
@@ -141,7 +142,7 @@ record-each r v =
 
 all-each : (rs : List Call) → AllRecordable rs → Each (allBytes rs)
 all-each [] v = tt
-all-each (r ∷ rs) v = each-append (recordBytes r) (allBytes rs) (record-each r (v .0)) (all-each rs (v .1))
+all-each (r ∷ rs) v = All-append (λ x. x < 256) (recordBytes r) (allBytes rs) (record-each r (v .0)) (all-each rs (v .1))
 
 pub written-bytes : WrittenBytes
 unfolding fileBytes

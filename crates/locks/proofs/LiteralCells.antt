@@ -13,14 +13,16 @@ use Rattle.product.specs.declared.literal.Literal.{Literal}
 use Rattle.product.specs.declared.literal.Literal.the-variants.{Barred}
 use Rattle.product.specs.Product.{Product, All, no-more, and-more}
 use Rattle.product.specs.Code.{codeOf, literalOf, Numbered}
+use Rattle.product.specs.Sum.{mostLiterals}
 use Rattle.product.specs.Cells.{sizeOf, rowOf}
 use Rattle.product.proofs.StoredSums.{literal-back}
 use Rattle.formula.specs.Compiler.{Kept}
 use Rattle.base.specs.Lists.{each}
+use Rattle.base.specs.Counts.{Counted}
 use Rattle.model.specs.Cells.{Row, cell, keyCell, barredBy, literalCell, head}
 use Rattle.model.specs.Stores.{productRow}
 use Rattle.base.proofs.Lists.{caseBool, each-suc, each-same}
-use Rattle.locks.specs.Internal.{Below, SizeOf, cellIn, rowFrom}
+use Rattle.locks.specs.Internal.{Below, cellIn, rowFrom}
 
 -- ---- what the code makes
 
@@ -39,11 +41,11 @@ module _ (w : Row) (n : ℕ) where
   unfolding cellIn
   a-cell i h e q = q ∙ ap literalCell e ∙ simp (lt-ltb i n h)
 
-  pub row-made : (lock operations : ℕ) {a b c d e f : ℕ} → SizeOf (cell w 7) n → a ≡ cellIn n w 0 → b ≡ cellIn n w 1 → c ≡ cellIn n w 2
+  pub row-made : (lock operations : ℕ) {a b c d e f : ℕ} → Counted (cell w 7) mostLiterals n → a ≡ cellIn n w 0 → b ≡ cellIn n w 1 → c ≡ cellIn n w 2
       → d ≡ cellIn n w 3 → e ≡ cellIn n w 4 → f ≡ cellIn n w 5
       → (lock * 65536 + n * 16 + operations) ∷ a ∷ b ∷ c ∷ d ∷ e ∷ f ∷ 0 ∷ [] ≡ rowFrom lock operations w
   unfolding rowFrom
-  row-made lock operations z p q r s t u = rw (p, q, r, s, t, u, z .size)
+  row-made lock operations z p q r s t u = rw (p, q, r, s, t, u, z .count)
 
 -- ---- which is a product's row
 

@@ -6,7 +6,6 @@ use Prim.Native.Nat.{ℕ, suc, _+_, _≤_, _<_, min}
 use lib.Dec.{ltb}
 use lib.ListN.{length, getD, take}
 use lib.Seq.{sets}
-use Rattle.product.specs.Sum.{mostLiterals}
 use Rattle.product.specs.Code.{literalOf}
 use Rattle.product.specs.Cells.{sizeOf}
 use Rattle.formula.specs.declared.text.Issued.{Issued}
@@ -82,10 +81,6 @@ setLimit = 16
 pub record Below (limit x r : ℕ) : Type 0 where
   pub is : r ≡ x
   pub low : r < limit
-
-pub record SizeOf (count r : ℕ) : Type 0 where
-  pub size : r ≡ min count mostLiterals
-  pub low : r ≤ mostLiterals
 
 -- cell i of n literals, of the compiler's cells
 unfoldable pub cellIn : ℕ → Row → ℕ → ℕ

@@ -25,16 +25,12 @@ use model::arrays::Registry;
 use model::arrays::Segments;
 use model::arrays::THREADS;
 use model::arrays::USERS;
+use model::bounds::MOST_NUMBERS;
+use model::bounds::MOST_STANDING;
 use model::operations::Operations;
 use registry::defined as defined_in;
 use registry::is_user;
 use registry::segments as segments_in;
-
-// Products in all standing locks of a segment.
-const MOST_STANDING: usize = 8;
-
-// Lock numbers that are handed out.
-const MOST_NUMBERS: u32 = 65536;
 
 // L, add lock. The answer is the lock number.
 pub fn add_lock(

@@ -3,7 +3,8 @@ ghost use mathlib.Core.Path.{_≡_};
 ghost use Prim.Native.Nat.{_<_};
 ghost use Rattle.product.specs.Cells.{rowCells};
 ghost use Rattle.model.specs.Cells.{keyCell, barredBy, literalCell};
-ghost use Rattle.locks.specs.Internal.{Below, keyCellLimit, barredLimit, setLimit, cellIn, SizeOf, rowFrom};
+ghost use Rattle.locks.specs.Internal.{Below, keyCellLimit, barredLimit, setLimit, cellIn, rowFrom};
+use base::cells::count_in_u32;
 use model::arrays::BARRED_LISTED;
 use model::arrays::BARRED_OWN;
 use model::arrays::DEFINED_CODES;
@@ -25,7 +26,7 @@ pub(crate) fn product_row(cells: &[u32; 8], lock: u16, operations: u16) -> [u32;
     requires { ⌜ operations < setLimit ⌝ }
     ensures { λ r. ⌜ r ≡ rowFrom lock operations (now (cells .entry)) ⌝ }
 {
-    let n = size(cells[COUNT_CELL]);
+    let n = count_in_u32(cells[COUNT_CELL], MOST_LITERALS);
     let head = lock as u32 * LOCK_UNIT + n as u32 * LITERAL_UNIT + operations as u32;
     [
         head,
@@ -37,14 +38,6 @@ pub(crate) fn product_row(cells: &[u32; 8], lock: u16, operations: u16) -> [u32;
         cell_at(cells, n, 5),
         0,
     ]
-}
-
-// How many literals a count says, at most as many as fit.
-fn size(count: u32) -> usize
-    ensures { λ r. ⌜ SizeOf count r ⌝ }
-{
-    let n = count as usize;
-    if n <= MOST_LITERALS { n } else { MOST_LITERALS }
 }
 
 // The cell of literal i of n, and 0 where there is none.

@@ -1,10 +1,15 @@
+pub mod Agrees
 pub mod EveryCall
 pub mod Granting
 pub mod HistoryAnswers
+pub mod KeptAgreement
 pub mod LockTexts
 pub mod Locks
 pub mod Mirror
 pub mod Numbering
 pub mod Places
+pub mod ReadLocks
 pub mod Segments
+pub mod StandingLocks
 pub mod StoredLocks
+pub mod TextTests

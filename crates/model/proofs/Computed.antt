@@ -1,2 +1,3 @@
+pub mod EveryRequest
 pub mod Examples
 pub mod Trials

@@ -1,2 +1,9 @@
+pub mod AnsweredWidths
 pub mod Bounds
+pub mod Fitting
+pub mod Kept
+pub mod LockWidths
+pub mod RequestWidths
+pub mod SegmentWidths
+pub mod ThreadWidths
 pub mod Widths

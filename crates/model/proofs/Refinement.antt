@@ -1,7 +1,13 @@
+pub mod Counts
+pub mod EveryCall
 pub mod Literals
+pub mod LockStores
 pub mod OperationSets
 pub mod ProductRows
+pub mod SegmentStores
 pub mod SegmentTables
 pub mod Serving
+pub mod Sizes
 pub mod Stores
+pub mod ThreadStores
 pub mod ThreadTables

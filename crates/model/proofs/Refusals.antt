@@ -1,1 +1,2 @@
+pub mod AcceptedTexts
 pub mod Refusing

@@ -14,7 +14,7 @@ use Rattle.call.specs.declared.request.Request.the-variants as request
 use Rattle.base.specs.Lists.{keep, tailOf}
 use Rattle.model.specs.Operations.{execute, grants}
 use Rattle.model.specs.Threads.{Frame, Thread, sameKey}
-use Rattle.model.specs.State.{LockProduct, Segment, Place, State, segmentAt, issued, isFree, placeFor, placeOf, threadAt, isOfLock, lockSegment, free, taken}
+use Rattle.model.specs.State.{LockProduct, Segment, Place, State, segmentAt, userOf, issued, isFree, placeFor, placeOf, threadAt, isOfLock, lockSegment, free, taken}
 use Rattle.model.specs.Refusals.{openingProduct, lockOf}
 
 -- ---- what an accepted call changes
@@ -98,8 +98,8 @@ module _ (compile : Compiler) where
   update d (request.EndThread a) text = atPlace d a (λ p. free)
   update d (request.NewSegment a b) text =
       let s = length (d .segments) in
-      withSegments d (d .segments ++ record { owner = a; kind = b; keys = SegmentKey s ∷ []; products = [] } ∷ [])
-  update d (request.NewKey a) text = withMakers d (d .makers ++ a ∷ [])
+      withSegments d (d .segments ++ record { owner = userOf d a; kind = b; keys = SegmentKey s ∷ []; products = [] } ∷ [])
+  update d (request.NewKey a) text = withMakers d (d .makers ++ userOf d a ∷ [])
   update d (request.GiveKey a b c) text = onSegment d b (giveKey c)
   update d (request.TakeKey a b c) text = onSegment d b (takeKey c)
   update d (request.AddLock a b c) text =

@@ -1,6 +1,6 @@
 -- Document 01, 'The history', line by line: what is read from a list of calls, each with its answer or refusal. Nothing
 -- of the state is fed to it.
-use mathlib.Core.Bool.{Bool, true, false, _&&_, not, cond}
+use mathlib.Core.Bool.{Bool, _&&_, not, cond}
 use mathlib.Core.List.{List, [], _∷_, _++_}
 use mathlib.Core.Option.{none}
 use Prim.Native.Nat.{ℕ, suc}
@@ -13,10 +13,11 @@ use Rattle.call.specs.declared.request.Decoded.{Decoded}
 use Rattle.call.specs.declared.request.Decoded.the-variants.{WellFormed, Corrupt as NotWellFormed}
 use Rattle.call.specs.Calls.{Call, decoded}
 use Rattle.call.specs.Letters as letters
+use Rattle.call.specs.Requests.{callOf}
 use Rattle.model.specs.declared.answer.Answer.{Answer}
 use Rattle.model.specs.declared.answer.Answer.the-variants.{Accepted, Refused}
 use Rattle.model.specs.Answers.{isAccepted}
-use Rattle.base.specs.Lists.{Map, put, remove, adjust, keep, orDefault, tailOf}
+use Rattle.base.specs.Lists.{Map, put, remove, adjust, any, keep, orDefault, tailOf}
 use Rattle.model.specs.Threads.{Frame, Thread, sameKey}
 use Rattle.formula.specs.declared.text.Issued.{Issued}
 
@@ -62,6 +63,10 @@ onFrames f t = record { user = t .user; frames = f (t .frames) }
 abbrev pub listOf : History → ℕ → List Key
 listOf h s = orDefault [] (λ e. e .keys) (h .segments s)
 
+-- who edits (document 01: user a of N, K, G, T, L and D), as the history then is
+abbrev pub editorIn : History → ℕ → ℕ
+editorIn h a = a
+
 -- what an accepted call with answer n writes: 'U, K and A change nothing in it. The others, when accepted:'
 unfoldable pub note : History → Request → List ℕ → ℕ → History
 note h request.NewUser text n = h
@@ -71,7 +76,7 @@ note h (request.Access a b c) text n = h
 note h (request.StartThread a) text n = withThreads h (put (h .threads) n (record { user = a; frames = [] }))
 note h (request.EndThread a) text n = withThreads h (remove (h .threads) a)
 -- 'N writes the answered segment as handed out, with owner a, kind b and a list of its own S key.'
-note h (request.NewSegment a b) text n = withEntries h (put (h .segments) n (record { owner = a; kind = b; keys = SegmentKey n ∷ [] }))
+note h (request.NewSegment a b) text n = withEntries h (put (h .segments) n (record { owner = editorIn h a; kind = b; keys = SegmentKey n ∷ [] }))
 -- 'G adds D key c to segment b's list. T strikes it there.'
 note h (request.GiveKey a b c) text n = withEntries h (adjust (h .segments) b (onKeys (λ keys. keys ++ Defined c ∷ [])))
 note h (request.TakeKey a b c) text n = withEntries h (adjust (h .segments) b (onKeys (keep (λ k. not (sameKey (Defined c) k)))))
@@ -108,20 +113,12 @@ historyFrom h (e ∷ es) = historyFrom (advance h e) es
 abbrev pub history : List Event → History
 history es = historyFrom emptyHistory es
 
--- a letter that hands out numbers: U, S, N, K, L
+-- the letters that hand out numbers, each its own
+abbrev pub numbering : List ℕ
+numbering = letters.U ∷ letters.S ∷ letters.N ∷ letters.K ∷ letters.L ∷ []
+
 abbrev pub handsOut : Request → Bool
-handsOut request.NewUser = true
-handsOut (request.StartThread a) = true
-handsOut (request.EndThread a) = false
-handsOut (request.NewSegment a b) = true
-handsOut (request.NewKey a) = true
-handsOut (request.GiveKey a b c) = false
-handsOut (request.TakeKey a b c) = false
-handsOut (request.AddLock a b c) = true
-handsOut (request.DropLock a b) = false
-handsOut (request.CallSegment a b) = false
-handsOut (request.ReturnCall a) = false
-handsOut (request.Access a b c) = false
+handsOut q = any (eqb (callOf q [] .letter)) numbering
 
 -- 'the count of that letter's accepted calls'
 abbrev pub counts : ℕ → Event → Bool
@@ -134,10 +131,16 @@ countFrom letter n (e ∷ es) = countFrom letter (cond (counts letter e) (suc n)
 abbrev pub acceptedOf : ℕ → List Event → ℕ
 acceptedOf letter es = countFrom letter 0 es
 
--- field a of each accepted K, in order
+-- each accepted K's editor, in order
+abbrev pub makerIn : History → Event → List ℕ
+makerIn h e = cond (counts letters.K e) (editorIn h (e .call .a) ∷ []) []
+
+abbrev pub makersFrom : History → List Event → List ℕ
+makersFrom h [] = []
+makersFrom h (e ∷ es) = makerIn h e ++ makersFrom (advance h e) es
+
 abbrev pub makersOf : List Event → List ℕ
-makersOf [] = []
-makersOf (e ∷ es) = let rest = makersOf es in cond (counts letters.K e) (e .call .a ∷ rest) rest
+makersOf es = makersFrom emptyHistory es
 
 -- the keys that the accepted U, S, N and K handed out
 abbrev pub issuedBy : List Event → Issued

@@ -19,7 +19,7 @@ use Rattle.base.specs.Lists.{first, isSome, orDefault}
 use Rattle.model.specs.Limits.{mostUsers, mostThreads, mostSegments, mostDefined, mostListed, mostStanding, mostFrames, mostNumbers, passes}
 use Rattle.model.specs.Operations.{execute, denies, grants, sheet, takes, isAccess, takesSet}
 use Rattle.model.specs.Threads.{isIn, KeySet, keySet}
-use Rattle.model.specs.State.{LockProduct, State, isUser, isSegment, isKey, segmentAt, owns, made, issued, liveIn, isLive, threadAt, isLock, lockSegment}
+use Rattle.model.specs.State.{LockProduct, State, isUser, isSegment, isKey, segmentAt, isEditor, userOf, owns, made, issued, liveIn, isLive, threadAt, isLock, lockSegment}
 
 -- ---- the check
 
@@ -64,6 +64,10 @@ denied d a b n = let o = openingProduct d denies a b n in when (isSome o) (Denie
 abbrev pub notGranted : State → ℕ → ℕ → ℕ → Condition Refusal
 notGranted d a b n = unless (isSome (openingProduct d grants a b n)) NotGranted
 
+-- 'user not handed out', in an edit
+abbrev pub unknownEditor : State → ℕ → Condition Refusal
+unknownEditor d a = unless (isEditor d a) UnknownUser
+
 module _ (compile : Compiler) where
   -- 'Checked in that order, 10 last.'
   unfoldable pub conditions : State → Request → List ℕ → List (Condition Refusal)
@@ -78,33 +82,33 @@ module _ (compile : Compiler) where
       unless (isLive d a) NoThread
       ∷ []
   conditions d (request.NewSegment a b) text =
-      unless (isUser d a) UnknownUser
+      unknownEditor d a
       ∷ when (ltb sheet b) Unfit
       ∷ when (passes mostSegments (suc (length (d .segments)))) Full
       ∷ []
   conditions d (request.NewKey a) text =
-      unless (isUser d a) UnknownUser
+      unknownEditor d a
       ∷ when (passes mostDefined (suc (length (d .makers)))) Full
       ∷ []
   conditions d (request.GiveKey a b c) text =
-      unless (isUser d a) UnknownUser
+      unknownEditor d a
       ∷ unless (isSegment d b) NoSegment
       ∷ unless (isKey d c) NoKey
-      ∷ unless (owns d a b && made d a c) NotOwner
+      ∷ unless (owns d (userOf d a) b && made d (userOf d a) c) NotOwner
       ∷ when (isIn (Defined c) (segmentAt d b .keys)) AlreadyPresent
       ∷ when (passes mostListed (suc (length (segmentAt d b .keys)))) Full
       ∷ []
   conditions d (request.TakeKey a b c) text =
-      unless (isUser d a) UnknownUser
+      unknownEditor d a
       ∷ unless (isSegment d b) NoSegment
       ∷ unless (isKey d c) NoKey
-      ∷ unless (owns d a b) NotOwner
+      ∷ unless (owns d (userOf d a) b) NotOwner
       ∷ unless (isIn (Defined c) (segmentAt d b .keys)) NotPresent
       ∷ []
   conditions d (request.AddLock a b c) text =
-      unless (isUser d a) UnknownUser
+      unknownEditor d a
       ∷ unless (isSegment d b) NoSegment
-      ∷ unless (owns d a b) NotOwner
+      ∷ unless (owns d (userOf d a) b) NotOwner
       ∷ unless (takesSet (segmentAt d b .kind) c) Unfit
       ∷ when (isMalformed (compile (issued d) text)) Malformed
       ∷ when (isTooWide (compile (issued d) text)) TooWide
@@ -112,9 +116,9 @@ module _ (compile : Compiler) where
       ∷ when (passes mostStanding (length (segmentAt d b .products) + length (sumIn (compile (issued d) text))) || passes mostNumbers (suc (d .lockNumbers))) Full
       ∷ []
   conditions d (request.DropLock a b) text =
-      unless (isUser d a) UnknownUser
+      unknownEditor d a
       ∷ unless (isLock d b) NoLock
-      ∷ unless (owns d a (lockSegment d b)) NotOwner
+      ∷ unless (owns d (userOf d a) (lockSegment d b)) NotOwner
       ∷ []
   conditions d (request.CallSegment a b) text =
       unless (isLive d a) NoThread

@@ -63,6 +63,14 @@ blankSegment = record { owner = 0; kind = 0; keys = []; products = [] }
 abbrev pub segmentAt : State → ℕ → Segment
 segmentAt d s = getD (d .segments) s blankSegment
 
+-- Who edits, in the six calls that change segments, keys and locks (N, K, G, T, L and D): field a names the user. Whether
+-- it names one, and the user that it names where it does.
+abbrev pub isEditor : State → ℕ → Bool
+isEditor d a = isUser d a
+
+abbrev pub userOf : State → ℕ → ℕ
+userOf d a = a
+
 abbrev pub owns : State → ℕ → ℕ → Bool
 owns d u s = eqb (segmentAt d s .owner) u
 

@@ -90,6 +90,10 @@ atThread d n f = threadsAre (onTable (d .threads) (placeOf n (stateOf d .places)
 abbrev pub handOut : ℕ → Cells → Cells
 handOut j d = registryIs (countUp (d .registry) j) d
 
+-- who edits, in the arrays: `userOf` of the state that they hold
+abbrev pub userIn : Cells → ℕ → ℕ
+userIn d a = a
+
 module _ (compile : Compiler) where
   unfoldable pub store : Cells → Request → List ℕ → Cells
   store d request.NewUser text = handOut userCount d
@@ -101,11 +105,11 @@ module _ (compile : Compiler) where
   store d (request.NewSegment a b) text =
       let s = cell (d .registry) segmentCount in
       handOut segmentCount
-      (segmentsAre (set (d .segments) s (newSegment s a b))
+      (segmentsAre (set (d .segments) s (newSegment s (userIn d a) b))
       (locksAre (onTable (d .locks) s (λ t. endRows t 0)) d))
   store d (request.NewKey a) text =
       let k = cell (d .registry) definedCount in
-      handOut definedCount (makersAre (set (d .makers) k a) d)
+      handOut definedCount (makersAre (set (d .makers) k (userIn d a)) d)
   store d (request.GiveKey a b c) text = segmentsAre (onTable (d .segments) b (giveCode b (definedCell c))) d
   store d (request.TakeKey a b c) text = segmentsAre (onTable (d .segments) b (takeCode b (definedCell c))) d
   store d (request.AddLock a b c) text =

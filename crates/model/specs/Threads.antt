@@ -23,10 +23,14 @@ sameKey j k = isEqual (compareAtoms j k)
 abbrev pub isIn : Key → List Key → Bool
 isIn k keys = any (sameKey k) keys
 
+-- the open call handed the key over
+abbrev pub hands : Frame → Key → Bool
+hands f k = isIn k (f .keys)
+
 -- document 01: key set, by which keys are in it
 abbrev pub KeySet : Type 0
 KeySet = Key → Bool
 
 -- 'its user's U key, its own R key and every key in its open calls' lists', of thread n
 abbrev pub keySet : ℕ → Thread → KeySet
-keySet n t = λ k. sameKey k (User (t .user)) || (sameKey k (ThreadKey n) || any (λ f. isIn k (f .keys)) (t .frames))
+keySet n t = λ k. sameKey k (User (t .user)) || (sameKey k (ThreadKey n) || any (λ f. hands f k) (t .frames))

@@ -1,14 +1,10 @@
 -- Each answer is computed.
 use mathlib.Core.Path.{refl}
-use Rattle.product.specs.Atom.{orderOf, compareAtoms, compareLiterals}
-use Rattle.product.specs.Product.{opens, insert, union, clashes, contradictory, sameProduct}
-use Rattle.product.specs.Sum.{opensAny, joinEach, joinAll, present, consistent, firsts, narrow, fitsNode}
-use Rattle.product.specs.Code.{keyCode, codeOf, keyAt, literalAt}
-use Rattle.product.specs.Held.{member}
+use Rattle.product.proofs.Computing.{computing}
 use Rattle.product.specs.Theorems.Examples.{Examples}
 
 pub examples : Examples
-unfolding opens opensAny member firsts consistent present sameProduct joinAll joinEach union insert contradictory clashes narrow fitsNode compareLiterals compareAtoms orderOf keyCode codeOf keyAt literalAt
+unfolding computing
 examples =
     record {
       kinds = refl;

@@ -13,7 +13,8 @@ use Rattle.product.specs.declared.literal.Literal.the-variants.{Plain, B
 use Rattle.product.specs.Atom.{Atom, atomOf, agrees, orderOf, isEqual, compareAtoms, compareLiterals}
 use Rattle.product.specs.Product.{Product, opens, same, before, insert, union, opposed, clashes, contradictory, sameProduct}
 use Rattle.product.specs.Sum.{Sum, opensAny, joinEach, joinAll, present, consistent, firsts, tidy, conjoin, disjoin}
-use Rattle.base.proofs.Truth.{and-left-comm, and-rotate, and-or-left, and-or-right, and-not-self, not-self-and, or-again, or-cases, neither, or-right, and-both, true-false, never-true}
+use Rattle.base.proofs.Lists.{clash}
+use Rattle.base.proofs.Truth.{and-left-comm, and-rotate, and-or-left, and-or-right, and-not-self, not-self-and, or-again, or-cases, neither, or-right, and-both, never-true}
 use Rattle.product.proofs.Comparison.{compare-equal, compare-same, literal-equal, literal-same, is-equal}
 
 pub same-equal : (x y : Literal) → same x y ≡ true → x ≡ y
@@ -40,7 +41,7 @@ opposed-other : (x y : Literal) → opposed x y ≡ true → x ≡ y → ⊥
 opposed-other x y h i =
     let e = and-both (isEqual (compareAtoms (atomOf x) (atomOf y))) (not (same x y)) h in
     let s : same x y ≡ true = rw (i, literal-same y) in
-    true-false s (not-true (same x y) (e .1))
+    clash s (not-true (same x y) (e .1))
 
 module _ (ρ : Atom → Bool) where
   -- products
@@ -190,16 +191,16 @@ turned-other (Barred a) e = let z : _≡_ {A = ℕ} 0 1 = cc in omega arith
 
 not-both : (x : Literal) (p : Product) → contradictory p ≡ false → has p x ≡ true → has p (turned x) ≡ true → ⊥
 unfolding has contradictory
-not-both x [] e h k = true-false k refl
+not-both x [] e h k = clash k refl
 not-both x (y ∷ p) e h k =
     let n = neither (clashes y p) (contradictory p) e in
     ⊎-elim
     (λ s. ⊎-elim
     (λ t. turned-other x (same-equal x y s ∙ sym (same-equal (turned x) y t)))
-    (λ r. true-false (rw (same-equal x y s) at (turned-clash x p r)) (n .0))
+    (λ r. clash (rw (same-equal x y s) at (turned-clash x p r)) (n .0))
     (or-cases (same (turned x) y) (has p (turned x)) k))
     (λ r. ⊎-elim
-    (λ t. true-false (rw (same-equal (turned x) y t) at (turned-clash (turned x) p (rw (turned-twice x) r))) (n .0))
+    (λ t. clash (rw (same-equal (turned x) y t) at (turned-clash (turned x) p (rw (turned-twice x) r))) (n .0))
     (λ q. not-both x p (n .1) r q)
     (or-cases (same (turned x) y) (has p (turned x)) k))
     (or-cases (same x y) (has p x) h)

@@ -8,18 +8,17 @@ ghost use Rattle.model.specs.Cells.{registryIs, cell, userCount, segmentCount, 
 ghost use Rattle.model.specs.Serving.{ServesLent};
 ghost use Rattle.base.specs.Counts.{Counted};
 ghost use Rattle.registry.specs.Counts.{Handed};
+use base::cells::count_in_u32;
+use base::counts::at_most;
 use model::answer::Answer;
 use model::answer::Refusal;
 use model::arrays::DEFINED;
 use model::arrays::Registry;
 use model::arrays::SEGMENTS;
 use model::arrays::USERS;
-
-const MOST_USERS: u32 = 32;
-
-const MOST_SEGMENTS: usize = 64;
-
-const MOST_DEFINED: usize = 1024;
+use model::bounds::MOST_DEFINED;
+use model::bounds::MOST_SEGMENTS;
+use model::bounds::MOST_USERS;
 
 // Whether the user was handed out.
 pub fn is_user(registry: &Registry, user: u16) -> bool
@@ -32,23 +31,15 @@ pub fn is_user(registry: &Registry, user: u16) -> bool
 pub fn segments(registry: &Registry) -> usize
     ensures { λ r. ⌜ Counted (cell (now (registry .entry)) segmentCount) mostSegments r ⌝ }
 {
-    clamp(registry[SEGMENTS], MOST_SEGMENTS)
+    count_in_u32(registry[SEGMENTS], MOST_SEGMENTS)
 }
 
 // How many defined keys there are. Their makers are lent as a slice, whose length is known in the proofs.
 pub fn defined(registry: &Registry, makers: &[u16]) -> usize
     ensures { λ r. ⌜ Handed (cell (now (registry .entry)) definedCount) (now (makers .entry)) r ⌝ }
 {
-    let n = clamp(registry[DEFINED], MOST_DEFINED);
-    let most = makers.len();
-    if n <= most { n } else { most }
-}
-
-fn clamp(x: u32, most: usize) -> usize
-    ensures { λ r. ⌜ Counted x most r ⌝ }
-{
-    let n = x as usize;
-    if n <= most { n } else { most }
+    let keys = count_in_u32(registry[DEFINED], MOST_DEFINED);
+    at_most(keys, makers.len())
 }
 
 // U, new user.

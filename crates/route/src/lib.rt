@@ -11,11 +11,11 @@ use model::arrays::Locks;
 use model::arrays::Registry;
 use model::arrays::Segments;
 use model::arrays::Threads;
+use model::bounds::MOST_THREADS;
 use model::operations::Operations;
 use model::operations::is_access;
 use model::operations::is_taken;
 use threads::frames::push;
-use threads::place::PLACES;
 use threads::place::find;
 
 // C, call.
@@ -34,7 +34,7 @@ pub fn call_segment(
         (threadsAre (now (threads .exit))) ⌝ }
 {
     let place = find(threads, number);
-    if PLACES <= place {
+    if MOST_THREADS <= place {
         return Answer::Refused(Refusal::NoThread);
     }
     let s = segment as usize;
@@ -72,7 +72,7 @@ pub fn access(
         unchanged ⌝ }
 {
     let place = find(threads, number);
-    if PLACES <= place {
+    if MOST_THREADS <= place {
         return Answer::Refused(Refusal::NoThread);
     }
     let s = segment as usize;

@@ -14,15 +14,11 @@ use model::arrays::OWNER;
 use model::arrays::Registry;
 use model::arrays::SEGMENTS;
 use model::arrays::Segments;
+use model::bounds::MOST_DEFINED;
+use model::bounds::MOST_LISTED;
+use model::bounds::MOST_SEGMENTS;
 use registry::defined;
 use registry::is_user;
-
-const MOST_SEGMENTS: u32 = 64;
-
-const MOST_DEFINED: usize = 1024;
-
-// Keys in a list, the segment's own among them.
-const MOST_LISTED: usize = 8;
 
 // The greatest kind: 0 is code, 1 a sheet.
 const SHEET: u16 = 1;
@@ -66,7 +62,7 @@ pub fn new_segment(
         return Answer::Refused(Refusal::Unfit);
     }
     let segment = registry[SEGMENTS];
-    if MOST_SEGMENTS <= segment {
+    if MOST_SEGMENTS as u32 <= segment {
         return Answer::Refused(Refusal::Full);
     }
     let s = segment as usize;

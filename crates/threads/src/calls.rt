@@ -3,7 +3,6 @@ ghost use Rattle.call.specs.declared.request.Request.the-variants.{StartThread,
 ghost use Rattle.model.specs.Cells.{registryIs, threadsAre, _and_};
 ghost use Rattle.model.specs.Serving.{ServesLent};
 use crate::frames::depth;
-use crate::place::PLACES;
 use crate::place::find;
 use crate::place::find_free;
 use model::answer::Answer;
@@ -13,10 +12,9 @@ use model::arrays::LIVE;
 use model::arrays::Registry;
 use model::arrays::THREADS;
 use model::arrays::Threads;
+use model::bounds::MOST_NUMBERS;
+use model::bounds::MOST_THREADS;
 use registry::is_user;
-
-// Document 01: 65,536 run numbers are handed out.
-const MOST_NUMBERS: u32 = 65536;
 
 // S, start thread (document 01: run).
 pub fn start_thread(registry: &mut Registry, threads: &mut Threads, user: u16) -> Answer
@@ -33,12 +31,12 @@ pub fn start_thread(registry: &mut Registry, threads: &mut Threads, user: u16) -
         return Answer::Refused(Refusal::Full);
     }
     let number = numbers as u16;
-    let place = find_free(threads, number);
-    if PLACES <= place {
+    let free = find_free(threads, number);
+    if MOST_THREADS <= free {
         return Answer::Refused(Refusal::Full);
     }
     registry[THREADS] = numbers + 1;
-    threads[place][0] = [number, user, 0, 1, 0, 0, 0, 0];
+    threads[free][0] = [number, user, 0, 1, 0, 0, 0, 0];
     Answer::Accepted(number)
 }
 
@@ -50,7 +48,7 @@ pub fn end_thread(threads: &mut Threads, number: u16) -> Answer
         (threadsAre (now (threads .exit))) ⌝ }
 {
     let place = find(threads, number);
-    if PLACES <= place {
+    if MOST_THREADS <= place {
         return Answer::Refused(Refusal::NoThread);
     }
     let frames = depth(&threads[place]);
@@ -66,7 +64,7 @@ pub fn return_call(threads: &mut Threads, number: u16) -> Answer
         (threadsAre (now (threads .exit))) ⌝ }
 {
     let place = find(threads, number);
-    if PLACES <= place {
+    if MOST_THREADS <= place {
         return Answer::Refused(Refusal::NoThread);
     }
     let frames = depth(&threads[place]);

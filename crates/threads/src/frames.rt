@@ -7,22 +7,17 @@ ghost use Rattle.model.specs.Limits.{mostFrames};
 ghost use Rattle.model.specs.Cells.{cell, rowAt, frameCount, depthOf};
 ghost use Rattle.model.specs.Stores.{pushRow};
 ghost use Rattle.base.specs.Counts.{Counted};
+use base::cells::count_in_u16;
 use model::arrays::FRAMES;
 use model::arrays::Row;
 use model::arrays::Thread;
-
-const MOST_FRAMES: u16 = 16;
+use model::bounds::MOST_FRAMES;
 
 // How many frames the thread has.
 pub fn depth(thread: &Thread) -> usize
     ensures { λ r. ⌜ Counted (cell (rowAt (now (thread .entry)) 0) frameCount) mostFrames r ⌝ }
 {
-    let frames = thread[0][FRAMES];
-    if frames <= MOST_FRAMES {
-        frames as usize
-    } else {
-        MOST_FRAMES as usize
-    }
+    count_in_u16(thread[0][FRAMES], MOST_FRAMES)
 }
 
 // Document 01: a granted call hands the run the segment's key list as it then is. A new frame with that key list, the
@@ -34,7 +29,7 @@ pub fn push(thread: &mut Thread, list: &Row, segment: u16) -> bool
         (pushRow (set (now (list .entry)) 0 segment) (now (thread .entry))) (now (thread .entry)) ⌝ }
 {
     let frames = depth(thread);
-    if MOST_FRAMES as usize <= frames {
+    if MOST_FRAMES <= frames {
         return false;
     }
     let newest = frames + 1;

@@ -11,8 +11,6 @@ use model::arrays::NUMBER;
 use model::arrays::Thread;
 use model::arrays::Threads;
 
-pub const PLACES: usize = 64;
-
 // The place of the live thread with that number, 64 for none.
 pub fn find(threads: &Threads, number: u16) -> usize
     ensures { λ r. ⌜ Placed (now (threads .entry)) number (isThread number) r ⌝ }

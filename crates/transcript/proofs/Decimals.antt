@@ -1,22 +1,14 @@
--- A decimal number is that of its tenth part and the last digit; one of 16 bits has at most five digits.
+-- How many digits a decimal number has; one of 16 bits has at most five.
 use mathlib.Core.Path.{_≡_, refl, ap, _∙_}
 use mathlib.Core.Bool.{Bool, true, false}
-use mathlib.Core.List.{[], _∷_, _++_}
-use Prim.Native.Nat.{ℕ, suc, _+_, _*_, _/_, _%_, _≤_, _<_}
+use mathlib.Core.List.{[], _∷_}
+use Prim.Native.Nat.{ℕ, _+_, _*_, _/_, _%_, _≤_, _<_}
 use native.Mathlib.Omega.{arith}
 use lib.Dec.{ltb}
 use lib.ListN.{length, length-append}
-use borrow.Author.Tests.{ltb-true, ltb-false, lt-ltb, le-ltb}
-use Rattle.formula.specs.Spelling.{digits, decimal}
-use Rattle.formula.proofs.Decimals.{digits-fuel}
-
-pub decimal-one : (n : ℕ) → n < 10 → decimal n ≡ (48 + n) ∷ []
-unfolding decimal digits
-decimal-one n h = rw (lt-ltb n 10 h)
-
-pub decimal-more : (n : ℕ) → 10 ≤ n → decimal n ≡ decimal (n / 10) ++ (48 + n % 10) ∷ []
-unfolding decimal digits
-decimal-more n h = rw (le-ltb n 10 h, digits-fuel n (suc (n / 10)) (n / 10) (omega arith) (omega arith))
+use borrow.Author.Tests.{ltb-true, ltb-false}
+use Rattle.formula.specs.Spelling.{decimal}
+use Rattle.formula.proofs.Decimals.{decimal-one, decimal-more}
 
 pub decimal-grows : (n : ℕ) → 10 ≤ n → length (decimal n) ≡ length (decimal (n / 10)) + 1
 decimal-grows n h = ap length (decimal-more n h) ∙ length-append (decimal (n / 10)) ((48 + n % 10) ∷ [])

@@ -8,7 +8,7 @@ use lib.Seq.{sets, length-sets, take-all}
 use Rattle.formula.specs.Spelling.{decimal}
 use Rattle.journal.proofs.StoredBytes.{sets-append}
 use Rattle.transcript.specs.Internal.{Put}
-use Rattle.transcript.proofs.Decimals.{decimal-one, decimal-more}
+use Rattle.formula.proofs.Decimals.{decimal-one, decimal-more}
 
 pub put-then : {d e f xs ys : List ℕ} {i j k : ℕ} → Put d i xs e j → Put e j ys f k → Put d i (xs ++ ys) f k
 put-then {d} {e} {f} {xs} {ys} {i} {j} {k} p q =

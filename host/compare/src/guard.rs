@@ -1,8 +1,39 @@
 //! The proved guard as numbers: its arrays, and its answers as they are.
 
 use reference::guard::Answer;
+use reference::journal::Record;
+use reference::letter::Letter;
 use rotundaaloe::raw;
 pub use rotundaaloe::raw::Cells;
+
+/// A call that has a function of its own beside the entry.
+#[derive(Clone, Copy)]
+pub enum Own {
+    CallSegment,
+    ReturnCall,
+    Access,
+}
+
+impl Own {
+    /// That of a letter, if it has one.
+    pub fn of(letter: Letter) -> Option<Own> {
+        match letter {
+            Letter::CallSegment => Some(Own::CallSegment),
+            Letter::ReturnCall => Some(Own::ReturnCall),
+            Letter::Access => Some(Own::Access),
+            Letter::NewUser | Letter::NewSegment | Letter::NewKey => None,
+            Letter::StartThread | Letter::EndThread => None,
+            Letter::GiveKey | Letter::TakeKey => None,
+            Letter::AddLock | Letter::DropLock => None,
+        }
+    }
+
+    /// That of a call, if its letter has one and its shape is right.
+    pub fn of_call(record: &Record) -> Option<Own> {
+        let fields = [record.a, record.b, record.c];
+        Own::of(Letter::of_call(record.letter, fields, &record.text)?)
+    }
+}
 
 /// Every cell with the same bytes.
 pub fn filled_with(byte: u8) -> Box<Cells> {
@@ -59,6 +90,15 @@ impl Guard {
     #[inline]
     pub fn call(&mut self, letter: u8, a: u16, b: u16, c: u16, text: &[u8]) -> u32 {
         raw::call(&mut self.cells, letter, a, b, c, text)
+    }
+
+    /// A call by its own function.
+    pub fn call_own(&mut self, own: Own, a: u16, b: u16, c: u16) -> u32 {
+        match own {
+            Own::CallSegment => self.call_segment(a, b),
+            Own::ReturnCall => self.return_call(a),
+            Own::Access => self.access(a, b, c),
+        }
     }
 
     /// C without the entry.

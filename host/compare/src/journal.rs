@@ -1,6 +1,7 @@
 //! The proved guard's journals as numbers: its answers, and the values that a
 //! step of the reference is written as.
 
+use reference::calls::call;
 use reference::journal::{Record, Step};
 
 pub use rotundaaloe::raw::Values;
@@ -21,6 +22,14 @@ pub const CORRUPT: u32 = 18;
 pub fn append(buffer: &mut [u8], size: &mut usize, record: &Record) -> u32 {
     let fields = [record.a, record.b, record.c];
     rotundaaloe::raw::journal_append(buffer, size, record.letter, fields, &record.text)
+}
+
+/// A record with a text of this length, and 0 in every field.
+pub fn bare(letter: impl Into<u8>, text_length: usize) -> Record {
+    Record {
+        text: vec![b'!'; text_length],
+        ..call(letter, 0, 0, 0)
+    }
 }
 
 /// The answer, the cursor and the values for a step of the reference, where the

@@ -14,10 +14,12 @@
 
 mod journals;
 
-use compare::journal::{ACCEPTED, CORRUPT, END, RECORD, Values, coded};
-use journals::{HEAD_BYTES, LETTERS, MAX_FILE_BYTES, bare, field_mut, names};
+use compare::journal::{ACCEPTED, CORRUPT, END, RECORD, Values, bare, coded};
+use journals::{HEAD_BYTES, MAX_FILE_BYTES, field_mut, names};
 use reference::journal::{Record, Refusal, append, check, empty, read, record_at, write};
+use reference::letter::Letter;
 use reference::random::Random;
+use reference::written::{self, EVERY_LETTER, OFFICE, hex};
 use rotundaaloe::Journal;
 use rotundaaloe::journal::Records;
 use std::collections::HashSet;
@@ -506,11 +508,11 @@ fn near_the_longest(comparison: &mut Comparison) {
 /// Every letter with texts of every length to 300, and with lengths whose text
 /// isn't there.
 fn text_lengths(comparison: &mut Comparison) {
-    for letter in LETTERS {
+    for letter in Letter::ALL {
         for length in 0..=300 {
-            let right = match letter {
-                b'L' => (1..=96).contains(&length),
-                _ => length == 0,
+            let right = match letter.has_text() {
+                true => (1..=96).contains(&length),
+                false => length == 0,
             };
             let answer = if right { ACCEPTED } else { CORRUPT };
             let wrong = bare(letter, length);
@@ -522,7 +524,7 @@ fn text_lengths(comparison: &mut Comparison) {
             file[14..16].copy_from_slice(&u16::to_le_bytes(length));
             comparison.file_with(&file, CORRUPT);
             file.push(b'!');
-            let right = letter == b'L' && length == 1;
+            let right = letter.has_text() && length == 1;
             comparison.file_with(&file, if right { ACCEPTED } else { CORRUPT });
         }
     }
@@ -530,8 +532,8 @@ fn text_lengths(comparison: &mut Comparison) {
 
 /// Every letter with every bit of every field, alone and in a file.
 fn fields(comparison: &mut Comparison) {
-    for letter in LETTERS {
-        let text_length = usize::from(letter == b'L');
+    for letter in Letter::ALL {
+        let text_length = usize::from(letter.has_text());
         for field in 0..3 {
             let answer = match names(letter, field) {
                 true => ACCEPTED,
@@ -558,9 +560,10 @@ fn letters(comparison: &mut Comparison) {
                 for field in (0..3).filter(|field| filled >> field & 1 == 1) {
                     *field_mut(&mut record, field) = 2;
                 }
-                let right = LETTERS.contains(&letter)
-                    && (text_length > 0) == (letter == b'L')
-                    && (0..3).all(|field| filled >> field & 1 == 0 || names(letter, field));
+                let right = Letter::of(letter).is_some_and(|letter| {
+                    (text_length > 0) == letter.has_text()
+                        && (0..3).all(|field| filled >> field & 1 == 0 || names(letter, field))
+                });
                 for place in 0..3 {
                     let mut records = vec![bare(b'L', 2), bare(b'U', 0)];
                     records.insert(place, record.clone());
@@ -775,87 +778,17 @@ fn rebuilding() {
     assert!(appended > 200_000);
 }
 
-/// The bytes that a text of hexadecimal numbers names.
-fn hex(text: &str) -> Vec<u8> {
-    text.split_whitespace()
-        .map(|byte| u8::from_str_radix(byte, 16).expect("two hexadecimal digits"))
-        .collect()
-}
-
-/// A record and its bytes, both by hand.
-type Written = (u8, [u16; 3], &'static str, &'static str);
-
-/// The records of document 01's first worked example.
-const OFFICE: [Written; 16] = [
-    (b'U', [0, 0, 0], "", "55 00 00 00 00 00 00 00 00"),
-    (b'N', [0, 0, 0], "", "4E 00 00 00 00 00 00 00 00"),
-    (b'N', [0, 0, 0], "", "4E 00 00 00 00 00 00 00 00"),
-    (b'N', [0, 1, 0], "", "4E 00 00 01 00 00 00 00 00"),
-    (b'L', [0, 0, 1], "U0", "4C 00 00 00 00 01 00 02 00 55 30"),
-    (b'L', [0, 1, 1], "U0", "4C 00 00 01 00 01 00 02 00 55 30"),
-    (
-        b'L',
-        [0, 2, 4],
-        "S0&S1",
-        "4C 00 00 02 00 04 00 05 00 53 30 26 53 31",
-    ),
-    (b'S', [0, 0, 0], "", "53 00 00 00 00 00 00 00 00"),
-    (b'S', [0, 0, 0], "", "53 00 00 00 00 00 00 00 00"),
-    (b'C', [0, 0, 0], "", "43 00 00 00 00 00 00 00 00"),
-    (b'C', [0, 1, 0], "", "43 00 00 01 00 00 00 00 00"),
-    (b'C', [1, 1, 0], "", "43 01 00 01 00 00 00 00 00"),
-    (b'A', [0, 2, 4], "", "41 00 00 02 00 04 00 00 00"),
-    (b'A', [1, 2, 4], "", "41 01 00 02 00 04 00 00 00"),
-    (b'R', [0, 0, 0], "", "52 00 00 00 00 00 00 00 00"),
-    (b'A', [0, 2, 4], "", "41 00 00 02 00 04 00 00 00"),
-];
-
-/// Every letter, with something in each field that its call names.
-const EVERY_LETTER: [Written; 12] = [
-    (b'U', [0, 0, 0], "", "55 00 00 00 00 00 00 00 00"),
-    (b'S', [258, 0, 0], "", "53 02 01 00 00 00 00 00 00"),
-    (b'E', [772, 0, 0], "", "45 04 03 00 00 00 00 00 00"),
-    (b'N', [1_286, 1_800, 0], "", "4E 06 05 08 07 00 00 00 00"),
-    (b'K', [65_535, 0, 0], "", "4B FF FF 00 00 00 00 00 00"),
-    (b'G', [513, 1_027, 1_541], "", "47 01 02 03 04 05 06 00 00"),
-    (b'T', [256, 512, 768], "", "54 00 01 00 02 00 03 00 00"),
-    (b'L', [255, 254, 253], "!", "4C FF 00 FE 00 FD 00 01 00 21"),
-    (b'D', [32_768, 32_767, 0], "", "44 00 80 FF 7F 00 00 00 00"),
-    (b'C', [8_208, 16_432, 0], "", "43 10 20 30 40 00 00 00 00"),
-    (b'R', [1, 0, 0], "", "52 01 00 00 00 00 00 00 00"),
-    (b'A', [1, 2, 3], "", "41 01 00 02 00 03 00 00 00"),
-];
-
-fn written_record(written: &Written) -> Record {
-    let (letter, [a, b, c], text, _) = *written;
-    Record {
-        letter,
-        a,
-        b,
-        c,
-        text: text.as_bytes().to_vec(),
-    }
-}
-
-/// The bytes of a file of these records, by the hand-written ones. Only the
-/// count, below 256, is put in.
-fn written_file(written: &[Written]) -> Vec<u8> {
-    let mut file = hex("4B 4C 44 01 00");
-    file.extend([written.len() as u8, 0]);
-    file.extend(written.iter().flat_map(|(.., bytes)| hex(bytes)));
-    file
-}
-
 /// The proved guard alone against bytes by hand: it reads the file, and each
 /// append leaves what is written here.
 #[test]
 fn files_by_hand() {
-    assert_eq!(written_file(&[]), hex("4B 4C 44 01 00 00 00"));
-    assert_eq!(written_file(&OFFICE).len(), 160);
-    assert_eq!(written_file(&EVERY_LETTER).len(), 7 + 12 * 9 + 1);
+    assert_eq!(written::file(&[]), hex("4B 4C 44 01 00 00 00"));
+    assert_eq!(written::file(&OFFICE).len(), 160);
+    let letters = EVERY_LETTER.map(|(letter, ..)| letter);
+    assert_eq!(letters, Letter::ALL.map(Letter::byte));
     for all in [&OFFICE[..], &EVERY_LETTER] {
-        let file = written_file(all);
-        let records: Vec<Record> = all.iter().map(written_record).collect();
+        let file = written::file(all);
+        let records: Vec<Record> = all.iter().map(written::record).collect();
         assert_eq!(agreed_open(&file), ACCEPTED);
         assert_eq!(agreed_walk(&file), (records.clone(), END));
         let mut buffer = Buffer::with(&[], 200);
@@ -863,7 +796,7 @@ fn files_by_hand() {
         let mut length = 7;
         for (place, record) in records.iter().enumerate() {
             let answer = compare::journal::append(buffer.lent(), &mut length, record);
-            let now = written_file(&all[..=place]);
+            let now = written::file(&all[..=place]);
             assert_eq!((answer, length), (ACCEPTED, now.len()));
             assert!(buffer == Buffer::with(&now, 200), "after record {place}");
         }
@@ -904,7 +837,7 @@ fn any_bytes_at_any_cursor() {
         for byte in &mut bytes {
             *byte = match random.below(16) {
                 0 => random.bits() as u8,
-                1 | 2 => random.pick(&LETTERS),
+                1 | 2 => random.pick(&Letter::ALL).byte(),
                 3 => random.below(97) as u8,
                 _ => 0,
             };

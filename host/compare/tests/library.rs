@@ -2,8 +2,9 @@
 //! typed functions, journals, and the products of formula texts.
 
 use compare::texts;
-use reference::calls::{Caller, WORLDS};
+use reference::calls::{Caller, WORLDS, outcomes};
 use reference::journal::{Record, write};
+use reference::letter::Letter;
 use reference::random::Random;
 use reference::{Key as ReferenceKey, Kind as ReferenceKind};
 use rotundaaloe::formula::{Issued, Key, Literal, compile};
@@ -43,32 +44,43 @@ fn typed(guard: &mut Guard, record: &Record) -> Result<u16, (u32, u16)> {
     let Record {
         letter, a, b, c, ..
     } = *record;
-    match (letter, b, c, &record.text[..]) {
-        (b'U', 0, 0, b"") if a == 0 => numbers(guard.new_user(), |User(n)| n),
-        (b'S', 0, 0, b"") => numbers(guard.start_thread(User(a)), |Thread(n)| n),
-        (b'E', 0, 0, b"") => numbers(guard.end_thread(Thread(a)), |n| n),
-        (b'N', 0, 0, b"") => numbers(guard.new_segment(User(a), Kind::Code), |Segment(n)| n),
-        (b'N', 1, 0, b"") => numbers(guard.new_segment(User(a), Kind::Sheet), |Segment(n)| n),
-        (b'K', 0, 0, b"") => numbers(guard.new_key(User(a)), |Defined(n)| n),
-        (b'G', _, _, b"") => numbers(guard.give_key(User(a), Segment(b), Defined(c)), |n| n),
-        (b'T', _, _, b"") => numbers(guard.take_key(User(a), Segment(b), Defined(c)), |n| n),
-        (b'L', _, _, text) if text.is_ascii() => {
-            let text = str::from_utf8(text).expect("ASCII");
-            let lock = guard.add_lock(User(a), Segment(b), Operations(c), text);
-            numbers(lock, |Lock(n)| n)
+    let by_letter = |guard: &mut Guard| numbers(guard.call(&lent(record)), |n| n);
+    let Some(letter) = Letter::of_call(letter, [a, b, c], &record.text) else {
+        return by_letter(guard);
+    };
+    match letter {
+        Letter::NewUser => numbers(guard.new_user(), |User(n)| n),
+        Letter::StartThread => numbers(guard.start_thread(User(a)), |Thread(n)| n),
+        Letter::EndThread => numbers(guard.end_thread(Thread(a)), |n| n),
+        Letter::NewSegment => {
+            let kind = match b {
+                0 => Kind::Code,
+                1 => Kind::Sheet,
+                _ => return by_letter(guard),
+            };
+            numbers(guard.new_segment(User(a), kind), |Segment(n)| n)
         }
-        (b'D', _, 0, b"") => numbers(guard.drop_lock(User(a), Lock(b)), |n| n),
-        (b'C', _, 0, b"") => numbers(guard.call_segment(Thread(a), Segment(b)), |Lock(n)| n),
-        (b'R', 0, 0, b"") => numbers(guard.return_call(Thread(a)), |Segment(n)| n),
-        (b'A', _, 2, b"") => {
-            let answer = guard.access(Thread(a), Segment(b), Access::Read);
-            numbers(answer, |Lock(n)| n)
+        Letter::NewKey => numbers(guard.new_key(User(a)), |Defined(n)| n),
+        Letter::GiveKey => numbers(guard.give_key(User(a), Segment(b), Defined(c)), |n| n),
+        Letter::TakeKey => numbers(guard.take_key(User(a), Segment(b), Defined(c)), |n| n),
+        Letter::AddLock => match str::from_utf8(&record.text) {
+            Ok(text) => {
+                let lock = guard.add_lock(User(a), Segment(b), Operations(c), text);
+                numbers(lock, |Lock(n)| n)
+            }
+            Err(_) => by_letter(guard),
+        },
+        Letter::DropLock => numbers(guard.drop_lock(User(a), Lock(b)), |n| n),
+        Letter::CallSegment => numbers(guard.call_segment(Thread(a), Segment(b)), |Lock(n)| n),
+        Letter::ReturnCall => numbers(guard.return_call(Thread(a)), |Segment(n)| n),
+        Letter::Access => {
+            let access = match c {
+                2 => Access::Read,
+                4 => Access::Write,
+                _ => return by_letter(guard),
+            };
+            numbers(guard.access(Thread(a), Segment(b), access), |Lock(n)| n)
         }
-        (b'A', _, 4, b"") => {
-            let answer = guard.access(Thread(a), Segment(b), Access::Write);
-            numbers(answer, |Lock(n)| n)
-        }
-        _ => numbers(guard.call(&lent(record)), |n| n),
     }
 }
 
@@ -98,10 +110,12 @@ fn calls_by_their_types() {
             }
         }
     }
-    for letter in reference::calls::LETTERS {
-        for outcome in reference::calls::outcomes(letter) {
-            let came = seen.contains(&(letter, *outcome));
-            assert!(came, "{} never came to {outcome}", char::from(letter));
+    for letter in Letter::ALL {
+        let possible = outcomes(letter.byte());
+        assert!(possible.len() > 1 && possible[0] == 0, "{letter:?}");
+        for outcome in possible {
+            let came = seen.contains(&(letter.byte(), *outcome));
+            assert!(came, "{letter:?} never came to {outcome}");
         }
     }
 }
@@ -177,12 +191,6 @@ fn key(key: ReferenceKey) -> Key {
 
 #[test]
 fn products_and_what_opens_them() {
-    let all = reference::Issued {
-        users: 65_536,
-        threads: 65_536,
-        segments: 65_536,
-        defined: 65_536,
-    };
     let issued = Issued {
         users: 65_536,
         threads: 65_536,
@@ -193,7 +201,7 @@ fn products_and_what_opens_them() {
     let (mut opened, mut shut) = (0, 0);
     for name in texts::texts() {
         let text = name.as_bytes();
-        let expected = reference::formula::compile(text, &all);
+        let expected = reference::formula::compile(text, &reference::Issued::ALL);
         let given = compile(text, issued);
         let (Ok(expected), Ok(given)) = (&expected, &given) else {
             let expected = expected.err().map(|refusal| refusal.number());

@@ -31,7 +31,7 @@ pub fn main(arguments: impl Iterator<Item = OsString>) -> ExitCode {
 
 fn obey(command: Command) -> Result<Status, Failure> {
     match command {
-        Command::Help(topic) => show(help::text(topic)),
+        Command::Help(topic) => show(&help::text(topic)),
         Command::Version => show(concat!("keylock ", env!("CARGO_PKG_VERSION"), "\n")),
         Command::Asm { source, target } => {
             target.must_differ_from(&source)?;

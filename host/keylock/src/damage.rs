@@ -3,7 +3,7 @@
 //! the reference's reader, since the proved one has none for it.
 
 use crate::figures::{counted, grouped};
-use crate::letters;
+use crate::letters::Letter;
 use reference::journal::{Step, record_at};
 use rotundaaloe::Refusal;
 use rotundaaloe::journal::{HEAD_BYTES, MARK, MAX_BYTES, MAX_TEXT_BYTES};
@@ -133,16 +133,16 @@ fn left_over(bytes: &[u8], cursor: usize, count: usize) -> Finding {
 /// Why no whole record stands at the start of these bytes, and at which of them.
 fn unfit(record: &[u8]) -> (usize, String) {
     let length = record.len();
-    let letter = record.first().copied().unwrap_or(0);
-    let Some(named) = letters::fields(letter) else {
-        return (0, format!("{} is no call's letter", byte_shown(letter)));
+    let byte = record.first().copied().unwrap_or(0);
+    let Some(letter) = Letter::of(byte) else {
+        return (0, format!("{} is no call's letter", byte_shown(byte)));
     };
-    let name = char::from(letter);
+    let name = letter.char();
     if length < RECORD_HEAD_BYTES {
         let sentence = format!("cut short: {length} of {RECORD_HEAD_BYTES} bytes before the text");
         return (length, sentence);
     }
-    for (place, field) in "abc".chars().enumerate().skip(named.len()) {
+    for (place, field) in "abc".chars().enumerate().skip(letter.fields().len()) {
         let at = 1 + 2 * place;
         let value = number_at(record, at);
         if value != 0 {
@@ -151,17 +151,17 @@ fn unfit(record: &[u8]) -> (usize, String) {
     }
     let text = number_at(record, RECORD_HEAD_BYTES - 2);
     let there = length - RECORD_HEAD_BYTES;
-    let wrong = match letter {
-        b'L' if !(1..=MAX_TEXT_BYTES).contains(&text) => {
-            format!("the text's length is {text}, but L's is 1 to {MAX_TEXT_BYTES}")
+    let wrong = match letter.has_text() {
+        true if !(1..=MAX_TEXT_BYTES).contains(&text) => {
+            format!("the text's length is {text}, but {name}'s is 1 to {MAX_TEXT_BYTES}")
         }
-        b'L' => {
+        true => {
             return (
                 length,
                 format!("cut short: {there} of the text's {text} bytes"),
             );
         }
-        _ => format!("the text's length is {text}, but {name} has no text"),
+        false => format!("the text's length is {text}, but {name} has no text"),
     };
     (RECORD_HEAD_BYTES - 2, wrong)
 }

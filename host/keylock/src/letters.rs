@@ -1,52 +1,74 @@
-//! The twelve calls' letters and the fields that each names (document 01's
-//! table of calls).
+//! The calls' letters and fields in words, for messages and for the help. Which
+//! fields a letter names is the reference's table.
 
-/// A field that a letter names.
-pub struct Field {
+pub use reference::letter::{Field, Letter};
+
+/// A field in words.
+pub struct FieldWords {
     /// With its article.
     pub name: &'static str,
+    /// As the help writes it.
+    pub placeholder: &'static str,
     /// The values that mean something, where they are few.
     pub values: &'static str,
 }
 
-const fn field(name: &'static str) -> Field {
-    Field { name, values: "" }
+pub fn field(field: Field) -> FieldWords {
+    let words = |name, placeholder| FieldWords {
+        name,
+        placeholder,
+        values: "",
+    };
+    match field {
+        Field::User => words("a user", "USER"),
+        Field::Thread => words("a thread", "THREAD"),
+        Field::Segment => words("a segment", "SEGMENT"),
+        Field::Key => words("a key", "KEY"),
+        Field::Lock => words("a lock", "LOCK"),
+        Field::Kind => FieldWords {
+            values: "0 code or 1 sheet",
+            ..words("a kind", "KIND")
+        },
+        Field::Operations => FieldWords {
+            values: "1 execute, 2 read, 4 write, their sum, and 8 more to deny",
+            ..words("operations", "OPS")
+        },
+        Field::Operation => FieldWords {
+            values: "2 read or 4 write",
+            ..words("an operation", "OP")
+        },
+    }
 }
 
-const USER: Field = field("a user");
-const THREAD: Field = field("a thread");
-const SEGMENT: Field = field("a segment");
-const KEY: Field = field("a key");
-const LOCK: Field = field("a lock");
-const KIND: Field = Field {
-    name: "a kind",
-    values: "0 code or 1 sheet",
-};
-const OPERATIONS: Field = Field {
-    name: "operations",
-    values: "1 execute, 2 read, 4 write, their sum, and 8 more to deny",
-};
-const OPERATION: Field = Field {
-    name: "an operation",
-    values: "2 read or 4 write",
-};
+/// What a letter's call does, as the help says it.
+fn summary(letter: Letter) -> &'static str {
+    match letter {
+        Letter::NewUser => "a new user",
+        Letter::StartThread => "start a thread",
+        Letter::EndThread => "end it",
+        Letter::NewSegment => "a new segment: 0 code, 1 sheet",
+        Letter::NewKey => "a new key",
+        Letter::GiveKey => "give the key to the segment",
+        Letter::TakeKey => "take it",
+        Letter::AddLock => "lock: 1 execute, 2 read, 4 write, and 8 to deny",
+        Letter::DropLock => "drop the lock",
+        Letter::CallSegment => "call",
+        Letter::ReturnCall => "return",
+        Letter::Access => "access: 2 read, 4 write",
+    }
+}
 
-/// The letters in document 01's order.
-pub const LETTERS: [u8; 12] = *b"USENKGTLDCRA";
-
-/// The fields that the letter's call names, from a on. `None` where no call has
-/// the letter.
-pub fn fields(letter: u8) -> Option<&'static [Field]> {
-    Some(match letter {
-        b'U' => &[],
-        b'S' | b'K' => &[USER],
-        b'E' | b'R' => &[THREAD],
-        b'N' => &[USER, KIND],
-        b'G' | b'T' => &[USER, SEGMENT, KEY],
-        b'L' => &[USER, SEGMENT, OPERATIONS],
-        b'D' => &[USER, LOCK],
-        b'C' => &[THREAD, SEGMENT],
-        b'A' => &[THREAD, SEGMENT, OPERATION],
-        _ => return None,
-    })
+/// A line of the help for each letter: `S USER`, and what it does.
+pub fn table() -> String {
+    let line = |letter: Letter| {
+        let mut call = letter.char().to_string();
+        for named in letter.fields() {
+            call = call + " " + field(*named).placeholder;
+        }
+        if letter.has_text() {
+            call += " FORMULA";
+        }
+        format!("  {call:26}  {}\n", summary(letter))
+    };
+    Letter::ALL.into_iter().map(line).collect()
 }

@@ -8,7 +8,7 @@
 pub mod answer;
 pub mod damage;
 pub mod figures;
-mod letters;
+pub mod letters;
 pub mod page;
 pub mod progress;
 pub mod shown;

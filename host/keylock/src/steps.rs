@@ -19,6 +19,7 @@ use kept::Kept;
 use reference::history::History;
 use rotundaaloe::formula::{Issued, Key};
 use rotundaaloe::{Defined, Guard, Record, Refusal, User};
+use view::Concern;
 
 /// A call, with what its author wrote beside it.
 #[derive(Clone, Debug)]
@@ -177,17 +178,21 @@ impl Teller {
         };
         let disagreement = check::disagreement(state, &record, answer, judgement.as_ref());
         let names = state.kept.names_in(&record);
-        let change = view::change(state, &record, answer);
-        let number = view::segment_number(state, &record, answer);
+        let concern = view::concern(state, &record, answer);
         self.take_in(&entry, answer);
+        let (thread, segment) = match concern {
+            Concern::Nothing => (None, None),
+            Concern::Thread(number, change) => (view::thread(&self.state, number, change), None),
+            Concern::Segment(number) => (None, view::segment(&self.state, number)),
+        };
         Step {
             place,
             answer,
             reason,
             names,
             judgement,
-            thread: view::thread(&self.state, &record, answer, change),
-            segment: number.and_then(|number| view::segment(&self.state, number)),
+            thread,
+            segment,
             disagreement,
             entry,
         }

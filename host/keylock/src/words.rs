@@ -1,32 +1,35 @@
 //! Calls and answers in words.
 
+use crate::letters::Letter;
 use rotundaaloe::{Record, Refusal};
 
 /// What a call asks for: `thread 0 writes segment 2`.
 pub fn call(record: &Record) -> String {
     let Record { a, b, c, .. } = *record;
-    match record.letter {
-        b'U' => "a new user".to_string(),
-        b'S' => format!("user {a} starts a thread"),
-        b'E' => format!("thread {a} ends"),
-        b'N' => match b {
+    let Some(letter) = Letter::of(record.letter) else {
+        return format!("no call has the letter {}", record.letter.escape_ascii());
+    };
+    match letter {
+        Letter::NewUser => "a new user".to_string(),
+        Letter::StartThread => format!("user {a} starts a thread"),
+        Letter::EndThread => format!("thread {a} ends"),
+        Letter::NewSegment => match b {
             0 => format!("user {a} makes a code segment"),
             1 => format!("user {a} makes a sheet"),
             kind => format!("user {a} makes a segment of kind {kind}"),
         },
-        b'K' => format!("user {a} makes a key"),
-        b'G' => format!("user {a} gives key D{c} to segment {b}"),
-        b'T' => format!("user {a} takes key D{c} from segment {b}"),
-        b'L' => format!("user {a} locks segment {b}: {}", operations(c)),
-        b'D' => format!("user {a} drops lock {b}"),
-        b'C' => format!("thread {a} calls segment {b}"),
-        b'R' => format!("thread {a} returns"),
-        b'A' => match c {
+        Letter::NewKey => format!("user {a} makes a key"),
+        Letter::GiveKey => format!("user {a} gives key D{c} to segment {b}"),
+        Letter::TakeKey => format!("user {a} takes key D{c} from segment {b}"),
+        Letter::AddLock => format!("user {a} locks segment {b}: {}", operations(c)),
+        Letter::DropLock => format!("user {a} drops lock {b}"),
+        Letter::CallSegment => format!("thread {a} calls segment {b}"),
+        Letter::ReturnCall => format!("thread {a} returns"),
+        Letter::Access => match c {
             2 => format!("thread {a} reads segment {b}"),
             4 => format!("thread {a} writes segment {b}"),
             operation => format!("thread {a} does operation {operation} on segment {b}"),
         },
-        letter => format!("no call has the letter {}", letter.escape_ascii()),
     }
 }
 
@@ -54,17 +57,20 @@ pub fn answer(letter: u8, answer: Result<u16, Refusal>) -> String {
         1 => format!("1 {one}"),
         _ => format!("{number} {more}"),
     };
+    let Some(letter) = Letter::of(letter) else {
+        return number.to_string();
+    };
     match letter {
-        b'U' => format!("user {number}"),
-        b'S' => format!("thread {number}"),
-        b'E' => counted("open call closed", "open calls closed"),
-        b'N' => format!("segment {number}"),
-        b'K' => format!("key D{number}"),
-        b'G' | b'T' => counted("key in the list now", "keys in the list now"),
-        b'L' => format!("lock {number}"),
-        b'D' => counted("product removed", "products removed"),
-        b'R' => format!("segment {number} left"),
-        _ => format!("granted by lock {number}"),
+        Letter::NewUser => format!("user {number}"),
+        Letter::StartThread => format!("thread {number}"),
+        Letter::EndThread => counted("open call closed", "open calls closed"),
+        Letter::NewSegment => format!("segment {number}"),
+        Letter::NewKey => format!("key D{number}"),
+        Letter::GiveKey | Letter::TakeKey => counted("key in the list now", "keys in the list now"),
+        Letter::AddLock => format!("lock {number}"),
+        Letter::DropLock => counted("product removed", "products removed"),
+        Letter::ReturnCall => format!("segment {number} left"),
+        Letter::CallSegment | Letter::Access => format!("granted by lock {number}"),
     }
 }
 

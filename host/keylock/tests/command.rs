@@ -3,6 +3,7 @@
 mod commands;
 
 use commands::{Directory, OFFICE_LINES, Ran, TRIAL, keylock};
+use reference::letter::Letter;
 use std::ffi::OsStr;
 use std::fs::{self, File};
 use std::os::unix::ffi::OsStrExt;
@@ -344,7 +345,8 @@ fn the_help_is_right() {
     let text: String = help.lines().filter_map(call).collect();
     let printed = keylock(&["run"], text.as_bytes()).printed();
     let letters = printed.lines().filter_map(|line| line.split(' ').nth(1));
-    assert_eq!(letters.collect::<String>(), "USENKGTLDCRA");
+    let all = Letter::ALL.map(Letter::char);
+    assert_eq!(letters.collect::<String>(), all.iter().collect::<String>());
 }
 
 #[test]

@@ -8,9 +8,10 @@ use keylock::steps::{self, Change, Entry, Holder, Step, Tried, shown_keys};
 use keylock::trace;
 use lesson::{ROUTE, explained};
 use reference::calls::{Caller, WORLDS};
+use reference::letter::Letter;
 use reference::random::Random;
 use rotundaaloe::{Guard, Record};
-use std::collections::BTreeMap;
+use std::collections::{BTreeMap, BTreeSet};
 
 /// A step's lock with this number.
 fn lock<'a>(step: &'a Step, number: u16) -> &'a Tried {
@@ -361,11 +362,12 @@ fn the_terminal_shows_it() {
 }
 
 /// Every answer has an explanation that leads to it, and the locks decide in
-/// each of the four ways.
+/// each of the four ways. Every letter is accepted and refused.
 #[test]
 fn random_lists() {
     let mut random = Random::new(7);
     let mut judged = BTreeMap::new();
+    let mut seen = BTreeSet::new();
     for (world, lists) in WORLDS.iter().zip([200, 200, 20, 60, 60]) {
         for list in 0..lists {
             let records = random_list(&mut random, world);
@@ -374,11 +376,18 @@ fn random_lists() {
                 let place = step.place;
                 assert_eq!(step.disagreement, None, "{}: {list}, {place}", world.name);
                 assert_ne!(step.reason, "", "{}: {list}, {place}", world.name);
+                seen.insert((step.entry.record.letter, step.answer.is_ok()));
                 if step.judgement.is_some() {
                     let refusal = step.answer.err().map_or(0, |refusal| refusal.number());
                     *judged.entry(refusal).or_insert(0) += 1;
                 }
             }
+        }
+    }
+    for letter in Letter::ALL {
+        for accepted in [true, false] {
+            let came = seen.contains(&(letter.byte(), accepted));
+            assert!(came, "{letter:?}, accepted: {accepted}");
         }
     }
     assert!(judged.keys().eq(&[0, 10, 14, 15]), "{judged:?}");

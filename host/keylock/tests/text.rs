@@ -4,12 +4,18 @@
 use keylock::answer::Answer;
 use keylock::text::{self, Line, Text};
 use keylock::words;
-use reference::calls::{Caller, WORLDS};
+use reference::calls::{Caller, WORLDS, shaped};
 use reference::journal::{self, Record};
+use reference::letter::Letter;
 use reference::random::Random;
 use rotundaaloe::{Guard, Journal};
 
-const LETTERS: &str = "one of U S E N K G T L D C R A";
+/// The message for a word, as it is shown, that is no call's letter.
+fn no_letter(shown: &str) -> String {
+    let letters = Letter::ALL.map(|letter| letter.char().to_string());
+    let letters = letters.join(" ");
+    format!("{shown} is no call's letter: one of {letters}")
+}
 
 #[track_caller]
 fn read(text: &[u8]) -> Text {
@@ -48,18 +54,24 @@ fn wrong(line: impl AsRef<[u8]>, column: usize, message: &str) {
 
 #[test]
 fn every_letter_with_its_fields() {
-    assert_eq!(record(b"U"), (b'U', [0, 0, 0], vec![]));
-    assert_eq!(record(b"S 1"), (b'S', [1, 0, 0], vec![]));
-    assert_eq!(record(b"E 2"), (b'E', [2, 0, 0], vec![]));
-    assert_eq!(record(b"N 3 1"), (b'N', [3, 1, 0], vec![]));
-    assert_eq!(record(b"K 4"), (b'K', [4, 0, 0], vec![]));
-    assert_eq!(record(b"G 5 6 7"), (b'G', [5, 6, 7], vec![]));
-    assert_eq!(record(b"T 8 9 10"), (b'T', [8, 9, 10], vec![]));
-    assert_eq!(record(b"L 1 2 4 U0"), (b'L', [1, 2, 4], b"U0".to_vec()));
-    assert_eq!(record(b"D 11 12"), (b'D', [11, 12, 0], vec![]));
-    assert_eq!(record(b"C 13 14"), (b'C', [13, 14, 0], vec![]));
-    assert_eq!(record(b"R 65535"), (b'R', [65_535, 0, 0], vec![]));
-    assert_eq!(record(b"A 0 2 4"), (b'A', [0, 2, 4], vec![]));
+    let written: [(&str, [u16; 3], &[u8]); Letter::ALL.len()] = [
+        ("U", [0, 0, 0], b""),
+        ("S 1", [1, 0, 0], b""),
+        ("E 2", [2, 0, 0], b""),
+        ("N 3 1", [3, 1, 0], b""),
+        ("K 4", [4, 0, 0], b""),
+        ("G 5 6 7", [5, 6, 7], b""),
+        ("T 8 9 10", [8, 9, 10], b""),
+        ("L 1 2 4 U0", [1, 2, 4], b"U0"),
+        ("D 11 12", [11, 12, 0], b""),
+        ("C 13 14", [13, 14, 0], b""),
+        ("R 65535", [65_535, 0, 0], b""),
+        ("A 0 2 4", [0, 2, 4], b""),
+    ];
+    for ((line, fields, text), letter) in written.into_iter().zip(Letter::ALL) {
+        let right = (letter.byte(), fields, text.to_vec());
+        assert_eq!(record(line.as_bytes()), right, "{line}");
+    }
 }
 
 #[test]
@@ -156,25 +168,13 @@ fn the_introduction_ends_at_a_call_too() {
 
 #[test]
 fn wrong_letters() {
-    wrong("Z", 1, &format!("'Z' is no call's letter: {LETTERS}"));
-    wrong(
-        "  call 0 1",
-        3,
-        &format!("'call' is no call's letter: {LETTERS}"),
-    );
+    wrong("Z", 1, &no_letter("'Z'"));
+    wrong("  call 0 1", 3, &no_letter("'call'"));
     wrong("u", 1, "'u' is no call's letter: write U");
-    wrong(
-        "-> ok 1",
-        1,
-        &format!("'->' is no call's letter: {LETTERS}"),
-    );
-    wrong(
-        "B\x07 1",
-        1,
-        &format!("'B\\u{{7}}' is no call's letter: {LETTERS}"),
-    );
-    let long = format!("'{}...' is no call's letter: {LETTERS}", "x".repeat(24));
-    wrong("x".repeat(1_000), 1, &long);
+    wrong("-> ok 1", 1, &no_letter("'->'"));
+    wrong("B\x07 1", 1, &no_letter("'B\\u{7}'"));
+    let long = format!("'{}...'", "x".repeat(24));
+    wrong("x".repeat(1_000), 1, &no_letter(&long));
 }
 
 #[test]
@@ -338,7 +338,7 @@ fn wrong_expected_answers() {
 fn all_mistakes_are_found_and_no_others() {
     let text = b"\xEF\xBB\xBFZ\r\n# Z\r\nU\r\n  S\r\n\r\nN 0 1 # Z\r\nL 0 0 1 \"\r\nU";
     let right = [
-        (1, 1, format!("'Z' is no call's letter: {LETTERS}")),
+        (1, 1, no_letter("'Z'")),
         (4, 4, "S needs a user (field a) here".to_string()),
         (7, 9, "the quote isn't closed".to_string()),
     ];
@@ -355,10 +355,7 @@ fn a_full_journal() {
     // One byte more is too much. It is told once, and later mistakes still are.
     let more = "U\n".repeat(7_279) + "  L 0 0 1 U0|U0|U10\nU\nU\nZ\n";
     let full = "the journal is full here: 7,279 calls, and 65,535 bytes are the most (10)";
-    let right = [
-        (7_280, 3, full.to_string()),
-        (7_283, 1, format!("'Z' is no call's letter: {LETTERS}")),
-    ];
+    let right = [(7_280, 3, full.to_string()), (7_283, 1, no_letter("'Z'"))];
     assert_eq!(places(more.as_bytes()), right);
 }
 
@@ -422,33 +419,20 @@ fn long_calls_leave_the_column_alone() {
 
 /// A record of a shape that a journal takes.
 fn random_record(random: &mut Random) -> Record {
-    let letter = random.pick(b"USENKGTLDCRALLLL");
-    let named = match letter {
-        b'U' => 0,
-        b'S' | b'E' | b'K' | b'R' => 1,
-        b'N' | b'D' | b'C' => 2,
-        _ => 3,
+    // Those with a text come more often.
+    let letter = match random.one_in(4) {
+        true => Letter::AddLock,
+        false => random.pick(&Letter::ALL),
     };
-    let mut fields = [0; 3];
-    for field in &mut fields[..named] {
-        *field = match random.below(3) {
-            0 => random.pick(&[0, 1, 2, 4, 9, 10, 99, 100, 65_534, 65_535]),
-            1 => random.below(20) as u16,
-            _ => random.bits() as u16,
-        };
-    }
-    let [a, b, c] = fields;
-    let text = match letter {
-        b'L' => random_text(random),
-        _ => Vec::new(),
+    let text = match letter.has_text() {
+        true => random_text(random),
+        false => Vec::new(),
     };
-    Record {
-        letter,
-        a,
-        b,
-        c,
-        text,
-    }
+    shaped(letter, text, || match random.below(3) {
+        0 => random.pick(&[0, 1, 2, 4, 9, 10, 99, 100, 65_534, 65_535]),
+        1 => random.below(20) as u16,
+        _ => random.bits() as u16,
+    })
 }
 
 fn random_text(random: &mut Random) -> Vec<u8> {

@@ -5,35 +5,38 @@
 mod texts;
 
 use crate::journal::Record;
+use crate::letter::Letter;
 use crate::random::Random;
 
-/// The twelve calls.
-pub const LETTERS: [u8; 12] = *b"USENKGTLDCRA";
-
-/// The outcomes of a letter's calls that can occur, by refusal number; 0 is
-/// accepted.
-pub fn outcomes(letter: u8) -> &'static [u32] {
+/// How often a letter comes in each of the [`WORLDS`], against the others, and
+/// the outcomes of its calls that can occur, by refusal number; 0 is accepted.
+fn row(letter: Letter) -> ([usize; WORLDS.len()], &'static [u32]) {
     match letter {
-        b'U' => &[0, 10, 18],
-        b'S' | b'K' => &[0, 1, 10, 18],
-        b'E' => &[0, 2, 18],
-        b'N' => &[0, 1, 7, 10, 18],
-        b'G' => &[0, 1, 3, 4, 6, 8, 10, 18],
-        b'T' => &[0, 1, 3, 4, 6, 9, 18],
-        b'L' => &[0, 1, 3, 6, 7, 10, 11, 12, 13],
-        b'D' => &[0, 1, 5, 6, 18],
-        b'C' => &[0, 2, 3, 7, 10, 14, 15, 18],
-        b'R' => &[0, 2, 9, 18],
-        b'A' => &[0, 2, 3, 7, 14, 15, 18],
-        _ => &[18],
+        Letter::NewUser => ([1, 0, 0, 6, 1], &[0, 10, 18]),
+        Letter::StartThread => ([4, 2, 40, 4, 1], &[0, 1, 10, 18]),
+        Letter::EndThread => ([2, 1, 27, 1, 1], &[0, 2, 18]),
+        Letter::NewSegment => ([2, 0, 0, 8, 1], &[0, 1, 7, 10, 18]),
+        Letter::NewKey => ([3, 1, 0, 34, 1], &[0, 1, 10, 18]),
+        Letter::GiveKey => ([8, 5, 1, 26, 1], &[0, 1, 3, 4, 6, 8, 10, 18]),
+        Letter::TakeKey => ([5, 4, 1, 3, 1], &[0, 1, 3, 4, 6, 9, 18]),
+        Letter::AddLock => ([12, 3, 2, 10, 1], &[0, 1, 3, 6, 7, 10, 11, 12, 13]),
+        Letter::DropLock => ([7, 2, 1, 2, 1], &[0, 1, 5, 6, 18]),
+        Letter::CallSegment => ([25, 60, 14, 3, 1], &[0, 2, 3, 7, 10, 14, 15, 18]),
+        Letter::ReturnCall => ([14, 9, 6, 1, 1], &[0, 2, 9, 18]),
+        Letter::Access => ([17, 12, 8, 2, 1], &[0, 2, 3, 7, 14, 15, 18]),
     }
+}
+
+/// The outcomes that can occur of calls with this byte for a letter.
+pub fn outcomes(letter: u8) -> &'static [u32] {
+    Letter::of(letter).map_or(&[18], |letter| row(letter).1)
 }
 
 /// What kind of list a caller makes.
 pub struct World {
     pub name: &'static str,
-    /// How often each of [`LETTERS`] comes, against the others.
-    weights: [usize; 12],
+    /// Its place among [`WORLDS`].
+    place: usize,
     /// The least and the most calls of a list.
     length: (usize, usize),
     /// One in this many fields is beside what the call needs.
@@ -46,40 +49,48 @@ pub struct World {
 pub const WORLDS: [World; 5] = [
     World {
         name: "a few of everything",
-        weights: [1, 4, 2, 2, 3, 8, 5, 12, 7, 25, 14, 17],
+        place: 0,
         length: (100, 400),
         stray: 24,
         opening: [3, 4, 2, 4, 3],
     },
     World {
         name: "deep stacks",
-        weights: [0, 2, 1, 0, 1, 5, 4, 3, 2, 60, 9, 12],
+        place: 1,
         length: (100, 400),
         stray: 60,
         opening: [2, 3, 1, 6, 2],
     },
     World {
         name: "threads that come and go",
-        weights: [0, 40, 27, 0, 0, 1, 1, 2, 1, 14, 6, 8],
+        place: 2,
         length: (400, 3_000),
         stray: 30,
         opening: [3, 3, 2, 3, 8],
     },
     World {
         name: "everything to its limit",
-        weights: [6, 4, 1, 8, 34, 26, 3, 10, 2, 3, 1, 2],
+        place: 3,
         length: (1_000, 5_000),
         stray: 40,
         opening: [1, 1, 1, 1, 1],
     },
     World {
         name: "fields at random",
-        weights: [1, 1, 1, 1, 1, 1, 1, 1, 1, 1, 1, 1],
+        place: 4,
         length: (20, 300),
         stray: 3,
         opening: [4, 3, 3, 4, 4],
     },
 ];
+
+impl World {
+    /// The letters, each as often as its weight says.
+    fn letters(&self) -> Vec<Letter> {
+        let repeated = |letter| vec![letter; row(letter).0[self.place]];
+        Letter::ALL.into_iter().flat_map(repeated).collect()
+    }
+}
 
 struct Segment {
     owner: u16,
@@ -98,6 +109,8 @@ struct Lock {
 pub struct Caller<'a> {
     random: &'a mut Random,
     world: &'a World,
+    /// The letters, each as often as the world has it.
+    letters: Vec<Letter>,
     users: usize,
     makers: Vec<u16>,
     segments: Vec<Segment>,
@@ -109,9 +122,9 @@ pub struct Caller<'a> {
     opening: Vec<Record>,
 }
 
-pub fn call(letter: u8, a: u16, b: u16, c: u16) -> Record {
+pub fn call(letter: impl Into<u8>, a: u16, b: u16, c: u16) -> Record {
     Record {
-        letter,
+        letter: letter.into(),
         a,
         b,
         c,
@@ -119,10 +132,24 @@ pub fn call(letter: u8, a: u16, b: u16, c: u16) -> Record {
     }
 }
 
+/// A record of a letter with a value in each field that it names, and this text.
+/// The other fields are 0, so it fits, but for the text.
+pub fn shaped(letter: Letter, text: Vec<u8>, mut value: impl FnMut() -> u16) -> Record {
+    let mut fields = [0; 3];
+    for field in &mut fields[..letter.fields().len()] {
+        *field = value();
+    }
+    let [a, b, c] = fields;
+    Record {
+        text,
+        ..call(letter, a, b, c)
+    }
+}
+
 pub fn lock(user: u16, segment: u16, operations: u16, text: &[u8]) -> Record {
     Record {
         text: text.to_vec(),
-        ..call(b'L', user, segment, operations)
+        ..call(Letter::AddLock, user, segment, operations)
     }
 }
 
@@ -150,6 +177,7 @@ impl<'a> Caller<'a> {
         Caller {
             random,
             world,
+            letters: world.letters(),
             users: 0,
             makers: Vec::new(),
             segments: Vec::new(),
@@ -172,6 +200,7 @@ impl<'a> Caller<'a> {
         Caller {
             random,
             world,
+            letters: world.letters(),
             users: 32,
             makers: (0..1_024).map(|n| n % 32).collect(),
             segments: segments.collect(),
@@ -211,30 +240,30 @@ impl<'a> Caller<'a> {
     }
 
     fn named_call(&mut self) -> Record {
-        let letter = self.letter();
+        let letter = self.random.pick(&self.letters);
         match letter {
-            b'U' => call(letter, 0, 0, 0),
-            b'S' | b'K' => call(letter, self.user(), 0, 0),
-            b'E' | b'R' => call(letter, self.thread(), 0, 0),
-            b'N' => {
+            Letter::NewUser => call(letter, 0, 0, 0),
+            Letter::StartThread | Letter::NewKey => call(letter, self.user(), 0, 0),
+            Letter::EndThread | Letter::ReturnCall => call(letter, self.thread(), 0, 0),
+            Letter::NewSegment => {
                 let kind = self.random.below(2) as u16;
                 call(letter, self.user(), self.or_stray(kind, 2), 0)
             }
-            b'G' => {
+            Letter::GiveKey => {
                 let segment = self.segment(None);
                 let user = self.owner(segment);
                 call(letter, user, segment, self.key_of(user))
             }
-            b'T' => {
+            Letter::TakeKey => {
                 let segment = self.segment(None);
                 call(letter, self.owner(segment), segment, self.given(segment))
             }
-            b'L' => {
+            Letter::AddLock => {
                 let segment = self.segment(None);
                 let operations = self.operations(segment);
                 lock(self.owner(segment), segment, operations, &self.text())
             }
-            b'D' => {
+            Letter::DropLock => {
                 let lock = match self.standing.as_slice() {
                     [] => Lock {
                         number: 0,
@@ -245,11 +274,11 @@ impl<'a> Caller<'a> {
                 let number = self.or_stray(lock.number, self.locks_made);
                 call(letter, self.owner(lock.segment), number, 0)
             }
-            b'C' => call(letter, self.thread(), self.segment(Some(false)), 0),
-            _ => {
+            Letter::CallSegment => call(letter, self.thread(), self.segment(Some(false)), 0),
+            Letter::Access => {
                 let operation = self.random.pick(&[2, 4]);
                 let operation = self.or_stray(operation, 8);
-                call(b'A', self.thread(), self.segment(Some(true)), operation)
+                call(letter, self.thread(), self.segment(Some(true)), operation)
             }
         }
     }
@@ -257,43 +286,34 @@ impl<'a> Caller<'a> {
     /// Takes in the answer of a call that was accepted.
     pub fn learn(&mut self, record: &Record, answer: u16) {
         let (a, b, c) = (record.a, record.b, record.c);
-        match record.letter {
-            b'U' => self.users += 1,
-            b'S' => {
+        let Some(letter) = Letter::of(record.letter) else {
+            return;
+        };
+        match letter {
+            Letter::NewUser => self.users += 1,
+            Letter::StartThread => {
                 self.live.push(answer);
                 self.threads_started += 1;
             }
-            b'E' => self.live.retain(|number| *number != a),
-            b'N' => self.segments.push(Segment {
+            Letter::EndThread => self.live.retain(|number| *number != a),
+            Letter::NewSegment => self.segments.push(Segment {
                 owner: a,
                 sheet: b == 1,
                 given: Vec::new(),
             }),
-            b'K' => self.makers.push(a),
-            b'G' => self.segments[usize::from(b)].given.push(c),
-            b'T' => self.segments[usize::from(b)].given.retain(|key| *key != c),
-            b'L' => {
+            Letter::NewKey => self.makers.push(a),
+            Letter::GiveKey => self.segments[usize::from(b)].given.push(c),
+            Letter::TakeKey => self.segments[usize::from(b)].given.retain(|key| *key != c),
+            Letter::AddLock => {
                 self.standing.push(Lock {
                     number: answer,
                     segment: b,
                 });
                 self.locks_made += 1;
             }
-            b'D' => self.standing.retain(|lock| lock.number != b),
-            _ => {}
+            Letter::DropLock => self.standing.retain(|lock| lock.number != b),
+            Letter::CallSegment | Letter::ReturnCall | Letter::Access => {}
         }
-    }
-
-    fn letter(&mut self) -> u8 {
-        let weights = &self.world.weights;
-        let mut place = self.random.below(weights.iter().sum());
-        for (letter, weight) in LETTERS.into_iter().zip(weights) {
-            if place < *weight {
-                return letter;
-            }
-            place -= weight;
-        }
-        unreachable!("the place is below the sum of the weights")
     }
 
     /// The right value, or now and then one beside it: around `count`, around a

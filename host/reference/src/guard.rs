@@ -1,4 +1,4 @@
-//! The guard: a protection state (document 01: desk) and the twelve calls.
+//! The guard: a protection state (document 01: desk) and the calls.
 //!
 //! Users, segments and defined keys are never struck, so a number is a place in
 //! a vector. Threads end and locks are dropped, so these are looked for by
@@ -10,6 +10,7 @@ mod refusal;
 pub use refusal::Refusal;
 
 use crate::formula::{self, Product};
+use crate::letter::Letter;
 use crate::{Issued, Key, Kind};
 
 /// The most users.
@@ -167,23 +168,22 @@ impl Guard {
         Guard::default()
     }
 
-    /// One call by its letter. What the call doesn't name must be 0, and only L
-    /// has a text.
+    /// One call by its letter. What the call doesn't name must be 0, and a call
+    /// without a text has none.
     pub fn call(&mut self, letter: u8, a: u16, b: u16, c: u16, text: &[u8]) -> Answer {
-        match (letter, a, b, c, text) {
-            (b'U', 0, 0, 0, []) => self.new_user(),
-            (b'S', _, 0, 0, []) => self.start_thread(a),
-            (b'E', _, 0, 0, []) => self.end_thread(a),
-            (b'N', _, _, 0, []) => self.new_segment(a, b),
-            (b'K', _, 0, 0, []) => self.new_key(a),
-            (b'G', _, _, _, []) => self.give_key(a, b, c),
-            (b'T', _, _, _, []) => self.take_key(a, b, c),
-            (b'L', _, _, _, _) => self.make_lock(a, b, c, text),
-            (b'D', _, _, 0, []) => self.drop_lock(a, b),
-            (b'C', _, _, 0, []) => self.call_segment(a, b),
-            (b'R', _, 0, 0, []) => self.return_call(a),
-            (b'A', _, _, _, []) => self.access(a, b, c),
-            _ => Err(Refusal::Corrupt),
+        match Letter::of_call(letter, [a, b, c], text).ok_or(Refusal::Corrupt)? {
+            Letter::NewUser => self.new_user(),
+            Letter::StartThread => self.start_thread(a),
+            Letter::EndThread => self.end_thread(a),
+            Letter::NewSegment => self.new_segment(a, b),
+            Letter::NewKey => self.new_key(a),
+            Letter::GiveKey => self.give_key(a, b, c),
+            Letter::TakeKey => self.take_key(a, b, c),
+            Letter::AddLock => self.make_lock(a, b, c, text),
+            Letter::DropLock => self.drop_lock(a, b),
+            Letter::CallSegment => self.call_segment(a, b),
+            Letter::ReturnCall => self.return_call(a),
+            Letter::Access => self.access(a, b, c),
         }
     }
 

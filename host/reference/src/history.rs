@@ -5,6 +5,7 @@
 
 use crate::formula::{self, Formula};
 use crate::journal::Record;
+use crate::letter::Letter;
 use crate::{Issued, Key, Kind};
 use std::collections::{BTreeMap, BTreeSet};
 
@@ -62,7 +63,7 @@ pub enum Verdict {
 #[derive(Default)]
 pub struct History {
     /// How many calls of each letter were accepted.
-    accepted: BTreeMap<u8, u32>,
+    accepted: BTreeMap<Letter, u32>,
     live: BTreeMap<u16, Thread>,
     segments: BTreeMap<u16, Segment>,
     standing: BTreeMap<u16, Lock>,
@@ -75,21 +76,23 @@ impl History {
 
     /// Takes in a call with its answer, or with `None` if it was refused.
     pub fn feed(&mut self, call: &Record, answer: Option<u16>) {
-        let Some(answer) = answer else { return };
+        let (Some(letter), Some(answer)) = (Letter::of(call.letter), answer) else {
+            return;
+        };
         let (a, b, c) = (call.a, call.b, call.c);
         let key = |kind, number| Key { kind, number };
-        match call.letter {
-            b'S' => {
+        match letter {
+            Letter::StartThread => {
                 let thread = Thread {
                     user: a,
                     open_calls: Vec::new(),
                 };
                 self.live.insert(answer, thread);
             }
-            b'E' => {
+            Letter::EndThread => {
                 self.live.remove(&a);
             }
-            b'N' => {
+            Letter::NewSegment => {
                 let segment = Segment {
                     owner: a,
                     sheet: b == 1,
@@ -97,12 +100,12 @@ impl History {
                 };
                 self.segments.insert(answer, segment);
             }
-            b'G' => self.segment_mut(b).list.push(key(Kind::Defined, c)),
-            b'T' => {
+            Letter::GiveKey => self.segment_mut(b).list.push(key(Kind::Defined, c)),
+            Letter::TakeKey => {
                 let taken = key(Kind::Defined, c);
                 self.segment_mut(b).list.retain(|given| *given != taken);
             }
-            b'L' => {
+            Letter::AddLock => {
                 let formula = formula::parse(&call.text, &self.issued());
                 let lock = Lock {
                     segment: b,
@@ -111,58 +114,70 @@ impl History {
                 };
                 self.standing.insert(answer, lock);
             }
-            b'D' => {
+            Letter::DropLock => {
                 self.standing.remove(&b);
             }
-            b'C' => {
+            Letter::CallSegment => {
                 let list = self.segment_mut(b).list.clone();
                 let call = OpenCall { segment: b, list };
                 self.thread_mut(a).open_calls.push(call);
             }
-            b'R' => {
+            Letter::ReturnCall => {
                 self.thread_mut(a).open_calls.pop();
             }
-            _ => {}
+            Letter::NewUser | Letter::NewKey | Letter::Access => {}
         }
-        *self.accepted.entry(call.letter).or_default() += 1;
+        *self.accepted.entry(letter).or_default() += 1;
     }
 
     /// The answer of a call, if it is accepted now. `None` where a field
     /// names what isn't there, so that it can't be.
     pub fn answer(&self, call: &Record) -> Option<u32> {
-        let count = |letter| self.accepted.get(&letter).copied().unwrap_or(0);
-        match call.letter {
-            letter @ (b'U' | b'S' | b'N' | b'K' | b'L') => Some(count(letter)),
-            b'E' => Some(self.live.get(&call.a)?.open_calls.len() as u32),
-            b'G' => Some(self.segments.get(&call.b)?.list.len() as u32 + 1),
-            b'T' => Some(self.segments.get(&call.b)?.list.len() as u32 - 1),
-            b'D' => {
+        let letter = Letter::of(call.letter)?;
+        match letter {
+            Letter::NewUser
+            | Letter::StartThread
+            | Letter::NewSegment
+            | Letter::NewKey
+            | Letter::AddLock => Some(self.count(letter)),
+            Letter::EndThread => Some(self.live.get(&call.a)?.open_calls.len() as u32),
+            Letter::GiveKey => Some(self.segments.get(&call.b)?.list.len() as u32 + 1),
+            Letter::TakeKey => Some(self.segments.get(&call.b)?.list.len() as u32 - 1),
+            Letter::DropLock => {
                 let sum = self.standing.get(&call.b)?.formula.sum_of_products();
                 Some(sum.expect("an accepted text fits").len() as u32)
             }
-            b'R' => Some(u32::from(
+            Letter::ReturnCall => Some(u32::from(
                 self.live.get(&call.a)?.open_calls.last()?.segment,
             )),
-            b'C' | b'A' => match self.verdict(call)? {
+            Letter::CallSegment | Letter::Access => match self.verdict(call)? {
                 Verdict::Granted(lock) => Some(u32::from(lock)),
-                _ => None,
+                Verdict::Denied(_) | Verdict::NotGranted | Verdict::Full => None,
             },
-            _ => None,
         }
+    }
+
+    /// The operation of a call that the locks decide, a live thread's fitting C
+    /// or A; `None` for other calls.
+    pub fn operation(&self, call: &Record) -> Option<u16> {
+        let letter = Letter::of(call.letter)?;
+        self.live.get(&call.a)?;
+        let segment = self.segments.get(&call.b)?;
+        let (operation, fits) = match letter {
+            Letter::CallSegment => (1, call.c == 0 && !segment.sheet),
+            Letter::Access => (call.c, matches!(call.c, 2 | 4) && segment.sheet),
+            Letter::NewUser | Letter::NewSegment | Letter::NewKey => return None,
+            Letter::StartThread | Letter::EndThread | Letter::ReturnCall => return None,
+            Letter::GiveKey | Letter::TakeKey => return None,
+            Letter::AddLock | Letter::DropLock => return None,
+        };
+        (fits && call.text.is_empty()).then_some(operation)
     }
 
     /// The verdict on a live thread's fitting C or A; `None` for other calls.
     pub fn verdict(&self, call: &Record) -> Option<Verdict> {
+        let operation = self.operation(call)?;
         let thread = self.live.get(&call.a)?;
-        let segment = self.segments.get(&call.b)?;
-        let operation = match (call.letter, call.c, segment.sheet) {
-            (b'C', 0, false) => 1,
-            (b'A', 2 | 4, true) => call.c,
-            _ => return None,
-        };
-        if !call.text.is_empty() {
-            return None;
-        }
         let keys = key_set(call.a, thread);
         // Locks come by rising number.
         let opening = |deny: bool| {
@@ -175,9 +190,7 @@ impl History {
         Some(match (opening(true), opening(false)) {
             (Some((deny, _)), _) => Verdict::Denied(*deny),
             (None, None) => Verdict::NotGranted,
-            (None, Some(_)) if call.letter == b'C' && thread.open_calls.len() >= 16 => {
-                Verdict::Full
-            }
+            (None, Some(_)) if operation == 1 && thread.open_calls.len() >= 16 => Verdict::Full,
             (None, Some((grant, _))) => Verdict::Granted(*grant),
         })
     }
@@ -214,13 +227,17 @@ impl History {
 
     /// How many keys of each kind are handed out.
     pub fn issued(&self) -> Issued {
-        let count = |letter| self.accepted.get(&letter).copied().unwrap_or(0);
         Issued {
-            users: count(b'U'),
-            threads: count(b'S'),
-            segments: count(b'N'),
-            defined: count(b'K'),
+            users: self.count(Letter::NewUser),
+            threads: self.count(Letter::StartThread),
+            segments: self.count(Letter::NewSegment),
+            defined: self.count(Letter::NewKey),
         }
+    }
+
+    /// How many calls of a letter were accepted.
+    fn count(&self, letter: Letter) -> u32 {
+        self.accepted.get(&letter).copied().unwrap_or(0)
     }
 
     fn thread_mut(&mut self, number: u16) -> &mut Thread {

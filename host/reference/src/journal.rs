@@ -5,6 +5,7 @@
 //! record is the letter's byte, a, b, c and the text's length, then the text.
 //! Numbers have 16 bits, low byte first.
 
+use crate::letter::Letter;
 use std::ops::Range;
 
 /// The most bytes of a file.
@@ -83,28 +84,18 @@ pub enum Step {
     Corrupt,
 }
 
-/// How many of a, b and c, in this order, a letter's call names. `None` where
-/// no call has the letter.
-fn named_fields(letter: u8) -> Option<usize> {
-    match letter {
-        b'U' => Some(0),
-        b'S' | b'E' | b'K' | b'R' => Some(1),
-        b'N' | b'D' | b'C' => Some(2),
-        b'G' | b'T' | b'L' | b'A' => Some(3),
-        _ => None,
-    }
-}
-
 /// Whether a record with a text of this length fits: a known letter, 0 in
-/// every unnamed field, 1 to 96 bytes of text for L and none for the others.
+/// every unnamed field, 1 to 96 bytes of text where its call has one and none
+/// for the others.
 fn shape_fits(letter: u8, fields: [u16; 3], text_length: usize) -> bool {
-    let text_fits = match letter {
-        b'L' => (1..=MAX_TEXT_BYTES).contains(&text_length),
-        _ => text_length == 0,
+    let Some(letter) = Letter::of(letter) else {
+        return false;
     };
-    let unnamed_are_0 =
-        named_fields(letter).is_some_and(|named| fields[named..].iter().all(|field| *field == 0));
-    text_fits && unnamed_are_0
+    let text_fits = match letter.has_text() {
+        true => (1..=MAX_TEXT_BYTES).contains(&text_length),
+        false => text_length == 0,
+    };
+    text_fits && letter.unnamed_are_0(fields)
 }
 
 /// Whether a journal takes the record.
@@ -171,10 +162,11 @@ pub fn check(file: &[u8]) -> Result<(), Refusal> {
     Ok(())
 }
 
-/// A file's records in order. The whole file is checked first.
-pub fn read(file: &[u8]) -> Result<Vec<Record>, Refusal> {
+/// Has a file's records taken in order, each with its letter, fields and text.
+/// The whole file is checked first.
+#[inline]
+pub fn walk(file: &[u8], mut take: impl FnMut(u8, [u16; 3], &[u8])) -> Result<(), Refusal> {
     check(file)?;
-    let mut records = Vec::new();
     let mut cursor = HEAD_BYTES;
     while let Step::Record {
         letter,
@@ -185,7 +177,16 @@ pub fn read(file: &[u8]) -> Result<Vec<Record>, Refusal> {
     } = record_at(file, cursor)
     {
         cursor = text.end;
-        let text = file[text].to_vec();
+        take(letter, [a, b, c], &file[text]);
+    }
+    Ok(())
+}
+
+/// A file's records in order. The whole file is checked first.
+pub fn read(file: &[u8]) -> Result<Vec<Record>, Refusal> {
+    let mut records = Vec::new();
+    walk(file, |letter, [a, b, c], text| {
+        let text = text.to_vec();
         records.push(Record {
             letter,
             a,
@@ -193,7 +194,7 @@ pub fn read(file: &[u8]) -> Result<Vec<Record>, Refusal> {
             c,
             text,
         });
-    }
+    })?;
     Ok(records)
 }
 

@@ -6,18 +6,21 @@
 //!
 //! Two layers know nothing of each other: [`formula`], from a formula text to a
 //! sum of products, and [`journal`], the file of call records. Over the first
-//! stands the [`guard`], and [`replay`] joins the two. The [`history`] is a
-//! second opinion on what a guard grants, read from calls and answers alone.
-//! [`random`], [`calls`] and [`trials`] are input for tests.
+//! stands the [`guard`], and [`replay`] joins the two; all three know a call by
+//! its [`letter`]. The [`history`] is a second opinion on what a guard grants,
+//! read from calls and answers alone.
+//! [`random`], [`calls`], [`trials`] and [`written`] are input for tests.
 
 pub mod calls;
 pub mod formula;
 pub mod guard;
 pub mod history;
 pub mod journal;
+pub mod letter;
 pub mod random;
 mod replay;
 pub mod trials;
+pub mod written;
 
 pub use replay::replay;
 
@@ -64,6 +67,14 @@ pub struct Issued {
 }
 
 impl Issued {
+    /// Every key that a text can name.
+    pub const ALL: Issued = Issued {
+        users: 65_536,
+        threads: 65_536,
+        segments: 65_536,
+        defined: 65_536,
+    };
+
     pub fn count(&self, kind: Kind) -> u32 {
         match kind {
             Kind::User => self.users,

@@ -6,6 +6,7 @@
 mod limits;
 
 use crate::guard::Answer;
+use crate::letter::Letter;
 
 /// A guard that examples are tried on, with the empty state at first.
 pub trait Guard {
@@ -363,21 +364,20 @@ fn the_first_condition_in_the_tables_order_refuses(guard: &mut dyn Guard) {
 
 fn a_call_of_no_known_shape_comes_before_all_else(guard: &mut dyn Guard) {
     let mut office = Office::new(guard);
-    for letter in 0..=255 {
-        if !b"USENKGTLDCRA".contains(&letter) {
-            office.no(letter, [0, 0, 0], "", 18, 0);
+    for letter in (0..=255).filter(|letter| Letter::of(*letter).is_none()) {
+        office.no(letter, [0, 0, 0], "", 18, 0);
+    }
+    for letter in Letter::ALL {
+        let unnamed = letter.fields().len()..3;
+        for wrong in unnamed.clone() {
+            let mut fields = [9; 3];
+            fields[unnamed.clone()].fill(0);
+            fields[wrong] = 1;
+            office.no(letter.byte(), fields, "", 18, 0);
         }
-    }
-    office.no(b'U', [1, 0, 0], "", 18, 0);
-    for letter in *b"USEKR" {
-        office.no(letter, [9, 1, 0], "", 18, 0);
-        office.no(letter, [9, 0, 1], "", 18, 0);
-    }
-    for letter in *b"NDC" {
-        office.no(letter, [9, 9, 1], "", 18, 0);
-    }
-    for letter in *b"USENKGTDCRA" {
-        office.no(letter, [0, 0, 0], "U0", 18, 0);
+        if !letter.has_text() {
+            office.no(letter.byte(), [0, 0, 0], "U0", 18, 0);
+        }
     }
     // All of L's fields are named, and it has a text.
     office.no(b'L', [9, 9, 9], "", 1, 0);

@@ -1,30 +1,48 @@
 //! The reference guard against the worked examples.
 
-use reference::guard::{Answer, EXECUTE, Guard, WRITE, check};
+use reference::calls::outcomes;
+use reference::guard::{Answer, EXECUTE, Guard, Refusal, WRITE, check};
+use reference::letter::Letter;
 use reference::trials::{self, TRIALS};
+use std::collections::BTreeSet;
+
+/// Each letter with an outcome that it came to: a refusal's number, or 0.
+type Seen = BTreeSet<(u8, u32)>;
 
 /// A guard that is compared with itself before each refusal.
-struct Watched {
+struct Watched<'a> {
     guard: Guard,
+    seen: &'a mut Seen,
 }
 
-impl trials::Guard for Watched {
+impl trials::Guard for Watched<'_> {
     fn call(&mut self, letter: u8, [a, b, c]: [u16; 3], text: &[u8]) -> Answer {
         let before = self.guard.clone();
         let answer = self.guard.call(letter, a, b, c, text);
         if answer.is_err() {
             assert!(self.guard == before, "a refusal changes nothing");
         }
+        let outcome = answer.map_or_else(Refusal::number, |_| 0);
+        self.seen.insert((letter, outcome));
         answer
     }
 }
 
+/// Every letter comes to each outcome that it can have.
 #[test]
 fn worked_examples() {
+    let mut seen = Seen::new();
     for (name, trial) in TRIALS {
         println!("{name}");
         let guard = Guard::new();
-        trial(&mut Watched { guard });
+        let seen = &mut seen;
+        trial(&mut Watched { guard, seen });
+    }
+    for letter in Letter::ALL {
+        for outcome in outcomes(letter.byte()) {
+            let came = seen.contains(&(letter.byte(), *outcome));
+            assert!(came, "{letter:?} never comes to {outcome}");
+        }
     }
 }
 

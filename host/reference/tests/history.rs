@@ -4,10 +4,11 @@
 //!
 //! `cargo test --release -- --nocapture` also prints how often each outcome came.
 
-use reference::calls::{Caller, LETTERS, WORLDS, World, call, outcomes};
+use reference::calls::{Caller, WORLDS, World, call, outcomes};
 use reference::guard::{Answer, Guard, Refusal};
 use reference::history::{History, Verdict};
 use reference::journal::Record;
+use reference::letter::Letter;
 use reference::random::Random;
 use std::collections::BTreeMap;
 
@@ -52,10 +53,7 @@ fn compared(
     }
     history.feed(record, answer.ok());
     let outcome = answer.map_or_else(Refusal::number, |_| 0);
-    let letter = match LETTERS.contains(&record.letter) {
-        true => char::from(record.letter),
-        false => '?',
-    };
+    let letter = Letter::of(record.letter).map_or('?', Letter::char);
     *tally.entry((letter, outcome)).or_default() += 1;
     answer
 }
@@ -122,14 +120,15 @@ fn lists_of_every_world() {
             *total.entry(outcome).or_default() += count;
         }
     }
-    for letter in LETTERS {
-        for outcome in outcomes(letter) {
-            let count = total.get(&(char::from(letter), *outcome)).unwrap_or(&0);
-            assert!(
-                *count > 0,
-                "{} never comes to {outcome}",
-                char::from(letter)
-            );
+    for letter in Letter::ALL.map(Letter::char) {
+        let possible = outcomes(letter as u8);
+        assert!(
+            possible.len() > 1 && possible[0] == 0,
+            "{letter}'s outcomes"
+        );
+        for outcome in possible {
+            let count = total.get(&(letter, *outcome)).unwrap_or(&0);
+            assert!(*count > 0, "{letter} never comes to {outcome}");
         }
     }
     for (letter, outcome) in total.keys() {

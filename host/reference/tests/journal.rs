@@ -1,17 +1,13 @@
 //! The reference's journals against document 01: files whose bytes are written
 //! out by hand, each limit from both sides, and the order of the refusals.
 
+use reference::calls::{call, shaped};
 use reference::journal::{
     Record, Refusal, Step, append, check, empty, fits, read, record_at, write,
 };
+use reference::letter::Letter;
 use reference::random::Random;
-
-/// The bytes that a text of hexadecimal numbers names.
-fn hex(text: &str) -> Vec<u8> {
-    text.split_whitespace()
-        .map(|byte| u8::from_str_radix(byte, 16).expect("two hexadecimal digits"))
-        .collect()
-}
+use reference::written::{self, EVERY_LETTER, OFFICE, hex};
 
 fn record(letter: u8, a: u16, b: u16, c: u16, text: &[u8]) -> Record {
     Record {
@@ -23,11 +19,6 @@ fn record(letter: u8, a: u16, b: u16, c: u16, text: &[u8]) -> Record {
     }
 }
 
-/// A call without text.
-fn call(letter: u8, a: u16, b: u16, c: u16) -> Record {
-    record(letter, a, b, c, b"")
-}
-
 const FULL: Refusal = Refusal::Full;
 const NOT_JOURNAL: Refusal = Refusal::NotJournal;
 const OTHER_VERSION: Refusal = Refusal::OtherVersion;
@@ -35,52 +26,11 @@ const CORRUPT: Refusal = Refusal::Corrupt;
 
 const EMPTY: &str = "4B 4C 44 01 00 00 00";
 
-/// The records of document 01's first worked example.
-fn office() -> [Record; 16] {
-    [
-        call(b'U', 0, 0, 0),
-        call(b'N', 0, 0, 0),
-        call(b'N', 0, 0, 0),
-        call(b'N', 0, 1, 0),
-        record(b'L', 0, 0, 1, b"U0"),
-        record(b'L', 0, 1, 1, b"U0"),
-        record(b'L', 0, 2, 4, b"S0&S1"),
-        call(b'S', 0, 0, 0),
-        call(b'S', 0, 0, 0),
-        call(b'C', 0, 0, 0),
-        call(b'C', 0, 1, 0),
-        call(b'C', 1, 1, 0),
-        call(b'A', 0, 2, 4),
-        call(b'A', 1, 2, 4),
-        call(b'R', 0, 0, 0),
-        call(b'A', 0, 2, 4),
-    ]
-}
-
-const OFFICE: &str = "4B 4C 44 01 00 10 00 \
-    55 00 00 00 00 00 00 00 00 \
-    4E 00 00 00 00 00 00 00 00 \
-    4E 00 00 00 00 00 00 00 00 \
-    4E 00 00 01 00 00 00 00 00 \
-    4C 00 00 00 00 01 00 02 00 55 30 \
-    4C 00 00 01 00 01 00 02 00 55 30 \
-    4C 00 00 02 00 04 00 05 00 53 30 26 53 31 \
-    53 00 00 00 00 00 00 00 00 \
-    53 00 00 00 00 00 00 00 00 \
-    43 00 00 00 00 00 00 00 00 \
-    43 00 00 01 00 00 00 00 00 \
-    43 01 00 01 00 00 00 00 00 \
-    41 00 00 02 00 04 00 00 00 \
-    41 01 00 02 00 04 00 00 00 \
-    52 00 00 00 00 00 00 00 00 \
-    41 00 00 02 00 04 00 00 00";
-
 #[track_caller]
-fn readable(file: &str, records: &[Record]) {
-    let bytes = hex(file);
-    assert_eq!(check(&bytes), Ok(()), "{file}");
-    assert_eq!(read(&bytes).as_deref(), Ok(records), "{file}");
-    assert_eq!(write(records), bytes, "{file}");
+fn readable(file: &[u8], records: &[Record]) {
+    assert_eq!(check(file), Ok(()), "{file:?}");
+    assert_eq!(read(file).as_deref(), Ok(records), "{file:?}");
+    assert_eq!(write(records), file, "{file:?}");
 }
 
 #[track_caller]
@@ -96,9 +46,10 @@ fn refused_bytes(file: &[u8], refusal: Refusal) {
 
 #[test]
 fn worked_examples() {
-    readable(EMPTY, &[]);
-    readable(OFFICE, &office());
-    assert_eq!(hex(OFFICE).len(), 160);
+    readable(&hex(EMPTY), &[]);
+    let office = written::file(&OFFICE);
+    assert_eq!(office.len(), 160);
+    readable(&office, &OFFICE.each_ref().map(written::record));
 }
 
 #[test]
@@ -111,45 +62,20 @@ fn refusal_numbers() {
 
 /// Every letter with all its fields, low byte first.
 #[test]
-fn twelve_letters() {
-    readable(
-        "4B 4C 44 01 00 0C 00 \
-         55 00 00 00 00 00 00 00 00 \
-         53 02 01 00 00 00 00 00 00 \
-         45 04 03 00 00 00 00 00 00 \
-         4E 06 05 08 07 00 00 00 00 \
-         4B FF FF 00 00 00 00 00 00 \
-         47 01 02 03 04 05 06 00 00 \
-         54 00 01 00 02 00 03 00 00 \
-         4C FF 00 FE 00 FD 00 01 00 00 \
-         44 00 80 FF 7F 00 00 00 00 \
-         43 10 20 30 40 00 00 00 00 \
-         52 01 00 00 00 00 00 00 00 \
-         41 01 00 02 00 03 00 00 00",
-        &[
-            call(b'U', 0, 0, 0),
-            call(b'S', 258, 0, 0),
-            call(b'E', 772, 0, 0),
-            call(b'N', 1_286, 1_800, 0),
-            call(b'K', 65_535, 0, 0),
-            call(b'G', 513, 1_027, 1_541),
-            call(b'T', 256, 512, 768),
-            record(b'L', 255, 254, 253, &[0]),
-            call(b'D', 32_768, 32_767, 0),
-            call(b'C', 8_208, 16_432, 0),
-            call(b'R', 1, 0, 0),
-            call(b'A', 1, 2, 3),
-        ],
-    );
+fn every_letter_by_hand() {
+    let letters = EVERY_LETTER.map(|(letter, ..)| letter);
+    assert_eq!(letters, Letter::ALL.map(Letter::byte));
+    let records = EVERY_LETTER.each_ref().map(written::record);
+    readable(&written::file(&EVERY_LETTER), &records);
 }
 
 #[test]
 fn a_wrong_field_value_or_formula_is_no_fault_of_the_file() {
     readable(
-        "4B 4C 44 01 00 03 00 \
-         4E 09 00 02 00 00 00 00 00 \
-         41 00 00 00 00 01 00 00 00 \
-         4C 00 00 00 00 F0 FF 03 00 20 29 FF",
+        &hex("4B 4C 44 01 00 03 00 \
+             4E 09 00 02 00 00 00 00 00 \
+             41 00 00 00 00 01 00 00 00 \
+             4C 00 00 00 00 F0 FF 03 00 20 29 FF"),
         &[
             call(b'N', 9, 2, 0),
             call(b'A', 0, 0, 1),
@@ -214,11 +140,12 @@ fn texts() {
         assert_eq!(check(&file).is_ok(), right, "{length}");
     }
     assert!(!fits(&lock(65_537)));
-    for letter in *b"USENKGTDCRA" {
+    let without_text = Letter::ALL.into_iter().filter(|letter| !letter.has_text());
+    for letter in without_text {
         assert!(fits(&call(letter, 0, 0, 0)));
         for length in [1, 96, 97] {
-            let record = record(letter, 0, 0, 0, &vec![b'0'; length]);
-            assert!(!fits(&record), "{letter} {length}");
+            let record = record(letter.byte(), 0, 0, 0, &vec![b'0'; length]);
+            assert!(!fits(&record), "{letter:?} {length}");
             refused_bytes(&write(&[record]), CORRUPT);
         }
     }
@@ -226,24 +153,11 @@ fn texts() {
 
 #[test]
 fn letters_and_named_fields() {
-    // Which of a, b and c document 01's table names.
-    let table: [(u8, [bool; 3]); 12] = [
-        (b'U', [false, false, false]),
-        (b'S', [true, false, false]),
-        (b'E', [true, false, false]),
-        (b'N', [true, true, false]),
-        (b'K', [true, false, false]),
-        (b'G', [true, true, true]),
-        (b'T', [true, true, true]),
-        (b'L', [true, true, true]),
-        (b'D', [true, true, false]),
-        (b'C', [true, true, false]),
-        (b'R', [true, false, false]),
-        (b'A', [true, true, true]),
-    ];
+    // The fields that hold something are those that document 01's table names.
     for letter in 0..=255 {
-        let text: &[u8] = if letter == b'L' { b"U0" } else { b"" };
-        let named = table.iter().find(|row| row.0 == letter).map(|row| row.1);
+        let written = EVERY_LETTER.iter().find(|written| written.0 == letter);
+        let named = written.map(|(_, fields, ..)| fields.map(|field| field != 0));
+        let text = written.map_or("", |(_, _, text, _)| text).as_bytes();
         assert_eq!(fits(&record(letter, 0, 0, 0, text)), named.is_some());
         for (field, value) in [(0, 1), (1, 1), (2, 1), (0, 256), (1, 256), (2, 256)] {
             let mut fields = [0; 3];
@@ -438,26 +352,13 @@ fn appending_up_to_the_limit() {
 
 /// A record of a letter that fits.
 fn random_record(random: &mut Random) -> Record {
-    let letter = random.pick(b"USENKGTLDCRA");
-    let mut field = |named: &[u8]| match named.contains(&letter) {
-        true => random.bits() as u16,
+    let letter = random.pick(&Letter::ALL);
+    let length = match letter.has_text() {
+        true => random.between(1, 96),
         false => 0,
     };
-    let a = field(b"SENKGTLDCRA");
-    let b = field(b"NGTLDCA");
-    let c = field(b"GTLA");
-    let length = match letter {
-        b'L' => random.between(1, 96),
-        _ => 0,
-    };
     let text = (0..length).map(|_| random.bits() as u8).collect();
-    Record {
-        letter,
-        a,
-        b,
-        c,
-        text,
-    }
+    shaped(letter, text, || random.bits() as u16)
 }
 
 /// Appending and reading undo each other.

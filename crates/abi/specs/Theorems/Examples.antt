@@ -2,8 +2,8 @@
 -- again. Proved in `proofs/Examples.antt`.
 use mathlib.Core.Path.{_≡_}
 use mathlib.Core.Bool.{true, false}
-use mathlib.Core.List.{List, [], _∷_}
-use Prim.Native.Nat.{ℕ, _/_, _%_, _<_}
+use mathlib.Core.List.{[], _∷_}
+use Prim.Native.Nat.{_/_, _%_, _<_}
 use Rattle.product.specs.declared.literal.Literal.the-variants.{Plain, Barred}
 use Rattle.product.specs.declared.literal.Key.the-variants.{User, Defined}
 use Rattle.formula.specs.Outcome.{accepted, malformed, tooWide, unsatisfiable}

@@ -28,7 +28,7 @@ abbrev μ-products : tie.MeasureT-products
 μ-products thread products operation depth rows found₀ p₀ found p = 8 - p
 
 products-holds : tie.Need-products-holds Inv-loop μ-loop Inv-products μ-products
-products-holds c = (search needs, rest-start _ _ _ _ (c .before .before .clamp .ensures .count))
+products-holds c = (search needs, rest-start _ _ _ _ (c .before .before .count-in-u16 .ensures .count))
 
 loop-holds : tie.Need-loop-holds Inv-loop μ-loop Inv-products μ-products
 loop-holds c = (search needs, refl, left-start _ _)
@@ -118,9 +118,9 @@ opening-spec =
     μ-loop
     Inv-products
     μ-products
-    (λ c. search needs)  -- index-1-clamp
-    (λ c. search needs)  -- index-2-clamp
-    (λ c κs. search needs)  -- clamp-requires
+    (λ c. search needs)  -- index-1-count-in-u16
+    (λ c. search needs)  -- index-2-count-in-u16
+    (λ c κs. search needs)  -- count-in-u16-requires
     (λ c κs. search needs)  -- count-requires
     products-holds
     (λ c κs. search needs)  -- head-code-requires

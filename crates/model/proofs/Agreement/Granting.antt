@@ -27,9 +27,10 @@ use Rattle.model.specs.HistoryCheck.{Operation, requestOf, threadOf, Fit
 use Rattle.model.specs.Theorems.Granting.{Grants, GrantingByLaws, Granting}
 use Rattle.model.specs.Replay.{stateAfter, eventsOf, reached, answerTo}
 use Rattle.base.proofs.Lists.{caseBool, clash, any-passes, any-found, isSome-first}
-use Rattle.model.proofs.Agreement.EveryCall.{Agrees, agree, request-letter}
+use Rattle.model.proofs.Agreement.Agrees.{Agrees}
+use Rattle.model.proofs.Agreement.EveryCall.{agree, request-letter}
 use Rattle.model.proofs.Agreement.HistoryAnswers.{taken, counted-as, answers-from}
-use Rattle.model.proofs.Refinement.Stores.{refinement-by-laws, follows}
+use Rattle.model.proofs.Refinement.EveryCall.{refinement-by-laws, follows}
 
 -- ---- the test and the words
 

@@ -1,14 +1,14 @@
 -- What the model answers, read from a history that agrees with it. Of a fitting C or A of a live thread the conditions
 -- before the check fail, and the check's two locks are the history's; the numbers handed out are the counts.
 use mathlib.Core.Path.{_≡_, refl, sym, ap, _∙_}
-use mathlib.Core.Bool.{Bool, true, false, not, cond, false≢true}
+use mathlib.Core.Bool.{Bool, true, false, _||_, not, cond, false≢true}
 use mathlib.Core.List.{List}
 use mathlib.Core.Option.{Option, none, some}
 use Prim.Native.Nat.{ℕ, suc}
 use native.Mathlib.Omega.{arith}
-use lib.Dec.{ltb}
+use lib.Dec.{eqb, ltb}
 use lib.ListN.{length}
-use borrow.Author.Tests.{lt-ltb, ltb-true, ltb-false, le-ltb}
+use borrow.Author.Tests.{eqb-true, lt-ltb, ltb-true, ltb-false, le-ltb}
 use Rattle.formula.specs.Compiler.{Compiler, Laws}
 use Rattle.formula.specs.Meaning.{Meaning}
 use Rattle.call.specs.declared.request.Request.{Request}
@@ -16,13 +16,14 @@ use Rattle.call.specs.declared.request.Request.the-variants as request
 use Rattle.call.specs.declared.request.Decoded.{Decoded}
 use Rattle.call.specs.declared.request.Decoded.the-variants.{WellFormed}
 use Rattle.call.specs.Calls.{Call, decoded}
+use Rattle.call.specs.Letters as letters
 use Rattle.call.specs.Requests.{callOf}
 use Rattle.base.specs.Conditions.{firstRefusal}
 use Rattle.model.specs.declared.answer.Refusal.{Refusal}
 use Rattle.model.specs.declared.answer.Refusal.the-variants.{Full, Denied, NotGranted}
 use Rattle.model.specs.declared.answer.Answer.{Answer}
 use Rattle.model.specs.declared.answer.Answer.the-variants.{Accepted, Refused}
-use Rattle.base.specs.Lists.{first, isSome, mapOption}
+use Rattle.base.specs.Lists.{any, first, isSome, mapOption}
 use Rattle.model.specs.Limits.{mostFrames, passes}
 use Rattle.model.specs.Operations.{denies, grants, takes}
 use Rattle.model.specs.Threads.{Thread, keySet}
@@ -30,12 +31,14 @@ use Rattle.model.specs.State.{State, LockProduct, segmentAt, findThread,
 use Rattle.model.specs.Refusals.{lockOf, openingProduct, conditions}
 use Rattle.model.specs.Effects.{answer, update}
 use Rattle.model.specs.Model.{judged, stepDecoded, step}
-use Rattle.model.specs.History.{History, Entry, Lock, handsOut}
+use Rattle.model.specs.History.{History, Entry, Lock, numbering, handsOut}
 use Rattle.model.specs.HistoryCheck.{Operation, calls, accesses, requestOf, threadOf, targetOf, operationOf, isKnown, hasRoom, lockOpens, checkAnswer, answerFrom}
 use Rattle.base.proofs.Lists.{caseBool, some-inj, some≢none}
 use Rattle.model.proofs.Agreement.Segments.{entry-low, entry-is}
-use Rattle.model.proofs.Agreement.Locks.{check-agrees}
-use Rattle.model.proofs.Agreement.EveryCall.{Agrees, found-as, thread-as}
+use Rattle.model.proofs.Agreement.ReadLocks.{check-agrees}
+use Rattle.model.proofs.Agreement.Agrees.{Agrees}
+use Rattle.model.proofs.Agreement.EveryCall.{found-as, thread-as}
+use Rattle.model.proofs.Computed.EveryRequest.{every-request}
 
 -- an accepted call: no condition held, its answer is the model's, and the state is what it changes
 pub record Taken (compile : Compiler) (d : State) (next : Call) (q : Request) (n : ℕ) : Type 0 where
@@ -124,19 +127,42 @@ module _ (compile : Compiler) (holds : Meaning) (laws : Laws compile holds) (tex
       (simp number
       (check-answers (openingProduct d denies a b n) (openingProduct d grants a b n) (first (lockOpens holds denies o t) (h .locks)) (first (lockOpens holds grants o t) (h .locks)) true (check o t live entry out denies) (check o t live entry out grants)))
 
--- the numbers that U, S, N, K and L answer
+-- ---- the numbers that U, S, N, K and L answer
+
+-- what was handed out before, by the letter that hands it out
+abbrev handedBy : State → ℕ → ℕ
+handedBy d letter =
+    cond (eqb letter letters.U) (d .users)
+    (cond (eqb letter letters.S) (d .threadNumbers)
+    (cond (eqb letter letters.N) (length (d .segments))
+    (cond (eqb letter letters.K) (length (d .makers))
+    (cond (eqb letter letters.L) (d .lockNumbers) 0))))
+
+-- a letter that hands out numbers answers how many there were
+answers-next : (compile : Compiler) (text : List ℕ) (d : State) (q : Request) → handsOut q ≡ true → answer compile d q text ≡ handedBy d (callOf q text .letter)
+unfolding answer
+answers-next compile text d q e =
+    ap (λ (b : Bool). cond b (answer compile d q text) 0) (sym e)
+    ∙ every-request (λ r. cond (handsOut r) (answer compile d r text) 0) (λ r. cond (handsOut r) (handedBy d (callOf r text .letter)) 0) (λ a b c. refl) q
+    ∙ ap (λ (b : Bool). cond b (handedBy d (callOf q text .letter)) 0) e
+
+letter-handed : (text : List ℕ) (q : Request) → any (eqb (callOf q text .letter)) numbering ≡ handsOut q
+letter-handed text q = every-request (λ r. any (eqb (callOf r text .letter)) numbering) handsOut (λ a b c. refl) q
+
+-- and that is the count of the letter
+handed-counted : (compile : Compiler) (d : State) (h : History) (count : ℕ → ℕ) → Agrees compile d h count
+    → (letter : ℕ) → any (eqb letter) numbering ≡ true → handedBy d letter ≡ count letter
+handed-counted compile d h count c letter e =
+    by letters.U (c .counts .0) (by letters.S (c .counts .1) (by letters.N (c .counts .2) (by letters.K (c .counts .3) (by letters.L (c .counts .4) none-left)))) e
+  where
+    by : {x y : ℕ} {rest : Bool} (l : ℕ) → x ≡ count l → (rest ≡ true → y ≡ count letter) → (eqb letter l || rest) ≡ true
+        → cond (eqb letter l) x y ≡ count letter
+    by l p k t = caseBool (eqb letter l) (λ u. simp u (p ∙ ap count (sym (eqb-true letter l u)))) (λ u. simp u (k (rw u at t)))
+
+    none-left : false ≡ true → 0 ≡ count letter
+    none-left t = absurd (false≢true t)
+
 pub counted-as : (compile : Compiler) (text : List ℕ) (d : State) (h : History) (count : ℕ → ℕ) → Agrees compile d h count
     → (q : Request) → handsOut q ≡ true → answer compile d q text ≡ count (callOf q text .letter)
-unfolding answer
-counted-as compile text d h count c request.NewUser e = c .counts .0
-counted-as compile text d h count c (request.StartThread a) e = c .counts .1
-counted-as compile text d h count c (request.EndThread a) e = absurd (false≢true e)
-counted-as compile text d h count c (request.NewSegment a b) e = c .counts .2
-counted-as compile text d h count c (request.NewKey a) e = c .counts .3
-counted-as compile text d h count c (request.GiveKey a b k) e = absurd (false≢true e)
-counted-as compile text d h count c (request.TakeKey a b k) e = absurd (false≢true e)
-counted-as compile text d h count c (request.AddLock a b o) e = c .counts .4
-counted-as compile text d h count c (request.DropLock a b) e = absurd (false≢true e)
-counted-as compile text d h count c (request.CallSegment a b) e = absurd (false≢true e)
-counted-as compile text d h count c (request.ReturnCall a) e = absurd (false≢true e)
-counted-as compile text d h count c (request.Access a b o) e = absurd (false≢true e)
+counted-as compile text d h count c q e =
+    answers-next compile text d q e ∙ handed-counted compile d h count c (callOf q text .letter) (letter-handed text q ∙ e)

@@ -1,12 +1,11 @@
 -- The conditions of an L are tests on the state, each of which the history tells; the text's outcome is the compiler's,
 -- whose laws say where it is which.
 use mathlib.Core.Path.{_≡_, refl, sym, ap, subst, _∙_}
-use mathlib.Core.Bool.{Bool, true, false, cond, _||_, true≢false}
-use mathlib.Core.List.{List, [], _∷_}
+use mathlib.Core.Bool.{Bool, true, false, true≢false}
+use mathlib.Core.List.{List}
 use mathlib.Core.Logic.{_↔_}
 use mathlib.Core.Option.{Option, none, some}
 use Prim.Native.Nat.{ℕ, suc, _+_, _<_}
-use lib.Dec.{ltb}
 use lib.ListN.{length}
 use borrow.Author.Tests.{ltb-true, ltb-false, lt-ltb, le-ltb, eqb-true, eq-eqb}
 use Rattle.product.specs.Sum.{Sum}
@@ -24,17 +23,18 @@ use Rattle.formula.proofs.Unsatisfiable.{unsatisfiable-exactly}
 use Rattle.call.specs.declared.request.Request.the-variants.{AddLock}
 use Rattle.call.specs.declared.request.Decoded.the-variants.{WellFormed}
 use Rattle.call.specs.Calls.{Call, decoded}
-use Rattle.base.specs.Conditions.{Condition, when, firstRefusal}
+use Rattle.base.specs.Conditions.{firstRefusal}
 use Rattle.base.proofs.Truth.{neither}
+use Rattle.call.specs.Letters as letters
 use Rattle.model.specs.declared.answer.Refusal.{Refusal}
-use Rattle.model.specs.declared.answer.Refusal.the-variants.{UnknownUser, NoSegment, NotOwner, Unfit, Full, Malformed, TooWide, Unsatisfiable}
+use Rattle.model.specs.declared.answer.Refusal.the-variants.{Full, Malformed, TooWide, Unsatisfiable}
 use Rattle.model.specs.declared.answer.Answer.the-variants.{Refused}
-use Rattle.model.specs.Answers.{refusalNumber, isAccepted}
+use Rattle.model.specs.Answers.{isAccepted}
 use Rattle.model.specs.Limits.{mostStanding, mostNumbers, passes}
 use Rattle.model.specs.Operations.{takesSet}
 use Rattle.model.specs.Threads.{KeySet}
 use Rattle.model.specs.State.{issued, isUser, isSegment, segmentAt, owns}
-use Rattle.model.specs.Refusals.{unless, isMalformed, isTooWide, isUnsatisfiable, conditions}
+use Rattle.model.specs.Refusals.{conditions}
 use Rattle.model.specs.Cells.{Cells, stateOf}
 use Rattle.model.specs.Stores.{stepCells}
 use Rattle.model.specs.History.{Event, history, acceptedOf, issuedBy}
@@ -43,91 +43,11 @@ use Rattle.model.specs.Theorems.Mirror.{Mirrors}
 use Rattle.model.specs.HistoryLocks.{standingProducts}
 use Rattle.model.specs.Theorems.StoredLocks.{Stores}
 use Rattle.model.specs.Theorems.LockTexts.{Allowed, Satisfiable, Room, TextJudged, LockTexts}
-use Rattle.base.proofs.Lists.{caseBool, clash, isSome-some}
+use Rattle.base.proofs.Lists.{caseBool, isSome-some}
 use Rattle.model.proofs.Refusals.Refusing.{judged-refused, judged-accepted, answer-decoded}
 use Rattle.model.proofs.Agreement.Mirror.{mirror}
 use Rattle.model.proofs.Agreement.StoredLocks.{stored-locks}
-
--- ---- the conditions, over any tests
-
-abbrev tests : Bool → Bool → Bool → Bool → Outcome → Bool → List (Condition Refusal)
-tests user segment owner fit x over =
-    unless user UnknownUser
-    ∷ unless segment NoSegment
-    ∷ unless owner NotOwner
-    ∷ unless fit Unfit
-    ∷ when (isMalformed x) Malformed
-    ∷ when (isTooWide x) TooWide
-    ∷ when (isUnsatisfiable x) Unsatisfiable
-    ∷ when over Full
-    ∷ []
-
--- what the text and the limit refuse
-abbrev late : Outcome → Bool → Option Refusal
-late malformed over = some Malformed
-late tooWide over = some TooWide
-late unsatisfiable over = some Unsatisfiable
-late (accepted ps) over = cond over (some Full) none
-
--- a refusal that the tests before the text do not give
-abbrev isLate : Option Refusal → Bool
-isLate none = true
-isLate (some r) = ltb 7 (refusalNumber r)
-
-reaches-text : (x : Outcome) (over : Bool) → firstRefusal (tests true true true true x over) ≡ late x over
-reaches-text (accepted ps) over = refl
-reaches-text malformed over = refl
-reaches-text tooWide over = refl
-reaches-text unsatisfiable over = refl
-
-passed : (u s o f : Bool) (x : Outcome) (over : Bool) (r : Option Refusal) → isLate r ≡ true → firstRefusal (tests u s o f x over) ≡ r
-    → (u ≡ true) × (s ≡ true) × (o ≡ true) × (f ≡ true)
-passed false s o f x over r l e = clash l (sym (ap isLate e))
-passed true false o f x over r l e = clash l (sym (ap isLate e))
-passed true true false f x over r l e = clash l (sym (ap isLate e))
-passed true true true false x over r l e = clash l (sym (ap isLate e))
-passed true true true true x over r l e = (refl, refl, refl, refl)
-
-late-malformed : (x : Outcome) (over : Bool) → late x over ≡ some Malformed → x ≡ malformed
-late-malformed (accepted ps) true e = cc
-late-malformed (accepted ps) false e = cc
-late-malformed malformed over e = refl
-late-malformed tooWide over e = cc
-late-malformed unsatisfiable over e = cc
-
-late-wide : (x : Outcome) (over : Bool) → late x over ≡ some TooWide → x ≡ tooWide
-late-wide (accepted ps) true e = cc
-late-wide (accepted ps) false e = cc
-late-wide malformed over e = cc
-late-wide tooWide over e = refl
-late-wide unsatisfiable over e = cc
-
-late-unsatisfiable : (x : Outcome) (over : Bool) → late x over ≡ some Unsatisfiable → x ≡ unsatisfiable
-late-unsatisfiable (accepted ps) true e = cc
-late-unsatisfiable (accepted ps) false e = cc
-late-unsatisfiable malformed over e = cc
-late-unsatisfiable tooWide over e = cc
-late-unsatisfiable unsatisfiable over e = refl
-
-late-full : (x : Outcome) (over : Bool) → late x over ≡ some Full → (ps : Sum) × (x ≡ accepted ps) × (over ≡ true)
-late-full (accepted ps) true e = (ps, refl, refl)
-late-full (accepted ps) false e = (ps, refl, cc)
-late-full malformed over e = ([], cc, cc)
-late-full tooWide over e = ([], cc, cc)
-late-full unsatisfiable over e = ([], cc, cc)
-
-late-none : (x : Outcome) (over : Bool) → late x over ≡ none → (ps : Sum) × (x ≡ accepted ps) × (over ≡ false)
-late-none (accepted ps) true e = (ps, refl, cc)
-late-none (accepted ps) false e = (ps, refl, refl)
-late-none malformed over e = ([], cc, cc)
-late-none tooWide over e = ([], cc, cc)
-late-none unsatisfiable over e = ([], cc, cc)
-
-late-over : (ps : Sum) (x : Outcome) (over b : Bool) → x ≡ accepted ps → over ≡ b → late x over ≡ cond b (some Full) none
-late-over ps x over b e f = ap (λ (y : Outcome). late y over) e ∙ ap (λ (t : Bool). cond t (some Full) none) f
-
-abbrev overfull : ℕ → ℕ → ℕ → Bool
-overfull standing more numbers = passes mostStanding (standing + more) || passes mostNumbers (suc numbers)
+use Rattle.model.proofs.Agreement.TextTests.{tests, late, isLate, reaches-text, passed, late-malformed, late-wide, late-unsatisfiable, late-full, late-none, late-over, overfull}
 
 -- ---- of an L after some events
 
@@ -216,18 +136,18 @@ module _ (es : List Event) (d : Cells) (m : Mirrors es (stateOf d)) (k : Stores 
 
   -- ---- the limits
 
-  over-as : (ps : Sum) → outcome ≡ accepted ps → over ≡ overfull (standingProducts outcomeOf es b) (length ps) (acceptedOf 76 es)
+  over-as : (ps : Sum) → outcome ≡ accepted ps → over ≡ overfull (standingProducts outcomeOf es b) (length ps) (acceptedOf letters.L es)
   over-as ps q =
       ap (λ (o : Outcome). overfull (length (segmentAt (stateOf d) b .products)) (length (sumIn o)) (stateOf d .lockNumbers)) q
       ∙ rw (k .count b, m .lockNumbers)
 
   room-over : (ps : Sum) → outcome ≡ accepted ps → Room es b (length ps) → over ≡ false
-  room-over ps q r = over-as ps q ∙ rw (le-ltb 8 (standingProducts outcomeOf es b + length ps) (r .products), le-ltb 65536 (suc (acceptedOf 76 es)) (r .numbers))
+  room-over ps q r = over-as ps q ∙ rw (le-ltb 8 (standingProducts outcomeOf es b + length ps) (r .products), le-ltb 65536 (suc (acceptedOf letters.L es)) (r .numbers))
 
   over-room : (ps : Sum) → outcome ≡ accepted ps → over ≡ false → Room es b (length ps)
   over-room ps q h =
-      let (p, n) = neither (passes mostStanding (standingProducts outcomeOf es b + length ps)) (passes mostNumbers (suc (acceptedOf 76 es))) (sym (over-as ps q) ∙ h) in
-      record { products = ltb-false 8 (standingProducts outcomeOf es b + length ps) p; numbers = ltb-false 65536 (suc (acceptedOf 76 es)) n }
+      let (p, n) = neither (passes mostStanding (standingProducts outcomeOf es b + length ps)) (passes mostNumbers (suc (acceptedOf letters.L es))) (sym (over-as ps q) ∙ h) in
+      record { products = ltb-false 8 (standingProducts outcomeOf es b + length ps) p; numbers = ltb-false 65536 (suc (acceptedOf letters.L es)) n }
 
   -- an accepted text's formula, and the products of such a one
   satisfiable : (ps : Sum) → outcome ≡ accepted ps → Satisfiable (issuedBy es) text

@@ -1,7 +1,7 @@
 -- What the table asks of the state is read off the agreement of model and history; the makers are counted along the
 -- list of calls, and a segment's own key is what the arrays say it is.
 use mathlib.Core.Path.{_≡_, refl, sym, ap, _∙_}
-use mathlib.Core.Bool.{true, not}
+use mathlib.Core.Bool.{true, not, cond}
 use mathlib.Core.List.{List, [], _∷_, _++_, map, append-nil, append-assoc, List·Memᴰ}
 use mathlib.Core.Option.{Option, none, some}
 use Prim.Native.Nat.{ℕ}
@@ -18,10 +18,10 @@ use Rattle.formula.specs.Meaning.{textHolds}
 use Rattle.formula.specs.Compiler.{Compiler, everything}
 use Rattle.formula.proofs.Opening.{laws, opening-law, holds-spelt}
 use Rattle.call.specs.declared.request.Request.{Request}
-use Rattle.call.specs.declared.request.Request.the-variants as request
 use Rattle.call.specs.declared.request.Decoded.{Decoded}
 use Rattle.call.specs.declared.request.Decoded.the-variants.{WellFormed, Corrupt as NotWellFormed}
 use Rattle.call.specs.Calls.{Call, decoded}
+use Rattle.call.specs.Letters as letters
 use Rattle.call.specs.Requests.{callOf}
 use Rattle.base.specs.Conditions.{firstRefusal}
 use Rattle.call.proofs.Requests.{requests-exactly}
@@ -33,16 +33,21 @@ use Rattle.model.specs.Refusals.{conditions}
 use Rattle.model.specs.Effects.{update, answer}
 use Rattle.model.specs.Model.{judged, stepDecoded, step}
 use Rattle.model.specs.Cells.{Cells, Sized, rowAt, tableAt, keyIn, hasKey, stateOf}
-use Rattle.model.specs.History.{Event, Entry, Lock, event, history, counts, acceptedOf, makersOf, issuedBy}
+use Rattle.model.specs.History.{History, Event, Entry, Lock, event, emptyHistory, editorIn, advance, history, counts, acceptedOf, makerIn, makersFrom, issuedBy}
 use Rattle.model.specs.Replay.{stateAfter, eventsOf}
 use Rattle.model.specs.Theorems.Mirror.{MirrorByLaws, Spelt, Mirror}
 use Rattle.base.proofs.Lists.{caseBool, same-truth, eqb-self, any-passes, at-lt, isSome-some}
+use Rattle.model.proofs.Computed.EveryRequest.{every-request}
 use Rattle.model.proofs.Refinement.Literals.{keyIn-segment}
 use Rattle.model.proofs.Agreement.Segments.{entryOf, entry-low, entry-is}
-use Rattle.model.proofs.Agreement.Locks.{found, lock-homed, lock-stands, lock-made}
-use Rattle.model.proofs.Agreement.EveryCall.{Agrees, agree, found-as, thread-as}
+use Rattle.model.proofs.Agreement.Locks.{found}
+use Rattle.model.proofs.Agreement.ReadLocks.{lock-homed, lock-stands, lock-made}
+use Rattle.model.proofs.Agreement.Agrees.{Agrees}
+use Rattle.model.proofs.Agreement.EveryCall.{agree, found-as, thread-as}
 use Rattle.model.proofs.Refinement.SegmentTables.{kept-list}
-use Rattle.model.proofs.Refinement.Stores.{segment-is, segment-shaped, handed, follows}
+use Rattle.model.proofs.Refinement.Serving.{segment-at}
+use Rattle.model.proofs.Refinement.SegmentStores.{segment-shaped, handed}
+use Rattle.model.proofs.Refinement.EveryCall.{follows}
 
 -- ---- threads, segments and locks
 
@@ -70,63 +75,58 @@ module _ (compile : Compiler) (es : List Event) (d : State) (c : Agrees compile 
 
 -- ---- makers
 
--- an accepted call adds a maker exactly where it is a K
-accepted-makers : (compile : Compiler) (d : State) (q : Request) (text : List ℕ) (n : ℕ)
-    → update compile d q text .makers ≡ d .makers ++ makersOf (event (callOf q text) (Accepted n) ∷ [])
-unfolding update
-accepted-makers compile d request.NewUser text n = sym (append-nil (d .makers))
-accepted-makers compile d (request.StartThread a) text n = sym (append-nil (d .makers))
-accepted-makers compile d (request.EndThread a) text n = sym (append-nil (d .makers))
-accepted-makers compile d (request.NewSegment a b) text n = sym (append-nil (d .makers))
-accepted-makers compile d (request.NewKey a) text n = refl
-accepted-makers compile d (request.GiveKey a b k) text n = sym (append-nil (d .makers))
-accepted-makers compile d (request.TakeKey a b k) text n = sym (append-nil (d .makers))
-accepted-makers compile d (request.AddLock a b o) text n = sym (append-nil (d .makers))
-accepted-makers compile d (request.DropLock a b) text n = sym (append-nil (d .makers))
-accepted-makers compile d (request.CallSegment a b) text n = sym (append-nil (d .makers))
-accepted-makers compile d (request.ReturnCall a) text n = sym (append-nil (d .makers))
-accepted-makers compile d (request.Access a b o) text n = sym (append-nil (d .makers))
+module _ (compile : Compiler) (d : State) (h : History) where
+  -- the makers after an event: one more exactly where it is an accepted K
+  abbrev makersWith : Event → List ℕ
+  makersWith e = cond (counts letters.K e) (d .makers ++ editorIn h (e .call .a) ∷ []) (d .makers)
 
-step-makers : (compile : Compiler) (d : State) (x : Call) → step compile d x .state .makers ≡ d .makers ++ makersOf (event x (step compile d x .answer) ∷ [])
+  makers-added : (e : Event) → makersWith e ≡ d .makers ++ makerIn h e
+  makers-added e = caseBool (counts letters.K e) (λ t. simp t) (λ t. simp t (sym (append-nil (d .makers))))
+
+  accepted-makers : (text : List ℕ) (n : ℕ) (q : Request) → update compile d q text .makers ≡ d .makers ++ makerIn h (event (callOf q text) (Accepted n))
+  unfolding update
+  accepted-makers text n q =
+      every-request (λ r. update compile d r text .makers) (λ r. makersWith (event (callOf r text) (Accepted n))) (λ a b c. refl) q
+      ∙ makers-added (event (callOf q text) (Accepted n))
+
+step-makers : (compile : Compiler) (d : State) (h : History) (x : Call)
+    → step compile d x .state .makers ≡ d .makers ++ makerIn h (event x (step compile d x .answer))
 unfolding step
-step-makers compile d x = by-request (decoded x) refl
+step-makers compile d h x = by-request (decoded x) refl
   where
     by-refusal : (q : Request) → x ≡ callOf q (x .text) → (o : Option Refusal)
-        → judged compile d q (x .text) o .state .makers ≡ d .makers ++ makersOf (event x (judged compile d q (x .text) o .answer) ∷ [])
+        → judged compile d q (x .text) o .state .makers ≡ d .makers ++ makerIn h (event x (judged compile d q (x .text) o .answer))
     by-refusal q e none =
         let n = answer compile d q (x .text) in
-        accepted-makers compile d q (x .text) n ∙ ap (λ (y : Call). d .makers ++ makersOf (event y (Accepted n) ∷ [])) (sym e)
+        accepted-makers compile d h (x .text) n q ∙ ap (λ (y : Call). d .makers ++ makerIn h (event y (Accepted n))) (sym e)
     by-refusal q e (some r) = sym (append-nil (d .makers))
 
     by-request : (k : Decoded) → decoded x ≡ k
-        → stepDecoded compile d k (x .text) .state .makers ≡ d .makers ++ makersOf (event x (stepDecoded compile d k (x .text) .answer) ∷ [])
+        → stepDecoded compile d k (x .text) .state .makers ≡ d .makers ++ makerIn h (event x (stepDecoded compile d k (x .text) .answer))
     by-request NotWellFormed e = sym (append-nil (d .makers))
     by-request (WellFormed q) e = by-refusal q (requests-exactly x q .0 e) (firstRefusal (conditions compile d q (x .text)))
 
-makers-cons : (e : Event) (es : List Event) → makersOf (e ∷ []) ++ makersOf es ≡ makersOf (e ∷ es)
-makers-cons e es = caseBool (counts 75 e) (λ t. simp t) (λ t. simp t)
-
-makers-after : (compile : Compiler) (xs : List Call) (d : State) → stateAfter compile d xs .makers ≡ d .makers ++ makersOf (eventsOf compile d xs)
-makers-after compile [] d = sym (append-nil (d .makers))
-makers-after compile (x ∷ xs) d =
+makers-after : (compile : Compiler) (xs : List Call) (d : State) (h : History)
+    → stateAfter compile d xs .makers ≡ d .makers ++ makersFrom h (eventsOf compile d xs)
+makers-after compile [] d h = sym (append-nil (d .makers))
+makers-after compile (x ∷ xs) d h =
     let e = event x (step compile d x .answer) in
     let es = eventsOf compile (step compile d x .state) xs in
-    makers-after compile xs (step compile d x .state)
-    ∙ ap (λ (m : List ℕ). m ++ makersOf es) (step-makers compile d x)
-    ∙ append-assoc (d .makers) (makersOf (e ∷ [])) (makersOf es)
-    ∙ ap (λ (m : List ℕ). d .makers ++ m) (makers-cons e es)
+    makers-after compile xs (step compile d x .state) (advance h e)
+    ∙ ap (λ (m : List ℕ). m ++ makersFrom (advance h e) es) (step-makers compile d h x)
+    ∙ append-assoc (d .makers) (makerIn h e) (makersFrom (advance h e) es)
 
 -- ---- a segment's own key
 
 own-key : (d : Cells) → Sized d → (s : ℕ) → isSegment (stateOf d) s ≡ true → (rest : List Key) × (segmentAt (stateOf d) s .keys ≡ SegmentKey s ∷ rest)
 unfolding stateOf
 own-key d c s h =
-    let lt = handed d c s (ap not h) in
+    let lt = handed d s (ap not h) in
     let g = tableAt (d .segments) s in
     let shape = segment-shaped d c s lt in
     let rest = map keyIn (keep hasKey (tailOf (rowAt g 1))) in (
       rest,
-      ap (λ (x : Segment). x .keys) (segment-is d c s lt)
+      ap (λ (x : Segment). x .keys) (segment-at d s lt)
           ∙ ap (map keyIn) (kept-list s g (omega arith) (shape .cells 1 (omega arith)))
           ∙ ap (λ (k : Key). k ∷ rest) (keyIn-segment s (omega arith)),
     )
@@ -147,7 +147,7 @@ mirror-by-laws compile meaning law xs =
     (record {
       handedOut = issued-as compile es d c;
       lockNumbers = c .counts .4;
-      makers = makers-after compile xs emptyState;
+      makers = makers-after compile xs emptyState emptyHistory;
       threads = c .counts .5;
       live = λ n. ap isSome (found-as compile d (history es) count c n);
       thread = thread-as compile d (history es) count c;

@@ -29,10 +29,13 @@ use Rattle.model.specs.Replay.{reached, stateAfter, eventsOf, answerTo}
 use Rattle.model.specs.HistoryLocks.{productsOf, storedOf}
 use Rattle.model.specs.Theorems.Numbering.{Numbers, NumberingByLaws, Numbering}
 use Rattle.base.proofs.Lists.{eqb-self}
-use Rattle.model.proofs.Agreement.Locks.{found, lock-homed, lock-stores, locks-rise}
-use Rattle.model.proofs.Agreement.EveryCall.{Agrees, agree, thread-as, counted, step-agrees, keys-agree}
+use Rattle.model.proofs.Agreement.Locks.{found}
+use Rattle.model.proofs.Agreement.ReadLocks.{lock-homed, lock-stores, locks-rise}
+use Rattle.model.proofs.Agreement.Agrees.{Agrees}
+use Rattle.model.proofs.Agreement.KeptAgreement.{keys-agree}
+use Rattle.model.proofs.Agreement.EveryCall.{agree, thread-as, counted, step-agrees}
 use Rattle.model.proofs.Agreement.HistoryAnswers.{taken}
-use Rattle.model.proofs.Refinement.Stores.{refinement-by-laws, follows}
+use Rattle.model.proofs.Refinement.EveryCall.{refinement-by-laws, follows}
 
 module _ (compile : Compiler) (holds : Meaning) (law : Laws compile holds) (d : State) (h : History) (count : ℕ → ℕ) (c : Agrees compile d h count) (next : Call) where
   abbrev r : Answer
@@ -57,7 +60,7 @@ module _ (compile : Compiler) (holds : Meaning) (law : Laws compile holds) (d : 
   listed-as b f lt w =
       let d′ = step compile d next .state in
       let same : length (d′ .segments) ≡ length (d .segments) = ap length w ∙ length-set (d .segments) b _ in
-      keys-agree compile holds law text d′ _ (counted count (event next r)) (step-agrees compile holds law d h count next c) b (omega arith)
+      keys-agree compile d′ _ (counted count (event next r)) (step-agrees compile holds law d h count next c) b (omega arith)
       ∙ ap (λ (gs : List Segment). getD gs b blankSegment .keys) w
       ∙ ap (λ (g : Segment). g .keys) (getD-set-same (d .segments) b (f (segmentAt d b)) blankSegment lt)
 

@@ -21,9 +21,11 @@ use Rattle.model.specs.Replay.{stateAfter, eventsOf}
 use Rattle.model.specs.HistoryLocks.{locksOn, productsOf, storedOf, standingProducts, storedFor, storedOpens}
 use Rattle.model.specs.Theorems.StoredLocks.{Stores, StoredLocksByLaws, StoredFormula, StoredLocks}
 use Rattle.base.proofs.Lists.{any-map, any-concatMap, keep-none, length-concatMap, keep-each, concatMap-at, map-same}
-use Rattle.model.proofs.Agreement.Locks.{opens-any, lock-stands, segment-stores, lock-made, lock-stores}
-use Rattle.model.proofs.Agreement.EveryCall.{Agrees, agree}
-use Rattle.model.proofs.Refinement.Stores.{follows}
+use Rattle.model.proofs.Agreement.StandingLocks.{opens-any}
+use Rattle.model.proofs.Agreement.ReadLocks.{lock-stands, segment-stores, lock-made, lock-stores}
+use Rattle.model.proofs.Agreement.Agrees.{Agrees}
+use Rattle.model.proofs.Agreement.EveryCall.{agree}
+use Rattle.model.proofs.Refinement.EveryCall.{follows}
 
 module _ (compile : Compiler) (meaning : Meaning) (law : Laws compile meaning) (es : List Event) (d : State) (c : Agrees compile d (history es) (λ k. acceptedOf k es)) where
   stores-as : (s : ℕ) → segmentAt d s .products ≡ concatMap (storedOf compile) (locksOn es s)

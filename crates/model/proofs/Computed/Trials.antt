@@ -1,33 +1,26 @@
 -- The trials, by computing.
 use mathlib.Core.Path.{refl}
-use Rattle.product.specs.Atom.{orderOf, compareAtoms, compareLiterals}
-use Rattle.product.specs.Product.{opens, insert, union, clashes, contradictory, sameProduct}
-use Rattle.product.specs.Sum.{joinEach, joinAll, present, consistent, firsts, narrow, fitsNode}
-use Rattle.product.specs.Code.{keyCode, codeOf, keyAt, literalAt}
-use Rattle.formula.specs.Text.{issuedTo}
-use Rattle.formula.specs.Nodes.{products, fits, listOf}
-use Rattle.formula.specs.Internal.Reader.{readDigits, readNumber, readAtom, readNots, readText}
-use Rattle.formula.specs.Outcome.{outcomeOf}
-use Rattle.base.specs.Bytes.{bytes}
-use Rattle.call.specs.Calls.{decodedOf}
-use Rattle.model.specs.Refusals.{openingProduct, conditions}
-use Rattle.model.specs.Effects.{update, answer}
-use Rattle.model.specs.Model.{step}
-use Rattle.model.specs.Cells.{stateOf}
-use Rattle.model.specs.Stores.{store, stepCells}
-use Rattle.model.specs.Theorems.Trials.{Trials}
+use Rattle.model.specs.Notation.{Happens}
+use Rattle.model.specs.Theorems.Trials.{users, segments, liveThreads, listed, frames, Trials}
+use Rattle.model.proofs.Computing.{computing}
+
+-- the limits, from both sides
+limits-happen : Happens users × Happens segments × Happens liveThreads × Happens listed × Happens frames
+unfolding computing
+limits-happen = (refl, refl, refl, refl, refl)
 
 pub trials : Trials
-unfolding bytes outcomeOf issuedTo readText readNots readAtom readNumber readDigits listOf products fits fitsNode narrow firsts consistent present sameProduct joinAll joinEach union insert contradictory clashes compareLiterals compareAtoms orderOf keyCode codeOf keyAt literalAt opens decodedOf openingProduct conditions update answer step stateOf store stepCells
+unfolding computing
 trials =
+    let (most-users, most-segments, most-threads, most-listed, most-frames) = limits-happen in
     record {
       table = refl;
       identityHappens = refl;
-      usersHappen = refl;
-      segmentsHappen = refl;
-      threadsHappen = refl;
-      listedHappens = refl;
-      framesHappen = refl;
+      usersHappen = most-users;
+      segmentsHappen = most-segments;
+      threadsHappen = most-threads;
+      listedHappens = most-listed;
+      framesHappen = most-frames;
       lastThread = refl;
       noThread = refl;
       lastLock = refl;

@@ -2,7 +2,7 @@
 -- list that is closed up keeps it, and products are stored after those that stand.
 use mathlib.Core.Path.{_≡_, refl, sym, ap, ap₂, _∙_}
 use mathlib.Core.Bool.{Bool, true, false, not}
-use mathlib.Core.List.{List, [], _∷_, _++_, map, append-nil}
+use mathlib.Core.List.{List, [], _∷_, _++_, map, map-append, append-nil}
 use Prim.Native.Nat.{ℕ, zero, suc, _+_, _-_, _≤_, _<_}
 use native.Mathlib.Omega.{arith}
 use lib.Dec.{eqb, ltb}
@@ -26,7 +26,7 @@ use Rattle.model.specs.State.{Segment, LockProduct, isOfLock}
 use Rattle.model.specs.Effects.{withKeys, giveKey, takeKey, addProducts, dropProducts}
 use Rattle.model.specs.Cells.{Row, Table, cell, rowAt, ownerCell, kindCell, noKey, definedCell, keyIn, hasKey, keysIn, keyRow, usedRows, productIn, listRow, segmentOf}
 use Rattle.model.specs.Stores.{newSegment, giveCode, takeCode, endRows, productRow, addRows, dropRows}
-use Rattle.base.proofs.Lists.{All, caseBool, keep-append, keep-all, keep-map, keep-same, keep-passes, length-keep, map-append, All-append, All-keep}
+use Rattle.base.proofs.Lists.{All, caseBool, keep-append, keep-all, keep-map, keep-same, keep-passes, length-keep, All-append, All-keep}
 use Rattle.model.proofs.Refinement.Literals.{keyIn-segment, keyIn-defined, literal-read}
 use Rattle.model.proofs.Refinement.ProductRows.{Readable, Eights, used-endRows, used-addRows, used-dropRows, products-read, length-storeRows, eights-storeRows, eights-used, eights-products}
 

@@ -1,6 +1,6 @@
 -- Demand 1. One call answers by the first of its conditions that holds, so each part is a law of that first one over
--- any list of conditions; of the table itself only two facts are read off, request by request: no condition refuses by
--- 18, and the numbers rise.
+-- any list of conditions; of the table itself only two facts are computed, for every request at once: no condition
+-- refuses by 18, and the numbers rise.
 use mathlib.Core.Path.{_≡_, refl, sym, ap, _∙_}
 use mathlib.Core.Bool.{Bool, true, false}
 use mathlib.Core.List.{List, [], _∷_, List·Memᴰ, List·Memᴰ·head, List·Memᴰ·tail}
@@ -12,7 +12,6 @@ use lib.Dec.{eqb, ltb}
 use borrow.Author.Tests.{ltb-true}
 use Rattle.formula.specs.Compiler.{Compiler}
 use Rattle.call.specs.declared.request.Request.{Request}
-use Rattle.call.specs.declared.request.Request.the-variants as request
 use Rattle.call.specs.declared.request.Decoded.{Decoded}
 use Rattle.call.specs.declared.request.Decoded.the-variants.{WellFormed, Corrupt as NotWellFormed}
 use Rattle.call.specs.Calls.{Call, decoded}
@@ -30,6 +29,7 @@ use Rattle.model.specs.Cells.{Cells, stateOf}
 use Rattle.model.specs.Stores.{judgedCells, stepCellsDecoded, stepCells}
 use Rattle.model.specs.Theorems.Refusing.{someHolds, FirstHolds, rank, ranks, Refusing, InOrder}
 use Rattle.base.proofs.Lists.{caseBool, clash}
+use Rattle.model.proofs.Computed.EveryRequest.{every-request}
 
 -- ---- the first condition that holds
 
@@ -105,33 +105,12 @@ isCorrupt r = eqb (refusalNumber r) 18
 never-corrupt : (compile : Compiler) (d : State) (q : Request) (text : List ℕ)
     → any (λ c. isCorrupt (c .refusal)) (conditions compile d q text) ≡ false
 unfolding conditions
-never-corrupt compile d request.NewUser text = refl
-never-corrupt compile d (request.StartThread a) text = refl
-never-corrupt compile d (request.EndThread a) text = refl
-never-corrupt compile d (request.NewSegment a b) text = refl
-never-corrupt compile d (request.NewKey a) text = refl
-never-corrupt compile d (request.GiveKey a b c) text = refl
-never-corrupt compile d (request.TakeKey a b c) text = refl
-never-corrupt compile d (request.AddLock a b c) text = refl
-never-corrupt compile d (request.DropLock a b) text = refl
-never-corrupt compile d (request.CallSegment a b) text = refl
-never-corrupt compile d (request.ReturnCall a) text = refl
-never-corrupt compile d (request.Access a b c) text = refl
+never-corrupt compile d q text =
+    every-request (λ r. any (λ c. isCorrupt (c .refusal)) (conditions compile d r text)) (λ r. false) (λ a b c. refl) q
 
 pub in-order : InOrder
 unfolding conditions
-in-order compile d request.NewUser text = refl
-in-order compile d (request.StartThread a) text = refl
-in-order compile d (request.EndThread a) text = refl
-in-order compile d (request.NewSegment a b) text = refl
-in-order compile d (request.NewKey a) text = refl
-in-order compile d (request.GiveKey a b c) text = refl
-in-order compile d (request.TakeKey a b c) text = refl
-in-order compile d (request.AddLock a b c) text = refl
-in-order compile d (request.DropLock a b) text = refl
-in-order compile d (request.CallSegment a b) text = refl
-in-order compile d (request.ReturnCall a) text = refl
-in-order compile d (request.Access a b c) text = refl
+in-order compile d q text = every-request (λ r. rising (ranks (conditions compile d r text))) (λ r. true) (λ a b c. refl) q
 
 -- ---- one call
 

@@ -11,25 +11,22 @@ use Rattle.registry.specs.Counts.{Handed}
 use Rattle.registry.proofs.defined.Statement.{statement}
 use Rattle.registry.proofs.defined.Tie as tie
 
-module _ (count : ℕ) (makers : Row) {n : ℕ} (c : Counted count mostDefined n) where
-  lesser : {r : ℕ} → r ≡ min n (length makers) → Handed count makers r
-  lesser e =
-      let k = c .count in
-      let b = c .low in
-      let l = length-take (min count mostDefined) makers in
-      record { keys = omega arith; low = omega arith }
+lesser : (count : ℕ) (makers : Row) {n r : ℕ} → Counted count mostDefined n → Counted n (length makers) r → Handed count makers r
+lesser count makers c m =
+    let k = c .count in
+    let b = c .low in
+    let e = m .count in
+    let l = length-take (min count mostDefined) makers in
+    record { keys = omega arith; low = omega arith }
 
 returns : tie.Need-returns
-returns c = lesser _ _ (c .before .clamp .ensures) (search needs)
-
-returns-2 : tie.Need-returns-2
-returns-2 c = lesser _ _ (c .before .clamp .ensures) (search needs)
+returns c = lesser _ _ (c .before .count-in-u32 .ensures) (c .at-most .ensures)
 
 pub defined-spec : {M : Type 1} → statement M
 defined-spec =
     tie.close
     (tie.spec
-    (λ c. search needs)  -- index-clamp
-    (λ c κs. search needs)  -- clamp-requires
-    returns
-    returns-2)
+    (λ c. search needs)  -- element-copy-out-count-in-u32
+    (λ c κs. search needs)  -- count-in-u32-requires
+    (λ c κs. search needs)  -- at-most-requires
+    returns)

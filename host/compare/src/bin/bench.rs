@@ -6,7 +6,7 @@
 //! of two keys or more, or more than [`JOURNAL_LIMIT`] times on a journal.
 
 use compare::Rows;
-use compare::journal::{ACCEPTED, END, RECORD, Values};
+use compare::journal::{ACCEPTED, END, RECORD, Values, bare};
 use compare::texts::{is_limited, texts};
 use compare::timing::{ROUNDS, Times, measure};
 use reference::Issued;
@@ -20,12 +20,7 @@ const TEXT_LIMIT: f64 = 1.0;
 /// The most that it may be on a journal.
 const JOURNAL_LIMIT: f64 = 1.5;
 
-const ISSUED: Issued = Issued {
-    users: 65_536,
-    threads: 65_536,
-    segments: 65_536,
-    defined: 65_536,
-};
+const ISSUED: Issued = Issued::ALL;
 
 fn proved(text: &[u8], rows: &mut Rows) {
     black_box(compare::compile(black_box(text), black_box(&ISSUED), rows));
@@ -98,24 +93,11 @@ fn print_texts() -> usize {
     slow
 }
 
-/// A record that fits, with a text of this length.
-fn record(letter: u8, text_length: usize) -> Record {
-    Record {
-        letter,
-        a: 0,
-        b: 0,
-        c: 0,
-        text: vec![b'!'; text_length],
-    }
-}
-
 /// The most records of 9 bytes that a file holds, their letters drawn from
 /// these.
 fn file_without_texts(letters: &[u8]) -> Vec<u8> {
     let mut random = Random::new(1);
-    let records: Vec<Record> = (0..7_280)
-        .map(|_| record(random.pick(letters), 0))
-        .collect();
+    let records: Vec<Record> = (0..7_280).map(|_| bare(random.pick(letters), 0)).collect();
     let file = write(&records);
     assert_eq!(file.len(), 65_527);
     file
@@ -123,7 +105,7 @@ fn file_without_texts(letters: &[u8]) -> Vec<u8> {
 
 /// The most records with the longest text that a file holds.
 fn file_of_longest_texts() -> Vec<u8> {
-    let file = write(&vec![record(b'L', 96); 624]);
+    let file = write(&vec![bare(b'L', 96); 624]);
     assert_eq!(file.len(), 65_527);
     file
 }
@@ -225,16 +207,16 @@ fn print_journals() -> usize {
     println!("| Journal | Bytes | Records | Proved ns | Reference ns | Ratio | Limit |");
     println!("|---|---:|---:|---:|---:|---:|---:|");
     let ten = write(&[
-        record(b'U', 0),
-        record(b'N', 0),
-        record(b'N', 0),
-        record(b'K', 0),
-        record(b'G', 0),
-        record(b'L', 5),
-        record(b'L', 2),
-        record(b'S', 0),
-        record(b'C', 0),
-        record(b'A', 0),
+        bare(b'U', 0),
+        bare(b'N', 0),
+        bare(b'N', 0),
+        bare(b'K', 0),
+        bare(b'G', 0),
+        bare(b'L', 5),
+        bare(b'L', 2),
+        bare(b'S', 0),
+        bare(b'C', 0),
+        bare(b'A', 0),
     ]);
     let calls = file_without_texts(b"C");
     let mixed = file_without_texts(b"USENKGTDCRA");
@@ -249,12 +231,12 @@ fn print_journals() -> usize {
         (
             "append without text",
             &ten,
-            measure_append(&ten, &record(b'R', 0)),
+            measure_append(&ten, &bare(b'R', 0)),
         ),
         (
             "append, longest text",
             &ten,
-            measure_append(&ten, &record(b'L', 96)),
+            measure_append(&ten, &bare(b'L', 96)),
         ),
     ];
     let mut slow = 0;

@@ -8,9 +8,10 @@
 
 use super::ACCESSES;
 use super::tally::Tally;
-use compare::guard::{Cells, Guard, outcome};
+use compare::guard::{Cells, Guard, Own, outcome};
 use reference::calls::{Caller, WORLDS};
 use reference::journal::Record;
+use reference::letter::{Field, Letter};
 use reference::random::Random;
 
 const ARRAYS: usize = 12_000;
@@ -119,7 +120,9 @@ fn make_calls(guard: &mut Guard, caller: &mut Caller, calls: usize) {
 
 /// Has a call name numbers that are in the cells, or at the edges.
 fn aim(random: &mut Random, record: &mut Record, cells: &Cells) {
-    let letter = record.letter;
+    let Some(letter) = Letter::of(record.letter) else {
+        return;
+    };
     let mut number = |right: u16| match random.below(6) {
         0 => cells.threads[random.below(64)][0][random.below(3)],
         1 => (cells.locks[random.below(64)][random.below(8)][0] / 65_536) as u16,
@@ -127,16 +130,13 @@ fn aim(random: &mut Random, record: &mut Record, cells: &Cells) {
         3 => random.pick(&EDGES) as u16,
         _ => right,
     };
-    if letter != b'U' {
-        record.a = number(record.a);
+    let values = [&mut record.a, &mut record.b, &mut record.c];
+    for (value, field) in values.into_iter().zip(letter.fields()) {
+        if field.is_handed_out() {
+            *value = number(*value);
+        }
     }
-    if b"GTLDCA".contains(&letter) {
-        record.b = number(record.b);
-    }
-    if b"GT".contains(&letter) {
-        record.c = number(record.c);
-    }
-    if b"GTL".contains(&letter) && !random.one_in(4) {
+    if letter.fields().starts_with(&[Field::User, Field::Segment]) && !random.one_in(4) {
         // A segment has one owner among 65,536 numbers.
         record.b %= 64;
         record.a = cells.segments[usize::from(record.b)][0][0];
@@ -149,45 +149,105 @@ fn differences<T: PartialEq>(before: &[T], after: &[T]) -> Vec<usize> {
     places.filter(|n| before[*n] != after[*n]).collect()
 }
 
+/// Where an array may change.
+#[derive(Clone, Copy)]
+enum Places {
+    None,
+    This(usize),
+    /// One, whichever it is.
+    Any,
+}
+
+impl Places {
+    fn have(self, changed: &[usize]) -> bool {
+        match self {
+            Places::None => changed.is_empty(),
+            Places::This(only) => changed.iter().all(|place| *place == only),
+            Places::Any => changed.len() <= 1,
+        }
+    }
+}
+
+/// What an accepted call may change.
+struct Confines {
+    registry: bool,
+    makers: Places,
+    segments: Places,
+    locks: Places,
+    threads: Places,
+}
+
+const NOTHING: Confines = Confines {
+    registry: false,
+    makers: Places::None,
+    segments: Places::None,
+    locks: Places::None,
+    threads: Places::None,
+};
+
+const REGISTRY: Confines = Confines {
+    registry: true,
+    ..NOTHING
+};
+
+fn confines(letter: Letter, record: &Record, answer: u16) -> Confines {
+    let new = Places::This(usize::from(answer));
+    let segment = Places::This(usize::from(record.b));
+    match letter {
+        Letter::NewUser => REGISTRY,
+        Letter::StartThread => Confines {
+            threads: Places::Any,
+            ..REGISTRY
+        },
+        Letter::EndThread | Letter::CallSegment | Letter::ReturnCall => Confines {
+            threads: Places::Any,
+            ..NOTHING
+        },
+        Letter::NewSegment => Confines {
+            segments: new,
+            locks: new,
+            ..REGISTRY
+        },
+        Letter::NewKey => Confines {
+            makers: new,
+            ..REGISTRY
+        },
+        Letter::GiveKey | Letter::TakeKey => Confines {
+            segments: segment,
+            ..NOTHING
+        },
+        Letter::AddLock => Confines {
+            locks: segment,
+            ..REGISTRY
+        },
+        Letter::DropLock => Confines {
+            locks: Places::Any,
+            ..NOTHING
+        },
+        Letter::Access => NOTHING,
+    }
+}
+
 /// An accepted call may change this much and no more.
 fn assert_confined(record: &Record, answer: u16, before: &Cells, after: &Cells) {
-    let letter = record.letter;
-    let segment = usize::from(record.b);
-    let mut confined = b"USNKL".contains(&letter) || before.registry == after.registry;
-    let makers = differences(&before.makers, &after.makers);
-    confined &= match letter {
-        b'K' => makers.iter().all(|place| *place == usize::from(answer)),
-        _ => makers.is_empty(),
-    };
-    let segments = differences(&before.segments, &after.segments);
-    confined &= match letter {
-        b'N' => segments.iter().all(|place| *place == usize::from(answer)),
-        b'G' | b'T' => segments.iter().all(|place| *place == segment),
-        _ => segments.is_empty(),
-    };
-    let locks = differences(&before.locks, &after.locks);
-    confined &= match letter {
-        b'N' => locks.iter().all(|place| *place == usize::from(answer)),
-        b'L' => locks.iter().all(|place| *place == segment),
-        b'D' => locks.len() <= 1,
-        _ => locks.is_empty(),
-    };
-    let threads = differences(&before.threads, &after.threads);
-    confined &= match letter {
-        b'S' | b'E' | b'C' | b'R' => threads.len() <= 1,
-        _ => threads.is_empty(),
-    };
+    let letter = Letter::of(record.letter).expect("an accepted call has a letter");
+    let may = confines(letter, record, answer);
+    let confined = (may.registry || before.registry == after.registry)
+        && may.makers.have(&differences(&before.makers, &after.makers))
+        && may
+            .segments
+            .have(&differences(&before.segments, &after.segments))
+        && may.locks.have(&differences(&before.locks, &after.locks))
+        && may
+            .threads
+            .have(&differences(&before.threads, &after.threads));
     assert!(confined, "{record:?} changes what it is not about");
 }
 
 /// One call on arrays of any numbers. Answers the outcome.
 fn tried(guard: &mut Guard, record: &Record) -> u32 {
-    let Record {
-        letter, a, b, c, ..
-    } = *record;
-    let text = &record.text[..];
     let before = guard.clone();
-    let answer = guard.call(letter, a, b, c, text);
+    let answer = guard.call(record.letter, record.a, record.b, record.c, &record.text);
     match outcome(answer) {
         0 => assert_confined(record, answer as u16, before.cells(), guard.cells()),
         14 => assert!(guard.cells() == before.cells(), "{record:?}"),
@@ -197,12 +257,10 @@ fn tried(guard: &mut Guard, record: &Record) -> u32 {
         }
     }
     let mut direct = before;
-    let directly = match (letter, b, c, text) {
-        (b'C', _, 0, []) => direct.call_segment(a, b),
-        (b'R', 0, 0, []) => direct.return_call(a),
-        (b'A', _, _, []) => direct.access(a, b, c),
-        _ => return outcome(answer),
+    let Some(own) = Own::of_call(record) else {
+        return outcome(answer);
     };
+    let directly = direct.call_own(own, record.a, record.b, record.c);
     assert_eq!(directly, answer, "{record:?} by its own function");
     assert!(
         direct.cells() == guard.cells(),

@@ -5,9 +5,10 @@
 
 use super::ACCESSES;
 use super::tally::Tally;
-use compare::guard::{Cells, Guard, coded, filled_with, outcome};
+use compare::guard::{Cells, Guard, Own, coded, filled_with, outcome};
 use reference::guard::Answer;
 use reference::journal::Record;
+use reference::letter::Letter;
 use reference::trials;
 use std::collections::BTreeMap;
 
@@ -47,10 +48,8 @@ impl Pair {
         } = *record;
         let text = &record.text[..];
         let answer = self.reference.call(letter, a, b, c, text);
-        let given = match (letter, b, c, text) {
-            (b'C', _, 0, []) if direct => self.proved.call_segment(a, b),
-            (b'R', 0, 0, []) if direct => self.proved.return_call(a),
-            (b'A', _, _, []) if direct => self.proved.access(a, b, c),
+        let given = match Own::of_call(record) {
+            Some(own) if direct => self.proved.call_own(own, a, b, c),
             _ => self.proved.call(letter, a, b, c, text),
         };
         if given != coded(answer) {
@@ -70,9 +69,9 @@ impl Pair {
     fn expect_change(&mut self, record: &Record, answer: u16) {
         let (a, b) = (record.a, usize::from(record.b));
         let (new, cells) = (usize::from(answer), self.proved.cells());
-        match record.letter {
-            b'U' => self.expected.registry = cells.registry,
-            b'S' => {
+        match Letter::of(record.letter).expect("an accepted call has a letter") {
+            Letter::NewUser => self.expected.registry = cells.registry,
+            Letter::StartThread => {
                 self.expected.registry = cells.registry;
                 let place =
                     (0..64).find(|place| cells.threads[*place] != self.expected.threads[*place]);
@@ -82,35 +81,35 @@ impl Pair {
                 self.expected.threads[place] = cells.threads[place];
                 self.places.insert(answer, place);
             }
-            b'E' => {
+            Letter::EndThread => {
                 let place = self.places.remove(&a).expect("a live thread has a place");
                 self.expected.threads[place] = cells.threads[place];
             }
-            b'N' => {
+            Letter::NewSegment => {
                 self.expected.registry = cells.registry;
                 self.expected.segments[new] = cells.segments[new];
                 self.expected.locks[new] = cells.locks[new];
             }
-            b'K' => {
+            Letter::NewKey => {
                 self.expected.registry = cells.registry;
                 self.expected.makers[new] = cells.makers[new];
             }
-            b'G' | b'T' => self.expected.segments[b] = cells.segments[b],
-            b'L' => {
+            Letter::GiveKey | Letter::TakeKey => self.expected.segments[b] = cells.segments[b],
+            Letter::AddLock => {
                 self.expected.registry = cells.registry;
                 self.expected.locks[b] = cells.locks[b];
                 self.locked.insert(answer, record.b);
             }
-            b'D' => {
+            Letter::DropLock => {
                 let segment = self.locked.remove(&record.b);
                 let segment = usize::from(segment.expect("a standing lock has a segment"));
                 self.expected.locks[segment] = cells.locks[segment];
             }
-            b'C' | b'R' => {
+            Letter::CallSegment | Letter::ReturnCall => {
                 let place = self.places[&a];
                 self.expected.threads[place] = cells.threads[place];
             }
-            _ => {}
+            Letter::Access => {}
         }
     }
 

@@ -1,7 +1,9 @@
 //! Records and journals from a repeatable source of numbers: right ones, and
 //! ones with something wrong in a place that matters.
 
+use reference::calls::shaped;
 use reference::journal::{Record, write};
+use reference::letter::Letter;
 use reference::random::Random;
 
 // Document 01's sizes, once more: the reference's could be wrong.
@@ -15,26 +17,9 @@ const RECORD_HEAD_BYTES: usize = 9;
 /// The most bytes of a text.
 const MAX_TEXT_BYTES: usize = 96;
 
-/// The twelve calls.
-pub const LETTERS: [u8; 12] = *b"USENKGTLDCRA";
-
-/// The letters whose calls name a, those that name b, and those that name c.
-const NAMING: [&[u8]; 3] = [b"SENKGTLDCRA", b"NGTLDCA", b"GTLA"];
-
 /// Whether a letter's call names a field: 0 for a, 1 for b, 2 for c.
-pub fn names(letter: u8, field: usize) -> bool {
-    NAMING[field].contains(&letter)
-}
-
-/// A record of a letter with a text of this length, and 0 in every field.
-pub fn bare(letter: u8, text_length: usize) -> Record {
-    Record {
-        letter,
-        a: 0,
-        b: 0,
-        c: 0,
-        text: vec![b'!'; text_length],
-    }
+pub fn names(letter: Letter, field: usize) -> bool {
+    field < letter.fields().len()
 }
 
 /// The record's field: 0 for a, 1 for b, 2 for c.
@@ -60,31 +45,39 @@ fn text(random: &mut Random, length: usize) -> Vec<u8> {
     let bytes: &[u8] = match random.below(3) {
         0 => return (0..length).map(|_| random.bits() as u8).collect(),
         1 => b"URSD0123456789&|!()",
-        _ => b"USENKGTLDCRA\0\0\0\0\0\0",
+        _ => &[&Letter::ALL.map(Letter::byte)[..], &[0; 6]].concat(),
     };
     (0..length).map(|_| random.pick(bytes)).collect()
 }
 
+/// One of the letters that suit.
+fn letter(random: &mut Random, suits: impl Fn(&Letter) -> bool) -> Letter {
+    let letters: Vec<Letter> = Letter::ALL.into_iter().filter(suits).collect();
+    random.pick(&letters)
+}
+
+fn letter_with_text(random: &mut Random) -> Letter {
+    letter(random, |letter| letter.has_text())
+}
+
+fn letter_without_text(random: &mut Random) -> Letter {
+    letter(random, |letter| !letter.has_text())
+}
+
 /// A record of a letter that fits, but for the text's length.
-fn record_of(random: &mut Random, letter: u8, text_length: usize) -> Record {
-    let mut record = bare(letter, 0);
-    for field in 0..3 {
-        if names(letter, field) {
-            *field_mut(&mut record, field) = value(random);
-        }
-    }
-    record.text = text(random, text_length);
-    record
+fn record_of(random: &mut Random, letter: Letter, text_length: usize) -> Record {
+    let text = text(random, text_length);
+    shaped(letter, text, || value(random))
 }
 
 /// A record that fits, with at most this long a text.
 pub fn record(random: &mut Random, most: usize) -> Record {
-    let letter = random.pick(&LETTERS);
-    let length = match (letter, random.below(4)) {
-        (b'L', 0) => 1,
-        (b'L', 1) => most,
-        (b'L', _) => random.between(1, most),
-        _ => 0,
+    let letter = random.pick(&Letter::ALL);
+    let length = match (letter.has_text(), random.below(4)) {
+        (true, 0) => 1,
+        (true, 1) => most,
+        (true, _) => random.between(1, most),
+        (false, _) => 0,
     };
     record_of(random, letter, length)
 }
@@ -94,8 +87,8 @@ pub fn record_of_size(random: &mut Random, size: usize) -> Record {
     let text_length = size - RECORD_HEAD_BYTES;
     assert!(text_length <= MAX_TEXT_BYTES);
     let letter = match text_length {
-        0 => random.pick(b"USENKGTDCRA"),
-        _ => b'L',
+        0 => letter_without_text(random),
+        _ => letter_with_text(random),
     };
     record_of(random, letter, text_length)
 }
@@ -106,7 +99,7 @@ pub fn unfit_record(random: &mut Random) -> Record {
     match random.below(4) {
         0 => record.letter = unknown_letter(random),
         1 => {
-            let letter = random.pick(b"USENKDCR");
+            let letter = letter(random, |letter| !names(*letter, 2));
             record = record_of(random, letter, 0);
             let unnamed: Vec<usize> = (0..3).filter(|field| !names(letter, *field)).collect();
             let wrong = random.pick(&[1, 2, 255, 256, 32_768, 65_535]);
@@ -116,10 +109,11 @@ pub fn unfit_record(random: &mut Random) -> Record {
             // 257 and 300 would fit if only 8 bits of the length counted, 65,537
             // if only 16.
             let length = random.pick(&[0, 0, 97, 97, 98, 255, 257, 300, 65_537]);
-            record = record_of(random, b'L', length);
+            let letter = letter_with_text(random);
+            record = record_of(random, letter, length);
         }
         _ => {
-            let letter = random.pick(b"USENKGTDCRA");
+            let letter = letter_without_text(random);
             let length = random.pick(&[1, 1, 2, 9, 96, 97, 256, 65_536]);
             record = record_of(random, letter, length);
         }
@@ -132,10 +126,10 @@ fn unknown_letter(random: &mut Random) -> u8 {
     loop {
         let letter = match random.below(3) {
             0 => random.bits() as u8,
-            1 => random.pick(&LETTERS) ^ (1 << random.below(8)),
+            1 => random.pick(&Letter::ALL).byte() ^ (1 << random.below(8)),
             _ => random.pick(b"BFHIJMOPQVWXYZ\0 l"),
         };
-        if !LETTERS.contains(&letter) {
+        if Letter::of(letter).is_none() {
             return letter;
         }
     }

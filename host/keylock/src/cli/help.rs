@@ -1,16 +1,26 @@
 //! What `--help` shows.
 
 use super::arguments::Topic;
+use keylock::letters;
 
-pub fn text(topic: Option<Topic>) -> &'static str {
-    match topic {
+pub fn text(topic: Option<Topic>) -> String {
+    let text = match topic {
         None => COMMAND,
         Some(Topic::Asm) => ASM,
         Some(Topic::Dis) => DIS,
         Some(Topic::Run) => RUN,
         Some(Topic::Trace) => TRACE,
-    }
+    };
+    text.replace("{LETTERS}", &letters::table())
+        .replace("{OPTIONS}", OPTIONS)
 }
+
+/// The options of those that write to a file.
+const OPTIONS: &str = "  \
+  -o, --output OUT  write to this file; '-' and none is standard output
+  -h, --help        show this
+  -V, --version     show the version
+";
 
 const COMMAND: &str = "\
 Usage: keylock SUBCOMMAND [OPTION]... [FILE]...
@@ -48,29 +58,14 @@ A text journal has one call a line: its letter, the fields that it names, for L
 the formula, and if you like the answer that 'keylock run' has to expect.
 
   # a comment runs to the end of the line
-  U                           a new user
-  S USER                      start a thread
-  E THREAD                    end it
-  N USER KIND                 a new segment: 0 code, 1 sheet
-  K USER                      a new key
-  G USER SEGMENT KEY          give the key to the segment
-  T USER SEGMENT KEY          take it
-  L USER SEGMENT OPS FORMULA  lock: 1 execute, 2 read, 4 write, and 8 to deny
-  D USER LOCK                 drop the lock
-  C THREAD SEGMENT            call
-  R THREAD                    return
-  A THREAD SEGMENT OP         access: 2 read, 4 write
-  A 0 2 4 -> no 15 0          expects a refusal; '-> ok 2' an answer
+{LETTERS}  A 0 2 4 -> no 15 0          expects a refusal; '-> ok 2' an answer
 
 A formula has keys, U0 R0 S0 D0, with ! & | and brackets, and no blanks. In
 quotes any text may stand, with \" \\ and \xHH; the guard refuses what is no
 formula.
 
 Options:
-  -o, --output OUT  write to this file; '-' and none is standard output
-  -h, --help        show this
-  -V, --version     show the version
-
+{OPTIONS}
 Exit status: 0 fine, 1 mistakes in the text, 2 called wrongly, or couldn't read
 or write.
 
@@ -87,10 +82,7 @@ Where the guard refuses the file, it tells at which byte and why, and writes
 nothing.
 
 Options:
-  -o, --output OUT  write to this file; '-' and none is standard output
-  -h, --help        show this
-  -V, --version     show the version
-
+{OPTIONS}
 Exit status: 0 fine, 1 the file is refused, 2 called wrongly, or couldn't read
 or write.
 
@@ -138,10 +130,7 @@ comments and expected answers stand beside the steps.
 
 Options:
       --html        a page for a browser, in one file, to step through
-  -o, --output OUT  write to this file; '-' and none is standard output
-  -h, --help        show this
-  -V, --version     show the version
-
+{OPTIONS}
 Exit status: 0 fine, 1 the input is at fault (then nothing is written) or an
 expected answer isn't given, 2 called wrongly, or couldn't read or write.
 

@@ -2,9 +2,9 @@
 
 use super::html::{self, escaped, sentence};
 use super::locks;
+use crate::letters::Letter;
 use crate::shown;
 use crate::steps::{Change, OpenCall, Segment, Step, Thread};
-use rotundaaloe::Record;
 use rotundaaloe::formula::Key;
 
 pub fn section(step: &Step) -> String {
@@ -33,13 +33,13 @@ pub fn section(step: &Step) -> String {
 
 /// When a new lock is to open.
 fn formula(step: &Step) -> String {
-    match step.entry.record {
-        Record {
-            letter: b'L', text, ..
-        } => {
-            format!(" if <code>{}</code>", html::formula(&shown::bytes(text)))
-        }
-        _ => String::new(),
+    let record = step.entry.record;
+    match Letter::of(record.letter).is_some_and(Letter::has_text) {
+        true => format!(
+            " if <code>{}</code>",
+            html::formula(&shown::bytes(record.text))
+        ),
+        false => String::new(),
     }
 }
 

@@ -1,6 +1,7 @@
 //! What an accepted call means for those after it, in a sentence or two.
 
 use super::{Judgement, State};
+use crate::letters::Letter;
 use crate::words;
 use reference::history::OpenCall;
 use rotundaaloe::Record;
@@ -14,24 +15,35 @@ pub fn reason(
     judgement: Option<&Judgement>,
 ) -> String {
     let Record { a, b, c, .. } = *record;
-    match record.letter {
-        b'U' => format!("Every thread of user {answer} holds U{answer}."),
-        b'S' => format!("It holds U{a}, its user's key, and R{answer}, its own, until it ends."),
-        b'E' => ended(state, a),
-        b'N' if b == 1 => "Without a lock nobody may read or write it.".to_string(),
-        b'N' => format!("A call of it hands over S{answer}. Without a lock nobody may call it."),
-        b'K' => format!("Only user {a} can give D{answer}, and only to segments of his own."),
-        b'G' | b'T' if is_sheet(state, b) => {
+    let Some(letter) = Letter::of(record.letter) else {
+        return String::new();
+    };
+    match letter {
+        Letter::NewUser => format!("Every thread of user {answer} holds U{answer}."),
+        Letter::StartThread => {
+            format!("It holds U{a}, its user's key, and R{answer}, its own, until it ends.")
+        }
+        Letter::EndThread => ended(state, a),
+        Letter::NewSegment if b == 1 => "Without a lock nobody may read or write it.".to_string(),
+        Letter::NewSegment => {
+            format!("A call of it hands over S{answer}. Without a lock nobody may call it.")
+        }
+        Letter::NewKey => {
+            format!("Only user {a} can give D{answer}, and only to segments of his own.")
+        }
+        Letter::GiveKey | Letter::TakeKey if is_sheet(state, b) => {
             format!("A sheet isn't called, so nobody gets D{c} from it.")
         }
-        b'G' => format!(
+        Letter::GiveKey => format!(
             "New calls of segment {b} hand over D{c}. Open ones keep the keys that they handed over."
         ),
-        b'T' => taken(state, b, c),
-        b'L' => locked(state, record),
-        b'D' => dropped(state, b),
-        b'R' => returned(state, a),
-        _ => judgement.map_or(String::new(), |judgement| granted(judgement, a)),
+        Letter::TakeKey => taken(state, b, c),
+        Letter::AddLock => locked(state, record),
+        Letter::DropLock => dropped(state, b),
+        Letter::ReturnCall => returned(state, a),
+        Letter::CallSegment | Letter::Access => {
+            judgement.map_or(String::new(), |judgement| granted(judgement, a))
+        }
     }
 }
 

@@ -40,7 +40,7 @@ fn drawn(state: &State, record: &Record, judgement: &Judgement) -> Result<u16, R
     match (opening(true), opening(false)) {
         (Some(lock), _) => Err(Refusal::Denied(Lock(lock))),
         (None, None) => Err(Refusal::NotGranted),
-        (None, Some(_)) if record.letter == b'C' && open_calls >= 16 => Err(Refusal::Full),
+        (None, Some(_)) if judgement.operation == 1 && open_calls >= 16 => Err(Refusal::Full),
         (None, Some(lock)) => Ok(lock),
     }
 }

@@ -1,8 +1,8 @@
 //! How the locks decide a C or an A: each standing lock for the operation, and
 //! what the thread's keys do to each of its products.
 
-use super::State;
 use super::view::{self, Lock};
+use super::{State, for_history};
 use crate::words;
 use rotundaaloe::formula::{self, Key};
 use rotundaaloe::{Record, Refusal, Segment, Thread, User};
@@ -151,24 +151,9 @@ impl Literal {
     }
 }
 
-/// The operation of a C or an A that the locks decide: its thread is live, and
-/// its segment takes it.
-fn operation(state: &State, record: &Record) -> Option<u16> {
-    state.history.thread(record.a)?;
-    let segment = state.history.segment(record.b)?;
-    if !record.text.is_empty() {
-        return None;
-    }
-    match (record.letter, record.c, segment.sheet) {
-        (b'C', 0, false) => Some(1),
-        (b'A', 2 | 4, true) => Some(record.c),
-        _ => None,
-    }
-}
-
 /// How the locks decide an answered call. Asked before it is taken in.
 pub fn of(state: &State, record: &Record, answer: Result<u16, Refusal>) -> Option<Judgement> {
-    let operation = operation(state, record)?;
+    let operation = state.history.operation(&for_history(record))?;
     let keys = state.key_set(record.a);
     let locks = view::locks(state, record.b, operation).into_iter();
     let locks = locks.map(|lock| tried(state, record.a, &keys, lock));

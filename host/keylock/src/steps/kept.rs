@@ -2,6 +2,7 @@
 //! made a key, and what the notes call things.
 
 use super::Entry;
+use crate::letters::{Field, Letter};
 use rotundaaloe::Record;
 use rotundaaloe::formula::{self, Issued, Product};
 use std::collections::BTreeMap;
@@ -22,16 +23,29 @@ pub struct Kept {
     makers: Vec<u16>,
     /// The user of each thread, ended ones too.
     users: Vec<u16>,
-    /// By the letter of the call that made it, and its number.
-    names: BTreeMap<(u8, u16), String>,
+    /// What the notes call a thing, by its kind and number.
+    names: BTreeMap<(Field, u16), String>,
 }
 
 impl Kept {
     /// Takes in an accepted call. The counts are those before it.
     pub fn take_in(&mut self, entry: &Entry, answer: u16, issued: Issued) {
         let record = &entry.record;
-        match record.letter {
-            b'L' => {
+        let Some(letter) = Letter::of(record.letter) else {
+            return;
+        };
+        let made = match letter {
+            Letter::NewUser => Some(Field::User),
+            Letter::NewSegment => Some(Field::Segment),
+            Letter::NewKey => {
+                self.makers.push(record.a);
+                Some(Field::Key)
+            }
+            Letter::StartThread => {
+                self.users.push(record.a);
+                Some(Field::Thread)
+            }
+            Letter::AddLock => {
                 let products = formula::compile(record.text, issued);
                 let formula = Formula {
                     text: record.text.to_vec(),
@@ -39,19 +53,24 @@ impl Kept {
                 };
                 self.formulas.insert(answer, formula);
                 self.locks_made += 1;
+                None
             }
-            b'D' => {
+            Letter::DropLock => {
                 self.formulas.remove(&record.b);
+                None
             }
-            b'K' => self.makers.push(record.a),
-            b'S' => self.users.push(record.a),
-            _ => {}
-        }
-        if let (b'U' | b'S' | b'N' | b'K', Some(note)) = (record.letter, &entry.note) {
-            let name = name(&thing(record.letter, answer), note);
+            Letter::EndThread
+            | Letter::GiveKey
+            | Letter::TakeKey
+            | Letter::CallSegment
+            | Letter::ReturnCall
+            | Letter::Access => None,
+        };
+        if let (Some(made), Some(note)) = (made, &entry.note) {
+            let name = name(&thing(made, answer), note);
             let name = name.filter(|name| name.chars().count() <= LONGEST_NAME);
             if let Some(name) = name {
-                self.names.insert((record.letter, answer), name.to_string());
+                self.names.insert((made, answer), name.to_string());
             }
         }
     }
@@ -75,35 +94,30 @@ impl Kept {
     }
 
     pub fn segment_name(&self, number: u16) -> Option<String> {
-        self.names.get(&(b'N', number)).cloned()
+        self.names.get(&(Field::Segment, number)).cloned()
     }
 
     /// What a call names, and what the notes call it.
     pub fn names_in(&self, record: &Record) -> Vec<(String, String)> {
-        let Record { a, b, c, .. } = *record;
-        let named = match record.letter {
-            b'S' | b'N' | b'K' | b'D' => vec![(b'U', a)],
-            b'E' | b'R' => vec![(b'S', a)],
-            b'G' | b'T' => vec![(b'U', a), (b'N', b), (b'K', c)],
-            b'L' => vec![(b'U', a), (b'N', b)],
-            b'C' | b'A' => vec![(b'S', a), (b'N', b)],
-            _ => Vec::new(),
+        let fields = Letter::of(record.letter).map_or(&[][..], Letter::fields);
+        let named = fields.iter().zip([record.a, record.b, record.c]);
+        let name = |(field, number): (&Field, u16)| {
+            let name = self.names.get(&(*field, number))?;
+            Some((thing(*field, number), name.clone()))
         };
-        let name = |(letter, number)| {
-            let name = self.names.get(&(letter, number))?;
-            Some((thing(letter, number), name.clone()))
-        };
-        named.into_iter().filter_map(name).collect()
+        named.filter_map(name).collect()
     }
 }
 
-/// What a call of this letter makes: `segment 2`.
-fn thing(letter: u8, number: u16) -> String {
-    match letter {
-        b'U' => format!("user {number}"),
-        b'S' => format!("thread {number}"),
-        b'N' => format!("segment {number}"),
-        _ => format!("key D{number}"),
+/// A thing as a note begins with it: `segment 2`.
+fn thing(field: Field, number: u16) -> String {
+    match field {
+        Field::User => format!("user {number}"),
+        Field::Thread => format!("thread {number}"),
+        Field::Segment => format!("segment {number}"),
+        Field::Key => format!("key D{number}"),
+        Field::Lock => format!("lock {number}"),
+        Field::Kind | Field::Operations | Field::Operation => number.to_string(),
     }
 }
 

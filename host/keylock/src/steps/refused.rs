@@ -1,6 +1,7 @@
 //! Why a call is refused, in a sentence or two about what stands.
 
 use super::{Judgement, State, shown_keys};
+use crate::letters::{Field, Letter};
 use crate::{shown, spelling, words};
 use rotundaaloe::formula;
 use rotundaaloe::{Record, Refusal};
@@ -12,22 +13,15 @@ pub fn reason(
     refusal: Refusal,
     judgement: Option<&Judgement>,
 ) -> String {
-    let Record { a, b, c, .. } = *record;
+    let Some(letter) = Letter::of(record.letter) else {
+        return NO_SHAPE.to_string();
+    };
     match refusal {
-        Refusal::NotOwner => not_owner(state, record),
-        Refusal::Unfit => unfit(state, record),
-        Refusal::AlreadyPresent => {
-            let list = shown_keys(&state.list(b));
-            format!("D{c} is in segment {b}'s list already: {list}.")
-        }
-        Refusal::NotPresent if record.letter == b'R' => {
-            format!("Thread {a} has no open call to return from.")
-        }
-        Refusal::NotPresent => {
-            let list = shown_keys(&state.list(b));
-            format!("D{c} isn't in segment {b}'s list: {list}.")
-        }
-        Refusal::Full => full(state, record),
+        Refusal::NotOwner
+        | Refusal::Unfit
+        | Refusal::AlreadyPresent
+        | Refusal::NotPresent
+        | Refusal::Full => of_letter(state, letter, record, refusal),
         Refusal::Malformed => malformed(state, record.text),
         Refusal::TooWide => {
             "Some part of the formula needs more than 8 products, or more than 6 keys in one."
@@ -39,31 +33,52 @@ pub fn reason(
         Refusal::Denied(lock) => {
             format!("Deny lock {} opens, and a deny beats every grant.", lock.0)
         }
-        Refusal::NotGranted => judgement.map_or(String::new(), |found| not_granted(found, a)),
-        other => missing(state, record, other),
+        Refusal::NotGranted => {
+            judgement.map_or(String::new(), |found| not_granted(found, record.a))
+        }
+        other => missing(state, letter, record, other),
     }
 }
 
+const NO_SHAPE: &str = "No call has this shape: an unknown letter, a field that should be 0, \
+                        or a text where none belongs.";
+
 /// Refusals 1 to 5, and calls of no known shape.
-fn missing(state: &State, record: &Record, refusal: Refusal) -> String {
-    let Record { a, b, c, .. } = *record;
+fn missing(state: &State, letter: Letter, record: &Record, refusal: Refusal) -> String {
     let issued = state.issued();
+    let named = |wanted: Field| {
+        let fields = letter.fields().iter();
+        let mut values = fields.zip([record.a, record.b, record.c]);
+        let value = values.find(|(field, _)| **field == wanted);
+        value.map_or(0, |(_, value)| value)
+    };
+    let (thread, lock) = (named(Field::Thread), named(Field::Lock));
+    let none = |thing: &str, made: u32, noun: &str| {
+        let so_far = so_far(made, noun);
+        format!("There is no {thing}: {so_far}.")
+    };
     match refusal {
-        Refusal::UnknownUser => format!("There is no user {a}: {}.", so_far(issued.users, "user")),
-        Refusal::NoThread if u32::from(a) < issued.threads => format!("Thread {a} has ended."),
-        Refusal::NoThread => format!("Thread {a} was never started."),
+        Refusal::UnknownUser => {
+            let user = format!("user {}", named(Field::User));
+            none(&user, issued.users, "user")
+        }
+        Refusal::NoThread if u32::from(thread) < issued.threads => {
+            format!("Thread {thread} has ended.")
+        }
+        Refusal::NoThread => format!("Thread {thread} was never started."),
         Refusal::NoSegment => {
-            let made = so_far(issued.segments, "segment");
-            format!("There is no segment {b}: {made}.")
+            let segment = format!("segment {}", named(Field::Segment));
+            none(&segment, issued.segments, "segment")
         }
-        Refusal::NoKey => format!("There is no key D{c}: {}.", so_far(issued.defined, "key")),
-        Refusal::NoLock if u32::from(b) < state.kept.locks_made() => {
-            format!("Lock {b} was dropped.")
+        Refusal::NoKey => {
+            let key = format!("key D{}", named(Field::Key));
+            none(&key, issued.defined, "key")
         }
-        Refusal::NoLock => format!("Lock {b} was never made."),
-        _ => "No call has this shape: an unknown letter, a field that should be 0, \
-              or a text where none belongs."
-            .into(),
+        Refusal::NoLock if u32::from(lock) < state.kept.locks_made() => {
+            format!("Lock {lock} was dropped.")
+        }
+        Refusal::NoLock => format!("Lock {lock} was never made."),
+        _ => NO_SHAPE.to_string(),
     }
 }
 
@@ -75,62 +90,88 @@ fn so_far(count: u32, thing: &str) -> String {
     }
 }
 
+/// Refusals 6 to 10, of which each letter has its own.
+fn of_letter(state: &State, letter: Letter, record: &Record, refusal: Refusal) -> String {
+    let Record { a, b, c, .. } = *record;
+    let list = || shown_keys(&state.list(b));
+    match letter {
+        Letter::NewUser => "There are 32 users, and no more fit.".to_string(),
+        Letter::StartThread => match state.history.live_threads().count() {
+            64.. => "64 threads are live, and no more fit.".to_string(),
+            _ => "All 65,536 thread numbers were handed out.".to_string(),
+        },
+        Letter::EndThread => String::new(),
+        Letter::NewSegment => match refusal {
+            Refusal::Unfit => "A segment is code (0) or a sheet (1).".to_string(),
+            _ => "There are 64 segments, and no more fit.".to_string(),
+        },
+        Letter::NewKey => "There are 1,024 keys, and no more fit.".to_string(),
+        Letter::GiveKey => match refusal {
+            Refusal::NotOwner => not_owner(state, record),
+            Refusal::AlreadyPresent => {
+                format!("D{c} is in segment {b}'s list already: {}.", list())
+            }
+            _ => format!(
+                "Segment {b}'s list has 8 keys, and no more fit: {}.",
+                list()
+            ),
+        },
+        Letter::TakeKey => match refusal {
+            Refusal::NotOwner => not_owner(state, record),
+            _ => format!("D{c} isn't in segment {b}'s list: {}.", list()),
+        },
+        Letter::AddLock => match refusal {
+            Refusal::NotOwner => not_owner(state, record),
+            Refusal::Unfit => unfit_lock(state, record),
+            _ if state.kept.locks_made() > 65_535 => {
+                "All 65,536 lock numbers were handed out.".to_string()
+            }
+            _ => too_many_products(state, record),
+        },
+        Letter::DropLock => {
+            let mut standing = state.history.standing();
+            let lock = standing.find(|(number, _)| *number == b);
+            let segment = lock.map_or(0, |(_, lock)| lock.segment);
+            let owner = owner(state, segment).unwrap_or_default();
+            format!("Lock {b} is on segment {segment}, which belongs to user {owner}.")
+        }
+        Letter::CallSegment => match refusal {
+            Refusal::Unfit => {
+                format!("Segment {b} is a sheet: it is read or written, and not called.")
+            }
+            _ => format!("A lock opens, but thread {a} has 16 open calls, and no more fit."),
+        },
+        Letter::ReturnCall => format!("Thread {a} has no open call to return from."),
+        Letter::Access => match c {
+            2 | 4 => format!("Segment {b} is code: it is called, and not read or written."),
+            _ => "An access is a read (2) or a write (4).".to_string(),
+        },
+    }
+}
+
+fn owner(state: &State, segment: u16) -> Option<u16> {
+    state.history.segment(segment).map(|segment| segment.owner)
+}
+
 fn not_owner(state: &State, record: &Record) -> String {
     let Record { a, b, c, .. } = *record;
-    let owner = |segment| state.history.segment(segment).map(|segment| segment.owner);
-    if record.letter == b'D' {
-        let mut standing = state.history.standing();
-        let lock = standing.find(|(number, _)| *number == b);
-        let segment = lock.map_or(0, |(_, lock)| lock.segment);
-        let owner = owner(segment).unwrap_or_default();
-        return format!("Lock {b} is on segment {segment}, which belongs to user {owner}.");
-    }
-    match (owner(b), state.kept.maker(c)) {
+    match (owner(state, b), state.kept.maker(c)) {
         (Some(owner), _) if owner != a => format!("Segment {b} belongs to user {owner}."),
         (_, Some(maker)) => format!("Key D{c} was made by user {maker}: only the maker gives it."),
         _ => String::new(),
     }
 }
 
-fn unfit(state: &State, record: &Record) -> String {
+fn unfit_lock(state: &State, record: &Record) -> String {
     let Record { b, c, .. } = *record;
-    let sheet = state
-        .history
-        .segment(b)
-        .is_some_and(|segment| segment.sheet);
-    match (record.letter, sheet) {
-        (b'N', _) => "A segment is code (0) or a sheet (1).".to_string(),
-        (b'A', _) if c != 2 && c != 4 => "An access is a read (2) or a write (4).".to_string(),
-        (b'A', _) => format!("Segment {b} is code: it is called, and not read or written."),
-        (b'C', _) => format!("Segment {b} is a sheet: it is read or written, and not called."),
-        (_, _) if c & 7 == 0 || c > 15 => {
-            "A lock has some of execute (1), read (2) and write (4), and maybe deny (8)."
-                .to_string()
-        }
-        (_, true) => format!("Segment {b} is a sheet, which takes read and write only."),
-        (_, false) => format!("Segment {b} is code, which takes execute only."),
+    if c & 7 == 0 || c > 15 {
+        return "A lock has some of execute (1), read (2) and write (4), and maybe deny (8)."
+            .to_string();
     }
-}
-
-fn full(state: &State, record: &Record) -> String {
-    let Record { a, b, .. } = *record;
-    match record.letter {
-        b'U' => "There are 32 users, and no more fit.".to_string(),
-        b'S' if state.history.live_threads().count() >= 64 => {
-            "64 threads are live, and no more fit.".to_string()
-        }
-        b'S' => "All 65,536 thread numbers were handed out.".to_string(),
-        b'N' => "There are 64 segments, and no more fit.".to_string(),
-        b'K' => "There are 1,024 keys, and no more fit.".to_string(),
-        b'G' => format!(
-            "Segment {b}'s list has 8 keys, and no more fit: {}.",
-            shown_keys(&state.list(b))
-        ),
-        b'L' if state.kept.locks_made() > 65_535 => {
-            "All 65,536 lock numbers were handed out.".to_string()
-        }
-        b'L' => too_many_products(state, record),
-        _ => format!("A lock opens, but thread {a} has 16 open calls, and no more fit."),
+    let segment = state.history.segment(b);
+    match segment.is_some_and(|segment| segment.sheet) {
+        true => format!("Segment {b} is a sheet, which takes read and write only."),
+        false => format!("Segment {b} is code, which takes execute only."),
     }
 }
 

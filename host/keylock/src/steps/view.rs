@@ -1,6 +1,7 @@
 //! Where a thread and a segment stand after a call.
 
 use super::{State, keys};
+use crate::letters::Letter;
 use reference::history;
 use rotundaaloe::formula::{self, Key};
 use rotundaaloe::{Record, Refusal};
@@ -84,21 +85,44 @@ pub fn locks(state: &State, segment: u16, operations: u16) -> Vec<Lock> {
     there.map(lock).collect()
 }
 
-/// What an answered call does to its thread. Asked before the call is taken in.
-pub fn change(state: &State, record: &Record, answer: Result<u16, Refusal>) -> Change {
+/// What a call concerns.
+pub enum Concern {
+    Nothing,
+    /// A thread, and what the call does to it.
+    Thread(u16, Change),
+    Segment(u16),
+}
+
+/// What an answered call concerns. Asked before the call is taken in.
+pub fn concern(state: &State, record: &Record, answer: Result<u16, Refusal>) -> Concern {
+    let Some(letter) = Letter::of(record.letter) else {
+        return Concern::Nothing;
+    };
     let calls = || match state.history.thread(record.a) {
         Some(thread) => open_calls(state, thread),
         None => Vec::new(),
     };
-    match (record.letter, answer) {
-        (b'S', Ok(_)) => Change::Started,
-        (b'C', Ok(_)) => Change::Called,
-        (b'R', Ok(_)) => match calls().pop() {
-            Some(left) => Change::Left(left),
-            None => Change::Nothing,
+    let thread = |change: Change| match answer {
+        Ok(_) => Concern::Thread(record.a, change),
+        Err(_) => Concern::Thread(record.a, Change::Nothing),
+    };
+    match letter {
+        Letter::NewUser | Letter::NewKey => Concern::Nothing,
+        Letter::StartThread => match answer {
+            Ok(number) => Concern::Thread(number, Change::Started),
+            Err(_) => Concern::Nothing,
         },
-        (b'E', Ok(_)) => Change::Ended(calls()),
-        _ => Change::Nothing,
+        Letter::CallSegment => thread(Change::Called),
+        Letter::ReturnCall => thread(calls().pop().map_or(Change::Nothing, Change::Left)),
+        Letter::EndThread => thread(Change::Ended(calls())),
+        Letter::Access => thread(Change::Nothing),
+        Letter::NewSegment => answer.map_or(Concern::Nothing, Concern::Segment),
+        Letter::GiveKey | Letter::TakeKey | Letter::AddLock => Concern::Segment(record.b),
+        Letter::DropLock => {
+            let mut standing = state.history.standing();
+            let lock = standing.find(|(number, _)| *number == record.b);
+            lock.map_or(Concern::Nothing, |(_, lock)| Concern::Segment(lock.segment))
+        }
     }
 }
 
@@ -111,18 +135,8 @@ fn open_calls(state: &State, thread: &history::Thread) -> Vec<OpenCall> {
     calls.collect()
 }
 
-/// The thread that a call concerns. Asked after the call is taken in.
-pub fn thread(
-    state: &State,
-    record: &Record,
-    answer: Result<u16, Refusal>,
-    change: Change,
-) -> Option<Thread> {
-    let number = match (record.letter, answer) {
-        (b'S', answer) => answer.ok()?,
-        (b'E' | b'C' | b'R' | b'A', _) => record.a,
-        _ => return None,
-    };
+/// A thread that a call concerns. Asked after the call is taken in.
+pub fn thread(state: &State, number: u16, change: Change) -> Option<Thread> {
     if let Change::Ended(_) = change {
         return Some(Thread {
             number,
@@ -140,20 +154,6 @@ pub fn thread(
         change,
         keys: state.key_set(number),
     })
-}
-
-/// The segment that a call concerns. Asked before the call is taken in.
-pub fn segment_number(state: &State, record: &Record, answer: Result<u16, Refusal>) -> Option<u16> {
-    match record.letter {
-        b'N' => answer.ok(),
-        b'G' | b'T' | b'L' => Some(record.b),
-        b'D' => {
-            let mut standing = state.history.standing();
-            let lock = standing.find(|(number, _)| *number == record.b);
-            lock.map(|(_, lock)| lock.segment)
-        }
-        _ => None,
-    }
 }
 
 /// A segment that is handed out. Asked after the call is taken in.

@@ -2,7 +2,7 @@
 
 use super::bytes::shown;
 use crate::answer::Answer;
-use crate::letters::{self, Field, LETTERS};
+use crate::letters::{self, Field, Letter};
 use crate::spelling;
 use rotundaaloe::Record;
 use rotundaaloe::journal::MAX_TEXT_BYTES;
@@ -29,7 +29,7 @@ pub enum Found {
 pub struct Call {
     /// Where the letter stands.
     pub at: usize,
-    letter: u8,
+    letter: Letter,
     fields: [u16; 3],
     text: Vec<u8>,
     pub expected: Option<Answer>,
@@ -40,7 +40,7 @@ impl Call {
     pub fn record(&self) -> Record<'_> {
         let [a, b, c] = self.fields;
         Record {
-            letter: self.letter,
+            letter: self.letter.byte(),
             a,
             b,
             c,
@@ -62,13 +62,13 @@ pub fn read(line: &[u8]) -> Result<Found, Fault> {
             None => Found::Nothing,
         });
     };
-    let (letter, named) = letter(&word)?;
-    let fields = scanner.fields(letter, named)?;
-    let text = match letter {
-        b'L' => scanner.text()?,
-        _ => Vec::new(),
+    let letter = letter(&word)?;
+    let fields = scanner.fields(letter)?;
+    let text = match letter.has_text() {
+        true => scanner.text(letter)?,
+        false => Vec::new(),
     };
-    let expected = scanner.expected(letter, named.len())?;
+    let expected = scanner.expected(letter)?;
     Ok(Found::Call(Call {
         at: word.at,
         letter,
@@ -84,16 +84,18 @@ struct Word<'a> {
     bytes: &'a [u8],
 }
 
-fn letter(word: &Word) -> Result<(u8, &'static [Field]), Fault> {
-    if let [letter] = *word.bytes
-        && let Some(fields) = letters::fields(letter)
-    {
-        return Ok((letter, fields));
+fn letter(word: &Word) -> Result<Letter, Fault> {
+    let of = |bytes: &[u8]| match *bytes {
+        [byte] => Letter::of(byte),
+        _ => None,
+    };
+    if let Some(letter) = of(word.bytes) {
+        return Ok(letter);
     }
-    let all = LETTERS.map(|letter| char::from(letter).to_string());
-    let right = match word.bytes.to_ascii_uppercase()[..] {
-        [letter] if LETTERS.contains(&letter) => format!("write {}", char::from(letter)),
-        _ => format!("one of {}", all.join(" ")),
+    let all = Letter::ALL.map(|letter| letter.char().to_string());
+    let right = match of(&word.bytes.to_ascii_uppercase()) {
+        Some(letter) => format!("write {}", letter.char()),
+        None => format!("one of {}", all.join(" ")),
     };
     let word_shown = shown(word.bytes);
     fault(
@@ -183,16 +185,18 @@ impl<'a> Scanner<'a> {
         Some(comment.trim().to_string())
     }
 
-    fn fields(&mut self, letter: u8, named: &[Field]) -> Result<[u16; 3], Fault> {
+    fn fields(&mut self, letter: Letter) -> Result<[u16; 3], Fault> {
         let mut values = [0; 3];
+        let named = letter.fields();
         for ((name, field), value) in "abc".chars().zip(named).zip(&mut values) {
-            *value = self.field(letter, name, field)?;
+            *value = self.field(letter, name, *field)?;
         }
         Ok(values)
     }
 
-    fn field(&mut self, letter: u8, name: char, field: &Field) -> Result<u16, Fault> {
-        let letter = char::from(letter);
+    fn field(&mut self, letter: Letter, name: char, field: Field) -> Result<u16, Fault> {
+        let letter = letter.char();
+        let field = letters::field(field);
         let colon = if field.values.is_empty() { "" } else { ": " };
         let needed = format!(
             "{letter} needs {} (field {name}) here{colon}{}",
@@ -209,13 +213,13 @@ impl<'a> Scanner<'a> {
         }
     }
 
-    fn text(&mut self) -> Result<Vec<u8>, Fault> {
-        let Some(word) = self.peek() else {
-            return fault(self.end, "L needs a text here, bare or in quotes");
+    fn text(&mut self, letter: Letter) -> Result<Vec<u8>, Fault> {
+        let word = self.peek();
+        let Some(word) = word.filter(|word| !word.bytes.starts_with(ARROW)) else {
+            let letter = letter.char();
+            let message = format!("{letter} needs a text here, bare or in quotes");
+            return fault(self.end, message);
         };
-        if word.bytes.starts_with(ARROW) {
-            return fault(self.end, "L needs a text here, bare or in quotes");
-        }
         match word.bytes[0] {
             b'"' => {
                 let text = self.quoted()?;
@@ -297,14 +301,14 @@ impl<'a> Scanner<'a> {
     }
 
     /// The expected answer, if there is one, and nothing more.
-    fn expected(&mut self, letter: u8, named: usize) -> Result<Option<Answer>, Fault> {
+    fn expected(&mut self, letter: Letter) -> Result<Option<Answer>, Fault> {
         let Some(word) = self.word() else {
             return Ok(None);
         };
         if word.bytes != ARROW {
             let message = match word.bytes.starts_with(ARROW) {
                 true => "a blank is missing after '->'".to_string(),
-                false => too_many(letter, named),
+                false => too_many(letter),
             };
             return fault(word.at, message);
         }
@@ -335,13 +339,13 @@ impl<'a> Scanner<'a> {
 
 const ANSWERS: &str = "an expected answer is 'ok N' or 'no N M'";
 
-fn too_many(letter: u8, named: usize) -> String {
-    let name = char::from(letter);
-    match (letter, named) {
-        (b'L', _) => "L takes no more than its text, and a formula has no blanks".to_string(),
-        (_, 0) => format!("{name} takes no more than its letter"),
-        (_, 1) => format!("{name} takes no more than one field"),
-        (_, 2) => format!("{name} takes no more than two fields"),
-        _ => format!("{name} takes no more than three fields"),
-    }
+fn too_many(letter: Letter) -> String {
+    let most = match (letter.has_text(), letter.fields().len()) {
+        (true, _) => "its text, and a formula has no blanks",
+        (false, 0) => "its letter",
+        (false, 1) => "one field",
+        (false, 2) => "two fields",
+        (false, _) => "three fields",
+    };
+    format!("{} takes no more than {most}", letter.char())
 }

@@ -1,5 +1,6 @@
 //! Text journals from journals.
 
+use crate::letters::Letter;
 use crate::{spelling, words};
 use rotundaaloe::{Journal, Record};
 use std::fmt::Write;
@@ -27,11 +28,12 @@ pub fn disassemble(journal: &Journal) -> String {
 /// A call as a line of a text: `L 0 2 4 S0&S1`.
 pub fn call(record: &Record) -> String {
     let mut line = char::from(record.letter).to_string();
-    let named = crate::letters::fields(record.letter).map_or(3, <[_]>::len);
+    let letter = Letter::of(record.letter);
+    let named = letter.map_or(3, |letter| letter.fields().len());
     for field in &[record.a, record.b, record.c][..named] {
         line += &format!(" {field}");
     }
-    if record.letter == b'L' {
+    if letter.is_some_and(Letter::has_text) {
         line.push(' ');
         line += &formula_text(record.text);
     }

@@ -1,27 +1,8 @@
 -- Each arm has the row of its letter, and the default has none of the twelve.
-use borrow.Author.Tests.{ne-eqb}
 use Rattle.call.specs.Internal.{lineOf}
+use Rattle.call.proofs.TableLines.{unlisted}
 use Rattle.call.proofs.request.find_line.Statement.{statement}
 use Rattle.call.proofs.request.find_line.Tie as tie
-
-returns-13 : tie.Need-returns-13
-unfolding lineOf
-returns-13 c =
-    let none = c .match .rest in
-    simp (
-      ne-eqb _ _ (none .0 .0 .0 .0 .0 .0 .0 .0 .0 .0 .0 .1),
-      ne-eqb _ _ (none .0 .0 .0 .0 .0 .0 .0 .0 .0 .0 .1),
-      ne-eqb _ _ (none .0 .0 .0 .0 .0 .0 .0 .0 .0 .1),
-      ne-eqb _ _ (none .0 .0 .0 .0 .0 .0 .0 .0 .1),
-      ne-eqb _ _ (none .0 .0 .0 .0 .0 .0 .0 .1),
-      ne-eqb _ _ (none .0 .0 .0 .0 .0 .0 .1),
-      ne-eqb _ _ (none .0 .0 .0 .0 .0 .1),
-      ne-eqb _ _ (none .0 .0 .0 .0 .1),
-      ne-eqb _ _ (none .0 .0 .0 .1),
-      ne-eqb _ _ (none .0 .0 .1),
-      ne-eqb _ _ (none .0 .1),
-      ne-eqb _ _ (none .1),
-    )
 
 pub find-line-spec : {M : Type 1} → statement M
 unfolding lineOf
@@ -40,4 +21,4 @@ find-line-spec =
     (λ c. rw (c .match .keys10))
     (λ c. rw (c .match .keys11))
     (λ c. rw (c .match .keys12))
-    returns-13)
+    (λ c. unlisted _ _ _ _ (c .match .rest)))

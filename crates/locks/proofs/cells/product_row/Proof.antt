@@ -11,14 +11,14 @@ returns c =
     let b = d .before in
     let a = b .before in
     let o = a .before in
-    row-made _ _ _ _ (o .before .size .ensures) (o .cell-at .ensures) (a .cell-at2 .ensures) (b .cell-at3 .ensures) (d .cell-at4 .ensures) (e .cell-at5 .ensures) (c .cell-at6 .ensures)
+    row-made _ _ _ _ (o .before .count-in-u32 .ensures) (o .cell-at .ensures) (a .cell-at2 .ensures) (b .cell-at3 .ensures) (d .cell-at4 .ensures) (e .cell-at5 .ensures) (c .cell-at6 .ensures)
 
 pub product-row-spec : {M : Type 1} → statement M
 product-row-spec =
     tie.close
     (tie.spec
-    (λ c. search needs)  -- element-copy-out-size
-    (λ c κs. search needs)  -- size-requires
+    (λ c. search needs)  -- element-copy-out-count-in-u32
+    (λ c κs. search needs)  -- count-in-u32-requires
     (λ c. search needs)  -- mul-head
     (λ c. search needs)  -- cast-head
     (λ c. search needs)  -- mul-head-2

@@ -1,4 +1,4 @@
--- Refused to a unknown-user and where 1,024 keys are there, else the next number is handed out.
+-- Refused to an unknown user and where 1,024 keys are there, else the next number is handed out.
 use mathlib.Core.Path.{_≡_, ap, ap₂, _∙_}
 use mathlib.Core.Bool.{Bool, true, false, not}
 use mathlib.Core.List.{List}

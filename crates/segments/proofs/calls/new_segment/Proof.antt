@@ -1,4 +1,4 @@
--- Refused to a unknown-user, for a third kind and where 64 segments are there, else the next number is handed out.
+-- Refused to an unknown user, for a third kind and where 64 segments are there, else the next number is handed out.
 use mathlib.Core.Path.{_≡_, ap}
 use mathlib.Core.Bool.{Bool, true, false, not}
 use mathlib.Core.List.{List}
@@ -85,6 +85,7 @@ new-segment-spec =
     returns
     returns-2
     (λ c. search needs)  -- element-copy-out-segment
+    (λ c. search needs)  -- cast-if3
     returns-3
     (λ c. search needs)  -- cast-s
     (λ c. search needs)  -- cast-own

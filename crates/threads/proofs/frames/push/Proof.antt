@@ -46,7 +46,6 @@ push-spec =
     tie.close
     (tie.spec
     (λ c κs. search needs)  -- depth-requires
-    (λ c. search needs)  -- cast-if1
     returns
     (λ c. search needs)  -- add-newest
     (λ c. search needs)  -- mul-t7

@@ -1,7 +1,7 @@
 //! The scenes of the check: m literals a product, n products, each the whole of
 //! a lock, and a thread with some open calls.
 
-use crate::scenes::{Counted, Scene};
+use crate::scenes::{Check, Counted, Scene};
 use compare::route::{self, DEPTHS, FIRST_LOCK, SHEET, THREAD, WRITE};
 use std::ops::RangeInclusive;
 
@@ -114,11 +114,11 @@ pub fn scene(case: Case, literals: u16, products: u16, depth: u16) -> Scene {
     Scene {
         name: name(case, literals, products, depth),
         before: route::calls(depth, case.holder(depth), &texts),
-        counted: Counted::Check {
+        counted: Counted::Check(Check {
             thread: THREAD,
             segment: SHEET,
             operation: WRITE,
-        },
+        }),
         expected: FIRST_LOCK + opening,
     }
 }

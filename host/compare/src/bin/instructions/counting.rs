@@ -1,8 +1,8 @@
 //! A scene played on both guards, and its instructions counted.
 
 use crate::callgrind;
-use crate::scenes::{Counted, Scene, place};
-use compare::guard::coded;
+use crate::scenes::{Check, Counted, Scene, place};
+use compare::guard::{Own, coded};
 use compare::stage::Stage;
 use reference::guard::{Answer, Segment, Thread};
 use std::ffi::CString;
@@ -24,28 +24,37 @@ fn asserted(scene: &Scene, answers: [u32; 2]) {
     assert_eq!(answers, [u32::from(scene.expected); 2], "{}", scene.name);
 }
 
+/// The reference's thread and segment of a check.
+fn checked<'a>(stage: &'a Stage, check: &Check) -> (&'a Thread, &'a Segment) {
+    let thread = stage.reference.thread(check.thread);
+    let segment = stage.reference.known_segment(check.segment);
+    (thread.expect("a live thread"), segment.expect("a segment"))
+}
+
+/// The access of the proved guard that a check is inside of.
+fn proved_access(stage: &Stage, check: &Check) -> u32 {
+    let Check {
+        thread,
+        segment,
+        operation,
+    } = *check;
+    stage.proved.access(thread, segment, operation)
+}
+
 /// The answers of both are the expected one, and the thread stands where it is
 /// said to. Nothing is counted.
 pub fn tried(scene: &Scene) {
     let mut stage = Stage::after(&scene.before);
     let answers = match &scene.counted {
-        Counted::Check {
-            thread,
-            segment,
-            operation,
-        } => {
-            let reference = reference::guard::check(
-                stage.reference.thread(*thread).expect("a live thread"),
-                stage.reference.known_segment(*segment).expect("a segment"),
-                *operation,
-            );
-            let proved = stage.proved.access(*thread, *segment, *operation);
-            [proved, coded(reference)]
+        Counted::Check(check) => {
+            let (thread, segment) = checked(&stage, check);
+            let reference = reference::guard::check(thread, segment, check.operation);
+            [proved_access(&stage, check), coded(reference)]
         }
-        Counted::Direct(record) | Counted::Entry(record) => {
+        Counted::Direct(_, record) | Counted::Entry(record) => {
             let before = stage.proved.cells().threads;
             let answers = stage.call(record);
-            if b"CR".contains(&record.letter) {
+            if let Some(Own::CallSegment | Own::ReturnCall) = Own::of_call(record) {
                 let after = &stage.proved.cells().threads;
                 let changed = (0..before.len()).filter(|place| before[*place] != after[*place]);
                 assert!(changed.eq([place(record.a)]), "{}", scene.name);
@@ -73,38 +82,32 @@ pub fn count(scene: &Scene) {
         .map(|guard| CString::new(count_name(guard, &scene.name)).expect("a name without a 0"));
     let mut stage = Stage::after(&scene.before);
     let answers = match &scene.counted {
-        Counted::Check {
-            thread,
-            segment,
-            operation,
-        } => {
+        Counted::Check(asked) => {
             let check: fn(&Thread, &Segment, u16) -> Answer = black_box(reference::guard::check);
-            let thread = black_box(stage.reference.thread(*thread).expect("a live thread"));
-            let segment = stage.reference.known_segment(*segment);
-            let segment = black_box(segment.expect("a segment"));
-            let operation = black_box(*operation);
+            let (thread, segment) = black_box(checked(&stage, asked));
+            let operation = black_box(asked.operation);
             let reference = callgrind::count(&reference_name, || check(thread, segment, operation));
             [u32::from(scene.expected), coded(reference)]
         }
-        Counted::Direct(record) => {
+        Counted::Direct(own, record) => {
             let [a, b, c] = black_box([record.a, record.b, record.c]);
             let Stage { proved, reference } = black_box(&mut stage);
-            match record.letter {
-                b'C' => {
+            match own {
+                Own::CallSegment => {
                     type Call = fn(&mut reference::guard::Guard, u16, u16) -> Answer;
                     let call: Call = black_box(reference::guard::Guard::call_segment);
                     let proved = callgrind::count(&proved_name, || proved.call_segment(a, b));
                     let reference = callgrind::count(&reference_name, || call(reference, a, b));
                     [proved, coded(reference)]
                 }
-                b'R' => {
+                Own::ReturnCall => {
                     type Call = fn(&mut reference::guard::Guard, u16) -> Answer;
                     let call: Call = black_box(reference::guard::Guard::return_call);
                     let proved = callgrind::count(&proved_name, || proved.return_call(a));
                     let reference = callgrind::count(&reference_name, || call(reference, a));
                     [proved, coded(reference)]
                 }
-                _ => {
+                Own::Access => {
                     type Call = fn(&reference::guard::Guard, u16, u16, u16) -> Answer;
                     let call: Call = black_box(reference::guard::Guard::access);
                     let proved = callgrind::count(&proved_name, || proved.access(a, b, c));
@@ -131,18 +134,11 @@ pub fn count(scene: &Scene) {
 /// Has the instructions of the proved guard's own check counted, inside the
 /// access of a check's scene. Of other scenes nothing is counted.
 pub fn count_check(scene: &Scene) {
-    let Counted::Check {
-        thread,
-        segment,
-        operation,
-    } = scene.counted
-    else {
+    let Counted::Check(check) = scene.counted else {
         return;
     };
     let name = CString::new(scene.name.as_str()).expect("a name without a 0");
     let stage = Stage::after(&scene.before);
-    let proved = &stage.proved;
-    let access = || proved.access(thread, segment, operation);
-    let answer = callgrind::count_check(&name, access);
+    let answer = callgrind::count_check(&name, || proved_access(&stage, &check));
     assert_eq!(answer, u32::from(scene.expected), "{}", scene.name);
 }

@@ -2,8 +2,10 @@
 //! and one call on it or one check.
 
 use crate::checks::{self, Case, LITERALS, PRODUCTS};
+use compare::guard::Own;
 use reference::calls::{call, lock};
 use reference::journal::Record;
+use reference::letter::Letter;
 
 /// One call, or one check, on a state.
 pub struct Scene {
@@ -15,14 +17,18 @@ pub struct Scene {
     pub expected: u16,
 }
 
+/// A check of a thread's operation on a segment.
+#[derive(Clone, Copy)]
+pub struct Check {
+    pub thread: u16,
+    pub segment: u16,
+    pub operation: u16,
+}
+
 pub enum Counted {
-    Check {
-        thread: u16,
-        segment: u16,
-        operation: u16,
-    },
-    /// C, R or A by its own function.
-    Direct(Record),
+    Check(Check),
+    /// A call by its own function.
+    Direct(Own, Record),
     /// A call by its letter.
     Entry(Record),
 }
@@ -91,9 +97,9 @@ pub fn call_name(letter: u8, entry: bool, pair: Pair, thread: u16) -> String {
 
 /// C of a segment whose key list has one key, and R of that call.
 fn call_and_return(entry: bool, pair: Pair, thread: u16) -> [Scene; 2] {
-    let counted = |record| match entry {
+    let counted = |own, record| match entry {
         true => Counted::Entry(record),
-        false => Counted::Direct(record),
+        false => Counted::Direct(own, record),
     };
     let before = before_call(pair, thread);
     let called = call(b'C', thread, 2, 0);
@@ -102,13 +108,13 @@ fn call_and_return(entry: bool, pair: Pair, thread: u16) -> [Scene; 2] {
         Scene {
             name: call_name(b'C', entry, pair, thread),
             before,
-            counted: counted(called),
+            counted: counted(Own::CallSegment, called),
             expected: 2,
         },
         Scene {
             name: call_name(b'R', entry, pair, thread),
             before: before_return,
-            counted: counted(call(b'R', thread, 0, 0)),
+            counted: counted(Own::ReturnCall, call(b'R', thread, 0, 0)),
             expected: 2,
         },
     ]
@@ -136,7 +142,7 @@ fn before_the_twelve() -> Vec<Record> {
 }
 
 /// One call of each letter, and its answer.
-pub fn the_twelve() -> [(Record, u16); 12] {
+pub fn the_twelve() -> [(Record, u16); Letter::ALL.len()] {
     [
         (call(b'U', 0, 0, 0), 1),
         (call(b'S', 0, 0, 0), 1),
@@ -177,18 +183,19 @@ pub fn all() -> Vec<Scene> {
     }
     for (record, expected) in the_twelve() {
         let letter = record.letter;
-        let entry = [false, true]
-            .into_iter()
-            .filter(|entry| *entry || b"CRA".contains(&letter));
-        scenes.extend(entry.map(|entry| Scene {
-            name: twelve_name(letter, entry),
-            before: before_the_twelve(),
-            counted: match entry {
-                true => Counted::Entry(record.clone()),
-                false => Counted::Direct(record.clone()),
-            },
-            expected,
-        }));
+        let direct = Own::of_call(&record).map(|own| (Counted::Direct(own, record.clone()), false));
+        let entry = (Counted::Entry(record), true);
+        scenes.extend(
+            direct
+                .into_iter()
+                .chain([entry])
+                .map(|(counted, entry)| Scene {
+                    name: twelve_name(letter, entry),
+                    before: before_the_twelve(),
+                    counted,
+                    expected,
+                }),
+        );
     }
     scenes
 }

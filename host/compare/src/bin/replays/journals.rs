@@ -105,9 +105,9 @@ fn routes() -> Journal {
     let mut random = Random::new(51);
     while draft.has_room() {
         let thread = random.below(THREADS) as u16;
-        let record = match random.pick(b"CCRRAAA") {
-            b'C' => call(b'C', thread, random.below(8) as u16, 0),
-            b'R' => call(b'R', thread, 0, 0),
+        let record = match random.below(7) {
+            0..2 => call(b'C', thread, random.below(8) as u16, 0),
+            2..4 => call(b'R', thread, 0, 0),
             _ => call(
                 b'A',
                 thread,

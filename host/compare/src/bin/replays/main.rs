@@ -11,7 +11,7 @@ use compare::office;
 use compare::scratch::Directory;
 use compare::timing::{ROUNDS, measure};
 use journals::Journal;
-use reference::journal::{HEAD_BYTES, Step, check, record_at};
+use reference::journal::walk;
 use rotundaaloe::Record;
 use rotundaaloe::journal::Records;
 use std::env;
@@ -45,22 +45,11 @@ fn proved_answers(file: &[u8], answers: &mut Vec<u32>) {
 /// The reference's answers to a file's records, coded as the proved guard's are.
 fn reference_answers(file: &[u8], answers: &mut Vec<u32>) {
     answers.clear();
-    if check(file).is_err() {
-        return;
-    }
     let mut guard = reference::guard::Guard::new();
-    let mut cursor = HEAD_BYTES;
-    while let Step::Record {
-        letter,
-        a,
-        b,
-        c,
-        text,
-    } = record_at(file, cursor)
-    {
-        cursor = text.end;
-        answers.push(coded(guard.call(letter, a, b, c, &file[text])));
-    }
+    // A file that is refused has no answers.
+    let _ = walk(file, |letter, [a, b, c], text| {
+        answers.push(coded(guard.call(letter, a, b, c, text)));
+    });
 }
 
 /// Prints the table of replays in this process. Answers how many are slower.
