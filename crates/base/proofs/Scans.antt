@@ -1,8 +1,9 @@
 -- Loops over a list, from its first element on. `Missed`: none before i passes, so that the first that passes is at i
--- or after it. `Rest`: what is left to ask, from i on, answers what the whole does.
+-- or after it. `Rest`: what is left to ask, from i on, answers what the whole does; `Asks` is the question whether one
+-- passes.
 use mathlib.Core.Path.{_≡_, refl, sym, ap, _∙_}
-use mathlib.Core.Bool.{Bool, true, false}
-use mathlib.Core.List.{List, [], _∷_}
+use mathlib.Core.Bool.{Bool, true, false, _||_}
+use mathlib.Core.List.{List, [], _∷_, map, append-nil}
 use Prim.Native.Nat.{ℕ, zero, suc, _+_, _≤_, _<_}
 use native.Mathlib.Numerals.{add-one}
 use native.Mathlib.Omega.{arith}
@@ -11,7 +12,7 @@ use lib.ListN.{length, getD, drop, drop-of-length-le}
 use lib.Seq.{drop-cons}
 use borrow.Author.Tests.{eqb-true, eqb-false}
 use Rattle.base.specs.Lists.{indexOf, each}
-use Rattle.base.proofs.Lists.{caseBool, each-suc}
+use Rattle.base.proofs.Lists.{caseBool, each-suc, each-getD}
 
 -- ---- the first of f 0, f 1, .., f (n - 1) that passes
 
@@ -57,6 +58,10 @@ module _ {A : Type 0} (p : A → Bool) where
       pub missed-end : n ≤ i → n ≡ indexOf p (each f 0 n)
       missed-end h = index-none f n (λ j l. before .misses j (omega arith))
 
+-- the elements of a list, each read at its index
+pub each-read : {A B : Type 0} (f : A → B) (d : A) (xs : List A) → each (λ i. f (getD xs i d)) 0 (length xs) ≡ map f xs
+each-read {A} f d xs = ap (λ (ys : List A). each (λ i. f (getD ys i d)) 0 (length xs)) (sym (append-nil xs)) ∙ each-getD f d xs []
+
 -- ---- what is left answers what the whole does
 
 module _ {A B : Type 0} (g : List A → B) where
@@ -72,3 +77,29 @@ module _ {A B : Type 0} (g : List A → B) where
 
     pub rest-next : (d : A) → i < length xs → r ≡ g (getD xs i d ∷ drop (i + 1) xs)
     rest-next d h = a .rest ∙ ap g (drop-cons xs i d h) ∙ ap (λ (j : ℕ). g (getD xs i d ∷ drop j xs)) (sym (add-one i))
+
+-- ---- whether one passes
+
+-- g asks it of the elements before the first that ends the list
+pub record Asks {A : Type 0} (g : List A → Bool) (ends p : A → Bool) : Type 0 where
+  pub none : g [] ≡ false
+  pub stop : (x : A) (xs : List A) → ends x ≡ true → g (x ∷ xs) ≡ false
+  pub more : (x : A) (xs : List A) → ends x ≡ false → g (x ∷ xs) ≡ (p x || g xs)
+
+module _ {A : Type 0} {g : List A → Bool} {ends p : A → Bool} (q : Asks g ends p) (d : A) {r : Bool} {xs : List A} {i : ℕ} (a : Rest g r xs i) where
+  pub asks-end : length xs ≤ i → false ≡ r
+  asks-end h = sym (rest-end g a h ∙ q .none)
+
+  module _ (h : i < length xs) where
+    pub asks-stop : ends (getD xs i d) ≡ true → false ≡ r
+    asks-stop e = sym (rest-next g a d h ∙ q .stop (getD xs i d) (drop (i + 1) xs) e)
+
+    module _ (e : ends (getD xs i d) ≡ false) where
+      next : r ≡ (p (getD xs i d) || g (drop (i + 1) xs))
+      next = rest-next g a d h ∙ q .more (getD xs i d) (drop (i + 1) xs) e
+
+      pub asks-hit : p (getD xs i d) ≡ true → true ≡ r
+      asks-hit t = sym (next ∙ rw t)
+
+      pub asks-miss : p (getD xs i d) ≡ false → Rest g r xs (i + 1)
+      asks-miss f = record { rest = next ∙ rw f }

@@ -4,3 +4,4 @@ pub mod Examples
 pub mod TableLines
 pub mod Values
 pub mod Computing
+pub mod EveryRequest

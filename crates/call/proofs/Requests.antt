@@ -94,7 +94,7 @@ module _ (x : Call) where
 
 -- ---- the call of a request
 
-back : (q : Request) (t : List ℕ) → decoded (callOf q t) ≡ WellFormed q
+pub back : (q : Request) (t : List ℕ) → decoded (callOf q t) ≡ WellFormed q
 unfolding decodedOf
 back request.NewUser t = refl
 back (request.StartThread a) t = refl

@@ -1,5 +1,4 @@
 -- Document 01's number and values of a decoded call. The number is that of the refusal, and 0 where nothing is refused.
--- What a well formed call is decoded to has the call's own letter and fields: proved in `proofs/Values.antt`.
 use mathlib.Core.List.{List, [], _∷_}
 use Prim.Native.Nat.{ℕ}
 use Rattle.call.specs.declared.request.Request.{Request}

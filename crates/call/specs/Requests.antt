@@ -1,5 +1,4 @@
--- There is one request for each well formed call, and one well formed call for each request (and text, of a lock).
--- Proved in `proofs/Requests.antt`.
+-- The call of a request: its letter, its fields, and of a lock the text.
 use mathlib.Core.Bool.{cond}
 use mathlib.Core.List.{List, []}
 use Prim.Native.Nat.{ℕ}

@@ -5,11 +5,9 @@ use mathlib.Core.Bool.{Bool, true, false, _&&_, _||_, not, cond}
 use mathlib.Core.List.{[], _∷_, _++_}
 use mathlib.Core.Option.{none}
 use Prim.Native.Nat.{ℕ, suc, _+_, _-_, _/_, _%_, _≤_, _<_, min}
-use native.Mathlib.Numerals.{add-one}
 use native.Mathlib.Omega.{arith}
 use lib.Dec.{eqb}
-use lib.ListN.{length, drop, drop-of-length-le}
-use lib.Seq.{drop-cons}
+use lib.ListN.{length, drop}
 use borrow.Author.Tests.{eq-eqb, ne-eqb, eqb-true}
 use Rattle.product.specs.declared.literal.Literal.{Literal}
 use Rattle.product.specs.Atom.{agrees, atomOf}
@@ -20,6 +18,7 @@ use Rattle.model.specs.Threads.{KeySet}
 use Rattle.model.specs.Operations.{shares, deny}
 use Rattle.model.specs.Cells.{Row, Table, cell, rowAt, frameCount, literalIn, usedRows, productIn}
 use Rattle.base.proofs.Lists.{caseBool, clash, each-snoc}
+use Rattle.base.proofs.Scans.{Rest, rest-end, rest-next, Asks}
 use Rattle.checking.specs.Deciding.{keysAt}
 use Rattle.checking.specs.Internal.{hasCode, inherited, listable, isDeny, deniesFrom, opensRow, headOf, openingOf}
 use Rattle.checking.proofs.KeyCells.{literal-listable}
@@ -103,43 +102,27 @@ module _ {keys : KeySet} {v : Row} {k : ℕ} (l : Left keys v k) where
 
 -- ---- deny rows to come
 
-pub record Coming (r : Bool) (w : Table) (n p : ℕ) : Type 0 where
-  pub rest : r ≡ deniesFrom w n p
+abbrev pub ends : Row → Bool
+ends v = eqb (cell v 0) 0
 
-pub coming-start : (w : Table) (n p : ℕ) → Coming (deniesFrom w n p) w n p
-coming-start w n p = record { rest = refl }
+unfoldable pub deniesFor : ℕ → Row → Bool
+deniesFor n v = shares (cell v 0) n && isDeny v
 
-module _ {r : Bool} {w : Table} {n p rows : ℕ} (l : rows ≡ length w) (a : Coming r w n p) where
-  abbrev test : Row → Bool
-  test v = shares (cell v 0) n && isDeny v
+unfoldable pub deniesIn : ℕ → Table → Bool
+deniesIn n w = deniesFrom w n 0
 
-  pub coming-end : rows ≤ p → false ≡ r
-  coming-end h =
-      let past : length w ≤ p = omega arith in
-      sym (a .rest ∙ ap (λ (x : Table). any test (usedRows x)) (drop-of-length-le w past))
+pub deny-asked : (n : ℕ) → Asks (deniesIn n) ends (deniesFor n)
+unfolding deniesFor deniesIn
+deny-asked n = record { none = refl; stop = λ v w e. simp e; more = λ v w e. simp e }
 
-  module _ (h : p < rows) where
-    abbrev ahead : Row
-    ahead = rowAt w p
+pub denies-start : (w : Table) (n p : ℕ) → Rest (deniesIn n) (deniesFrom w n p) w p
+unfolding deniesIn
+denies-start w n p = record { rest = refl }
 
-    looked : r ≡ any test (usedRows (ahead ∷ drop (p + 1) w))
-    looked =
-        let inside : p < length w = omega arith in
-        let e : drop p w ≡ ahead ∷ drop (p + 1) w = drop-cons w p [] inside ∙ ap (λ (j : ℕ). ahead ∷ drop j w) (sym (add-one p)) in
-        a .rest ∙ ap (λ (x : Table). any test (usedRows x)) e
-
-    pub coming-stop : cell ahead 0 ≡ 0 → false ≡ r
-    coming-stop z = sym (looked ∙ simp (eq-eqb (cell ahead 0) 0 z))
-
-    module _ (z : cell ahead 0 ≡ 0 → ⊥) (b c : Bool) (s : b ≡ shares (cell ahead 0) n) (d : c ≡ shares (cell ahead 0) deny) where
-      passes : (x : Bool) → (b && c) ≡ x → test ahead ≡ x
-      passes x e = rw (sym s, sym d) e
-
-      pub coming-hit : (b && c) ≡ true → true ≡ r
-      coming-hit e = sym (looked ∙ simp (ne-eqb (cell ahead 0) 0 z, passes true e))
-
-      pub coming-on : (b && c) ≡ false → Coming r w n (p + 1)
-      coming-on e = record { rest = looked ∙ simp (ne-eqb (cell ahead 0) 0 z, passes false e) }
+-- the test as the code makes it
+pub denies-as : (n : ℕ) (v : Row) {a b x : Bool} → a ≡ shares (cell v 0) n → b ≡ shares (cell v 0) deny → (a && b) ≡ x → deniesFor n v ≡ x
+unfolding deniesFor
+denies-as n v s d e = rw (sym s, sym d) e
 
 no-deny : (s x d : Bool) → (s && d) ≡ false → ((s && x) && d) ≡ false
 no-deny false x d e = refl
@@ -188,29 +171,30 @@ module _ (o d : Row → Bool) where
         found-before : (found ≡ 0 → ⊥) → decided found (v ∷ w) ≡ decided found w
         found-before f = simp (used, e, q, ne-eqb found 0 f)
 
-pub record Rest (r : ℕ) (keys : KeySet) (n : ℕ) (w : Table) (found p : ℕ) : Type 0 where
+-- what decides is what decides from row p on, where grant row `found` opened before it
+pub record Deciding (r : ℕ) (keys : KeySet) (n : ℕ) (w : Table) (found p : ℕ) : Type 0 where
   pub rest : r ≡ decided (opensRow keys n) isDeny found (drop p w)
 
-pub rest-start : (t w : Table) (n depth : ℕ) → depth ≡ min (cell (rowAt t 0) frameCount) mostFrames
-    → Rest (openingOf t w n) (keysAt t depth) n w 0 0
+pub deciding-start : (t w : Table) (n depth : ℕ) → depth ≡ min (cell (rowAt t 0) frameCount) mostFrames
+    → Deciding (openingOf t w n) (keysAt t depth) n w 0 0
 unfolding openingOf
-rest-start t w n depth e = record { rest = rw e }
+deciding-start t w n depth e = record { rest = rw e }
 
-pub rest-as : {r : ℕ} {keys : KeySet} {n : ℕ} {w : Table} {found found′ p : ℕ} → found′ ≡ found → Rest r keys n w found p → Rest r keys n w found′ p
-rest-as {r} {keys} {n} {w} {found} {found′} {p} e a = subst (λ (f : ℕ). Rest r keys n w f p) (sym e) a
+pub rest-as : {r : ℕ} {keys : KeySet} {n : ℕ} {w : Table} {found found′ p : ℕ} → found′ ≡ found → Deciding r keys n w found p → Deciding r keys n w found′ p
+rest-as {r} {keys} {n} {w} {found} {found′} {p} e a = subst (λ (f : ℕ). Deciding r keys n w f p) (sym e) a
 
-module _ {r : ℕ} {keys : KeySet} {n : ℕ} {w : Table} {found p rows : ℕ} (l : rows ≡ length w) (a : Rest r keys n w found p) where
-  pub rest-end : rows ≤ p → found ≡ r
-  rest-end h =
+module _ {r : ℕ} {keys : KeySet} {n : ℕ} {w : Table} {found p rows : ℕ} (l : rows ≡ length w) (a : Deciding r keys n w found p) where
+  ahead : Rest (decided (opensRow keys n) isDeny found) r w p
+  ahead = record { rest = a .rest }
+
+  pub rest-past : rows ≤ p → found ≡ r
+  rest-past h =
       let past : length w ≤ p = omega arith in
-      sym (a .rest ∙ ap (decided (opensRow keys n) isDeny found) (drop-of-length-le w past) ∙ keep-found found)
+      sym (rest-end (decided (opensRow keys n) isDeny found) ahead past ∙ keep-found found)
 
   module _ (h : p < rows) where
     next : r ≡ decided (opensRow keys n) isDeny found (rowAt w p ∷ drop (p + 1) w)
-    next =
-        let inside : p < length w = omega arith in
-        a .rest ∙ ap (decided (opensRow keys n) isDeny found) (drop-cons w p [] inside)
-        ∙ ap (λ (j : ℕ). decided (opensRow keys n) isDeny found (rowAt w p ∷ drop j w)) (sym (add-one p))
+    next = let inside : p < length w = omega arith in rest-next (decided (opensRow keys n) isDeny found) ahead [] inside
 
     pub rest-stop : cell (rowAt w p) 0 ≡ 0 → found ≡ r
     rest-stop z = sym (next ∙ stop (opensRow keys n) isDeny found (rowAt w p) (drop (p + 1) w) z)
@@ -219,17 +203,17 @@ module _ {r : ℕ} {keys : KeySet} {n : ℕ} {w : Table} {found p rows : ℕ} (l
       abbrev v : Row
       v = rowAt w p
 
-      shut-rest : (cell v 0 ≡ 0 → ⊥) → opensRow keys n v ≡ false → Rest r keys n w found (p + 1)
+      shut-rest : (cell v 0 ≡ 0 → ⊥) → opensRow keys n v ≡ false → Deciding r keys n w found (p + 1)
       shut-rest z e = record { rest = next ∙ shut (opensRow keys n) isDeny found v (drop (p + 1) w) z e }
 
-      pub rest-idle : b ≡ false → (cell v 0 ≡ 0 → ⊥) → Rest r keys n w found (p + 1)
+      pub rest-idle : b ≡ false → (cell v 0 ≡ 0 → ⊥) → Deciding r keys n w found (p + 1)
       rest-idle q z = shut-rest z (rw (sym s ∙ q))
 
       module _ (q : b ≡ true) where
         in-use : cell v 0 ≡ 0 → ⊥
         in-use e = clash (sym s ∙ q) (ap (λ (k : ℕ). shares k n) e)
 
-        pub rest-shut : opens keys (productIn v .product) ≡ false → Rest r keys n w found (p + 1)
+        pub rest-shut : opens keys (productIn v .product) ≡ false → Deciding r keys n w found (p + 1)
         rest-shut e = shut-rest in-use (rw (sym s ∙ q, e))
 
         module _ (e : opens keys (productIn v .product) ≡ true) (c : Bool) (y : c ≡ shares (cell v 0) deny) where
@@ -239,10 +223,10 @@ module _ {r : ℕ} {keys : KeySet} {n : ℕ} {w : Table} {found p rows : ℕ} (l
           pub rest-denied : c ≡ true → cell v 0 ≡ r
           rest-denied f = sym (next ∙ denied (opensRow keys n) isDeny found v (drop (p + 1) w) in-use open-row (sym y ∙ f))
 
-          pub rest-found : c ≡ false → found ≡ 0 → Rest r keys n w (cell v 0) (p + 1)
+          pub rest-found : c ≡ false → found ≡ 0 → Deciding r keys n w (cell v 0) (p + 1)
           rest-found f g = record { rest = next ∙ found-first (opensRow keys n) isDeny found v (drop (p + 1) w) in-use open-row (sym y ∙ f) g }
 
-          pub rest-before : c ≡ false → (found ≡ 0 → ⊥) → Rest r keys n w found (p + 1)
+          pub rest-before : c ≡ false → (found ≡ 0 → ⊥) → Deciding r keys n w found (p + 1)
           rest-before f g = record { rest = next ∙ found-before (opensRow keys n) isDeny found v (drop (p + 1) w) in-use open-row (sym y ∙ f) g }
 
           -- with no deny row to come, the first grant row decides

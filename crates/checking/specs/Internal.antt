@@ -55,10 +55,23 @@ openingOf t w n =
     let g = first (λ v. opensRow (keysOf t) n v && not (isDeny v)) (usedRows w) in
     cond (isSome d) (headOf d) (headOf g)
 
+-- what a lock number counts for in a head
+abbrev pub lockUnit : ℕ
+lockUnit = 65536
+
 -- what the check answers by it
 unfoldable pub headChecked : ℕ → Checked
-headChecked head = cond (eqb head 0) NotGranted (cond (shares head deny) (Denied (head / 65536)) (Granted (head / 65536)))
+headChecked head =
+    cond (eqb head 0) NotGranted (cond (shares head deny) (Denied (head / lockUnit)) (Granted (head / lockUnit)))
 
--- an answer as one number
+-- an answer as one number: a grant lock's own, a deny lock's from the first of these on, and the other for none
+abbrev pub deniedCodes : ℕ
+deniedCodes = 65536
+
+abbrev pub notGrantedCode : ℕ
+notGrantedCode = 131072
+
 unfoldable pub codeChecked : ℕ → Checked
-codeChecked code = cond (ltb code 65536) (Granted code) (cond (ltb code 131072) (Denied (code - 65536)) NotGranted)
+codeChecked code =
+    cond (ltb code deniedCodes) (Granted code)
+    (cond (ltb code notGrantedCode) (Denied (code - deniedCodes)) NotGranted)

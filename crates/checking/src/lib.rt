@@ -1,12 +1,13 @@
 // The check of document 01, 'Operations and the check': what a segment's standing locks answer to a thread's operation.
 ghost use mathlib.Core.Path.{_≡_};
-ghost use Prim.Native.Nat.{_+_, _≤_};
-ghost use lib.ListN.{length};
+ghost use Prim.Native.Nat.{_+_, _<_};
+ghost use Rattle.model.specs.Limits.{mostStanding};
 ghost use Rattle.checking.specs.Deciding.{checkOf, answerOf};
 ghost use Rattle.checking.specs.Internal.{openingOf, headChecked, codeChecked, deniesFrom};
 use crate::keys::agrees;
 use crate::keys::literal_in;
 use base::cells::count_in_u16;
+use base::lengths::count_rows;
 use model::answer::Answer;
 use model::answer::Refusal;
 use model::arrays::FRAMES;
@@ -96,7 +97,7 @@ fn opening(thread: &Thread, products: &Products, operation: u32) -> u32
     ensures { λ r. ⌜ codeChecked r ≡ headChecked (openingOf (now (thread .entry)) (now (products .entry)) operation) ⌝ }
 {
     let depth = count_in_u16(thread[0][FRAMES], MOST_FRAMES);
-    let rows = count(products);
+    let rows = count_rows(products);
     let mut found = 0;
     let mut p: usize = 0;
     'products: loop {
@@ -137,10 +138,10 @@ fn opening(thread: &Thread, products: &Products, operation: u32) -> u32
 
 // Whether a row after that one is a deny lock's for the operation, and so could outvote a grant.
 fn denies_after(products: &Products, operation: u32, from: usize) -> bool
-    requires { ⌜ from ≤ 7 ⌝ }
+    requires { ⌜ from < mostStanding ⌝ }
     ensures { λ r. ⌜ r ≡ deniesFrom (now (products .entry)) operation (from + 1) ⌝ }
 {
-    let rows = count(products);
+    let rows = count_rows(products);
     let mut p = from + 1;
     while p < rows {
         let head = products[p][0];
@@ -154,11 +155,4 @@ fn denies_after(products: &Products, operation: u32, from: usize) -> bool
         p += 1;
     }
     false
-}
-
-// An array behind a reference has its length where it is lent as a slice.
-fn count(rows: &[[u32; 8]]) -> usize
-    ensures { λ r. ⌜ r ≡ length (now (rows .entry)) ⌝ }
-{
-    rows.len()
 }

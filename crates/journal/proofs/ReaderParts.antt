@@ -101,6 +101,16 @@ module _ {M : Type 1} (𝓤 : URA M) (H : Heap 𝓤) (A : Atoms 𝓤) (mem : Mem
   check-said α d v = exE 𝓤 _ (λ ws. snd∗ 𝓤 (sem 𝓤 H A (lasts check.ended (α .lft, tt) (d .src, tt) ws)) (fact 𝓤 (v ≡ judged d)))
 
 module _ {M : Type 1} (𝓤 : URA M) (H : Heap 𝓤) (A : Atoms 𝓤) (W : Given 𝓤 H A) (mem : Memory → SProp 𝓤) (run : Routine → Fun 𝓤) (α : NamedLft) (q : Share) (d : Reader) where
+  -- what src owns, beside all that the struct owns
+  src-apart : ent 𝓤 (sem 𝓤 H A (Own α d)) (sep 𝓤 (sem 𝓤 H A (ownAt (D α .parts) (L α) 0 (d .src))) (sem 𝓤 H A (Own α d)))
+  src-apart =
+      qed W (‵ (Own α d) ∷ []) ∵
+      use1 W (‵ (Own α d) ⊛ ‵ (Own α d)) (LL.copy (D α) (T′.the-copy α) 𝓤 H A W .twice d (T′.lowered d ∷ [])) $ split ! $
+      use1 W (given (T′.lowered d ∷ [] ≡ T′.lowered d ∷ []) (‵ (all-own (D α .parts) (L α) (fields α d)))) (own-open 𝓤 H A W (D α) (L α) (fields α d) (T′.lowered d)) $ learn ! (λ _.
+      use1 W (‵ (ownAt (D α .parts) (L α) 0 (d .src)) ⊛ ‵ (rest (D α .parts) (L α) 0 (fields α d))) (own-out 𝓤 H A W (D α .parts) (L α) 0 (fields α d)) $ split ! $
+      -- [what src owns; what at owns; what the struct owns]
+      move ! (1 ∷ []) $ drop ! $ frame ! $ done !)
+
   asked : ent 𝓤 (onEntry 𝓤 H A record-at.signature (α .lft, tt) (q, tt) (d .src, (d .at, tt)) (passed α d)) (RecordAt 𝓤 H A mem run .pre (call-on 𝓤 H A mem run α q d))
   asked = qed W ((‵ (flft (α .lft) q) ⊛ ‵ ftrue) ∷ ‵ (owns (ShrSlice (named 0) (α .lft) u8 ∷ usize ∷ []) (d .src, (d .at, tt)) (passed α d)) ∷ []) ∵ join ! $ frame ! $ done !
 
@@ -108,12 +118,10 @@ module _ {M : Type 1} (𝓤 : URA M) (H : Heap 𝓤) (A : Atoms 𝓤) (W : Given
   pub apart : d .at < 2 ^ 64 → ent 𝓤 (sep 𝓤 (sep 𝓤 (A .lft (α .lft) q) (sem 𝓤 H A ftrue)) (sem 𝓤 H A (Own α d))) (sep 𝓤 (RecordAt 𝓤 H A mem run .pre (call-on 𝓤 H A mem run α q d)) (sem 𝓤 H A (Own α d)))
   apart fits =
       qed W ((‵ (flft (α .lft) q) ⊛ ‵ ftrue) ∷ ‵ (Own α d) ∷ []) ∵
-      move ! (1 ∷ []) $ use1 W (‵ (Own α d) ⊛ ‵ (Own α d)) (LL.copy (D α) (T′.the-copy α) 𝓤 H A W .twice d (T′.lowered d ∷ [])) $ split ! $
-      use1 W (given (T′.lowered d ∷ [] ≡ T′.lowered d ∷ []) (‵ (all-own (D α .parts) (L α) (fields α d)))) (own-open 𝓤 H A W (D α) (L α) (fields α d) (T′.lowered d)) $ learn ! (λ _.
-      use1 W (‵ (ownAt (D α .parts) (L α) 0 (d .src)) ⊛ ‵ (rest (D α .parts) (L α) 0 (fields α d))) (own-out 𝓤 H A W (D α .parts) (L α) 0 (fields α d)) $ split ! $
-      -- [what src owns; what at owns; what the struct owns; the token]
-      move ! (1 ∷ []) $ drop ! $ nothing ! $ owned ! usize (Is usize) (uint-makes 𝓤 H A W w64) (d .at) _ (refl, fits) $ fjoin ! $ move ! (1 ∷ 0 ∷ []) $ fjoin ! $
-      move ! (2 ∷ 0 ∷ []) $ use2 W (raw (RecordAt 𝓤 H A mem run .pre (call-on 𝓤 H A mem run α q d))) asked $ frame ! $ done !)
+      move ! (1 ∷ []) $ use1 W (‵ (ownAt (D α .parts) (L α) 0 (d .src)) ⊛ ‵ (Own α d)) src-apart $ split ! $
+      -- [what src owns; what the struct owns; the token]
+      nothing ! $ owned ! usize (Is usize) (uint-makes 𝓤 H A W w64) (d .at) _ (refl, fits) $ fjoin ! $ move ! (1 ∷ 0 ∷ []) $ fjoin ! $
+      move ! (2 ∷ 0 ∷ []) $ use2 W (raw (RecordAt 𝓤 H A mem run .pre (call-on 𝓤 H A mem run α q d))) asked $ frame ! $ done !
 
   check-asked : ent 𝓤 (onEntry 𝓤 H A check.signature (α .lft, tt) (q, tt) (d .src, tt) (lent α d)) (Check 𝓤 H A mem run .pre (check-on 𝓤 H A mem run α q d))
   check-asked = qed W ((‵ (flft (α .lft) q) ⊛ ‵ ftrue) ∷ ‵ (owns (ShrSlice (named 0) (α .lft) u8 ∷ []) (d .src, tt) (lent α d)) ∷ []) ∵ join ! $ frame ! $ done !
@@ -121,12 +129,10 @@ module _ {M : Type 1} (𝓤 : URA M) (H : Heap 𝓤) (A : Atoms 𝓤) (W : Given
   pub check-apart : ent 𝓤 (sep 𝓤 (sep 𝓤 (A .lft (α .lft) q) (sem 𝓤 H A ftrue)) (sem 𝓤 H A (Own α d))) (sep 𝓤 (Check 𝓤 H A mem run .pre (check-on 𝓤 H A mem run α q d)) (sem 𝓤 H A (Own α d)))
   check-apart =
       qed W ((‵ (flft (α .lft) q) ⊛ ‵ ftrue) ∷ ‵ (Own α d) ∷ []) ∵
-      move ! (1 ∷ []) $ use1 W (‵ (Own α d) ⊛ ‵ (Own α d)) (LL.copy (D α) (T′.the-copy α) 𝓤 H A W .twice d (T′.lowered d ∷ [])) $ split ! $
-      use1 W (given (T′.lowered d ∷ [] ≡ T′.lowered d ∷ []) (‵ (all-own (D α .parts) (L α) (fields α d)))) (own-open 𝓤 H A W (D α) (L α) (fields α d) (T′.lowered d)) $ learn ! (λ _.
-      use1 W (‵ (ownAt (D α .parts) (L α) 0 (d .src)) ⊛ ‵ (rest (D α .parts) (L α) 0 (fields α d))) (own-out 𝓤 H A W (D α .parts) (L α) 0 (fields α d)) $ split ! $
-      -- [what src owns; what at owns; what the struct owns; the token]
-      move ! (1 ∷ []) $ drop ! $ nothing ! $ move ! (1 ∷ 0 ∷ []) $ fjoin ! $
-      move ! (2 ∷ 0 ∷ []) $ use2 W (raw (Check 𝓤 H A mem run .pre (check-on 𝓤 H A mem run α q d))) check-asked $ frame ! $ done !)
+      move ! (1 ∷ []) $ use1 W (‵ (ownAt (D α .parts) (L α) 0 (d .src)) ⊛ ‵ (Own α d)) src-apart $ split ! $
+      -- [what src owns; what the struct owns; the token]
+      nothing ! $ move ! (1 ∷ 0 ∷ []) $ fjoin ! $
+      move ! (2 ∷ 0 ∷ []) $ use2 W (raw (Check 𝓤 H A mem run .pre (check-on 𝓤 H A mem run α q d))) check-asked $ frame ! $ done !
 
 -- 'a of a signature whose `&'s mut` stands before it
 abbrev pub second : Lft → NamedLft

@@ -9,7 +9,8 @@ use lib.Seq.{sets}
 use Rattle.product.specs.Code.{literalOf}
 use Rattle.product.specs.Cells.{sizeOf}
 use Rattle.formula.specs.declared.text.Issued.{Issued}
-use Rattle.formula.specs.declared.text.Status.the-variants.{Accepted as AcceptedText, Malformed as MalformedText, TooWide as TooWideText, Unsatisfiable as UnsatisfiableText}
+use Rattle.formula.specs.declared.text.Status.the-variants.{Accepted as AcceptedText, Malformed as MalformedText}
+use Rattle.formula.specs.declared.text.Status.the-variants.{TooWide as TooWideText, Unsatisfiable as UnsatisfiableText}
 use Rattle.formula.specs.declared.text.Row.{Row as Compiled·Row}
 use Rattle.formula.specs.declared.text.Compiled.{Compiled}
 use Rattle.formula.specs.Outcome.{rowWith}
@@ -19,7 +20,8 @@ use Rattle.model.specs.declared.answer.Answer.the-variants.{Accepted, Refused}
 use Rattle.base.specs.Lists.{any, keep, indexOf, each}
 use Rattle.model.specs.Limits.{mostSegments, mostDefined, mostStanding, mostNumbers, passes}
 use Rattle.model.specs.State.{isOfLock}
-use Rattle.model.specs.Cells.{Row, Table, cell, userCount, threadCount, segmentCount, definedCount, lockCount, tableAt, literalCell, head, usedRows, productIn}
+use Rattle.model.specs.Cells.{Row, Table, cell, userCount, threadCount, segmentCount, definedCount, lockCount}
+use Rattle.model.specs.Cells.{tableAt, literalCell, head, usedRows, productIn}
 use Rattle.model.specs.Stores.{countUp, storeRows, dropRows}
 
 -- ---- used rows

@@ -7,6 +7,7 @@ ghost use Rattle.model.specs.Limits.{mostSegments, mostStanding};
 ghost use Rattle.model.specs.Stores.{endRows, storeRows};
 ghost use Rattle.locks.specs.Internal.{UsedCount, hasRow, HomeFound, ClosedUp, Dropped, setLimit, rowsFrom};
 use crate::cells::product_row;
+use base::lengths::count_rows;
 use formula::text::Compiled;
 use model::arrays::LOCK_UNIT;
 use model::arrays::Locks;
@@ -16,7 +17,7 @@ use model::arrays::Products;
 pub(crate) fn used(products: &Products) -> usize
     ensures { λ r. ⌜ UsedCount (now (products .entry)) r ⌝ }
 {
-    let rows = rows_len(products);
+    let rows = count_rows(products);
     let mut i: usize = 0;
     while i < rows {
         if products[i][0] == 0 {
@@ -27,18 +28,11 @@ pub(crate) fn used(products: &Products) -> usize
     rows
 }
 
-// The length is asked of a slice, so that the proofs have it as a number.
-fn rows_len(rows: &[[u32; 8]]) -> usize
-    ensures { λ r. ⌜ r ≡ length (now (rows .entry)) ⌝ }
-{
-    rows.len()
-}
-
 // Whether a used row is of the lock.
 fn has_row(products: &Products, lock: u16) -> bool
     ensures { λ r. ⌜ r ≡ hasRow lock (now (products .entry)) ⌝ }
 {
-    let rows = rows_len(products);
+    let rows = count_rows(products);
     let mut i: usize = 0;
     while i < rows {
         let head = products[i][0];
@@ -106,7 +100,7 @@ pub(crate) fn add_rows(
 pub(crate) fn end_rows(products: &mut Products, n: usize)
     ensures { λ _. ⌜ now (products .exit) ≡ endRows (now (products .entry)) n ⌝ }
 {
-    if n < rows_len(products) {
+    if n < count_rows(products) {
         products[n][0] = 0;
     }
 }

@@ -1,3 +1,2 @@
-pub mod EveryRequest
 pub mod Examples
 pub mod Trials

@@ -113,16 +113,19 @@ frameCount = 2
 abbrev pub liveCell : ℕ
 liveCell = 3
 
--- ---- key lists: S n is n, D n is 64 more, and a cell without a key has the greatest number
+-- ---- key lists: S n is n, D n is `definedCodes` more, and a cell without a key has the greatest number
+
+abbrev pub definedCodes : ℕ
+definedCodes = 64
 
 abbrev pub noKey : ℕ
 noKey = 65535
 
 abbrev pub definedCell : ℕ → ℕ
-definedCell k = mostSegments + k
+definedCell k = definedCodes + k
 
 abbrev pub keyIn : ℕ → Key
-keyIn x = cond (ltb x mostSegments) (SegmentKey x) (Defined (x - mostSegments))
+keyIn x = cond (ltb x definedCodes) (SegmentKey x) (Defined (x - definedCodes))
 
 abbrev pub hasKey : ℕ → Bool
 hasKey x = not (eqb x noKey)
@@ -136,20 +139,35 @@ keyRow xs = xs ++ replicate (mostListed - length xs) noKey
 
 -- ---- literals
 
--- S n and D n have the code that they have in a key list, so that the check compares cells, and 32,768 more where they
--- are barred, which no code that a call stores in a list reaches; U n is 131,072 and R n is 262,144 more than n, and
--- 65,536 more than that where they are barred
+-- S n and D n have the code that they have in a key list, so that the check compares cells, and `barredListed`
+-- more where they are barred, which no code that a call stores in a list reaches; all these are below `listedCells`
+abbrev pub barredListed : ℕ
+barredListed = 32768
+
+abbrev pub listedCells : ℕ
+listedCells = 65536
+
+-- U n is `userCells` and R n is `threadCells` more than n, and `barredOwn` more than that where they are barred
+abbrev pub userCells : ℕ
+userCells = 131072
+
+abbrev pub threadCells : ℕ
+threadCells = 262144
+
+abbrev pub barredOwn : ℕ
+barredOwn = 65536
+
 abbrev pub keyCell : Key → ℕ
-keyCell (User n) = 131072 + n
-keyCell (ThreadKey n) = 262144 + n
+keyCell (User n) = userCells + n
+keyCell (ThreadKey n) = threadCells + n
 keyCell (SegmentKey n) = n
 keyCell (Defined n) = definedCell n
 
 abbrev pub barredBy : Key → ℕ
-barredBy (User n) = 65536
-barredBy (ThreadKey n) = 65536
-barredBy (SegmentKey n) = 32768
-barredBy (Defined n) = 32768
+barredBy (User n) = barredOwn
+barredBy (ThreadKey n) = barredOwn
+barredBy (SegmentKey n) = barredListed
+barredBy (Defined n) = barredListed
 
 abbrev pub literalCell : Literal → ℕ
 literalCell (Plain k) = keyCell k
@@ -161,13 +179,28 @@ signed plain k = cond plain (Plain k) (Barred k)
 -- what any number stands for
 abbrev pub literalIn : ℕ → Literal
 literalIn x =
-    cond (ltb x 65536) (signed (ltb x 32768) (keyIn (x % 32768)))
-    (signed (eqb (x / 65536 % 2) 0) (cond (ltb x 262144) (User (x % 65536)) (ThreadKey (x % 65536))))
+    cond (ltb x listedCells) (signed (ltb x barredListed) (keyIn (x % barredListed)))
+    (signed (eqb (x / barredOwn % 2) 0) (cond (ltb x threadCells) (User (x % barredOwn)) (ThreadKey (x % barredOwn))))
 
 -- ---- product rows
 
+-- the first cell: what a lock number and a literal count for, and how many numbers of literals there are; the
+-- operations stand below both
+abbrev pub lockUnit : ℕ
+lockUnit = 65536
+
+abbrev pub literalUnit : ℕ
+literalUnit = 16
+
+abbrev pub literalCounts : ℕ
+literalCounts = 8
+
 abbrev pub head : ℕ → ℕ → ℕ → ℕ
-head lock literals operations = lock * 65536 + literals * 16 + operations
+head lock literals operations = lock * lockUnit + literals * literalUnit + operations
+
+-- the cells after it
+abbrev pub literalCells : ℕ
+literalCells = 7
 
 abbrev pub isUsed : Row → Bool
 isUsed w = not (eqb (cell w 0) 0)
@@ -193,14 +226,15 @@ depthOf t = min (cell (rowAt t 0) frameCount) mostFrames
 abbrev pub placeIn : Table → Place
 placeIn t =
     let w = rowAt t 0 in
-    cond (eqb (cell w liveCell) 0) free (taken (cell w numberCell) (record { user = cell w userCell; frames = framesOf t (depthOf t) }))
+    cond (eqb (cell w liveCell) 0) free
+    (taken (cell w numberCell) (record { user = cell w userCell; frames = framesOf t (depthOf t) }))
 
 abbrev pub productIn : Row → LockProduct
 productIn w =
     record {
-      lock = cell w 0 / 65536;
-      operations = cell w 0 % 16;
-      product = each (λ i. literalIn (cell w i)) 1 (cell w 0 / 16 % 8);
+      lock = cell w 0 / lockUnit;
+      operations = cell w 0 % literalUnit;
+      product = each (λ i. literalIn (cell w i)) 1 (cell w 0 / literalUnit % literalCounts);
     }
 
 -- segment s's key list in its table: its own S key, whatever number stands in that cell, then the rest of row 1
@@ -233,22 +267,33 @@ stateOf d =
 
 -- ---- the arrays' sizes, and the empty state: every cell is 0
 
--- n tables of k rows of 8 cells
+-- the cells of a row, and of the registry; the rows of a segment and of a thread
+abbrev pub rowCells : ℕ
+rowCells = 8
+
+abbrev pub segmentRows : ℕ
+segmentRows = 2
+
+abbrev pub threadRows : ℕ
+threadRows = suc mostFrames
+
+-- n tables of k rows
 pub record Tables (n k : ℕ) (ts : List Table) : Type 0 where
   pub count : length ts ≡ n
   pub rows : (i : ℕ) → i < n → length (tableAt ts i) ≡ k
-  pub cells : (i j : ℕ) → i < n → j < k → length (rowAt (tableAt ts i) j) ≡ 8
+  pub cells : (i j : ℕ) → i < n → j < k → length (rowAt (tableAt ts i) j) ≡ rowCells
 
 pub record Sized (d : Cells) : Type 0 where
-  pub registry : length (d .registry) ≡ 8
+  pub registry : length (d .registry) ≡ rowCells
   pub makers : length (d .makers) ≡ mostDefined
-  pub segments : Tables mostSegments 2 (d .segments)
+  pub segments : Tables mostSegments segmentRows (d .segments)
   pub locks : Tables mostSegments mostStanding (d .locks)
-  pub threads : Tables mostThreads (suc mostFrames) (d .threads)
+  pub threads : Tables mostThreads threadRows (d .threads)
 
 abbrev pub zeros : ℕ → ℕ → List Table
-zeros n k = replicate n (replicate k (replicate 8 0))
+zeros n k = replicate n (replicate k (replicate rowCells 0))
 
 abbrev pub emptyCells : Cells
 emptyCells =
-    cellsWith (replicate 8 0) (replicate mostDefined 0) (zeros mostSegments 2) (zeros mostSegments mostStanding) (zeros mostThreads (suc mostFrames))
+    cellsWith (replicate rowCells 0) (replicate mostDefined 0) (zeros mostSegments segmentRows)
+    (zeros mostSegments mostStanding) (zeros mostThreads threadRows)

@@ -4,7 +4,7 @@ use mathlib.Core.List.{List, [], _∷_, _++_, map}
 use Prim.Native.Nat.{ℕ, suc}
 use lib.ListN.{length, getD, set}
 use Rattle.product.specs.declared.literal.Key.{Key}
-use Rattle.product.specs.declared.literal.Key.the-variants.{Segment as SegmentKey, Defined}
+use Rattle.product.specs.declared.literal.Key.the-variants.{Defined}
 use Rattle.product.specs.Product.{Product}
 use Rattle.product.specs.Sum.{Sum}
 use Rattle.formula.specs.Outcome.{sumIn}
@@ -13,36 +13,43 @@ use Rattle.call.specs.declared.request.Request.{Request}
 use Rattle.call.specs.declared.request.Request.the-variants as request
 use Rattle.base.specs.Lists.{keep, tailOf}
 use Rattle.model.specs.Operations.{execute, grants}
-use Rattle.model.specs.Threads.{Frame, Thread, sameKey}
-use Rattle.model.specs.State.{LockProduct, Segment, Place, State, segmentAt, userOf, issued, isFree, placeFor, placeOf, threadAt, isOfLock, lockSegment, free, taken}
+use Rattle.model.specs.Threads.{Frame, Thread, freshThread, withFrames, sameKey}
+use Rattle.model.specs.State.{LockProduct, Segment, Place, State, freshSegment, segmentAt, userOf, issued, isFree, placeFor, placeOf, threadAt, isOfLock, lockSegment, free, taken}
 use Rattle.model.specs.Refusals.{openingProduct, lockOf}
 
 -- ---- what an accepted call changes
 
+abbrev pub stateWith : ℕ → ℕ → ℕ → List ℕ → List Segment → List Place → State
+stateWith users threadNumbers lockNumbers makers segments places =
+    record {
+      users = users;
+      threadNumbers = threadNumbers;
+      lockNumbers = lockNumbers;
+      makers = makers;
+      segments = segments;
+      places = places;
+    }
+
 -- one part put in the place of what was there
 abbrev pub withUsers : State → ℕ → State
-withUsers d users =
-    record { users = users; threadNumbers = d .threadNumbers; lockNumbers = d .lockNumbers; makers = d .makers; segments = d .segments; places = d .places }
+withUsers d users = stateWith users (d .threadNumbers) (d .lockNumbers) (d .makers) (d .segments) (d .places)
 
 abbrev pub withThreadNumbers : State → ℕ → State
 withThreadNumbers d threadNumbers =
-    record { users = d .users; threadNumbers = threadNumbers; lockNumbers = d .lockNumbers; makers = d .makers; segments = d .segments; places = d .places }
+    stateWith (d .users) threadNumbers (d .lockNumbers) (d .makers) (d .segments) (d .places)
 
 abbrev pub withLockNumbers : State → ℕ → State
 withLockNumbers d lockNumbers =
-    record { users = d .users; threadNumbers = d .threadNumbers; lockNumbers = lockNumbers; makers = d .makers; segments = d .segments; places = d .places }
+    stateWith (d .users) (d .threadNumbers) lockNumbers (d .makers) (d .segments) (d .places)
 
 abbrev pub withMakers : State → List ℕ → State
-withMakers d makers =
-    record { users = d .users; threadNumbers = d .threadNumbers; lockNumbers = d .lockNumbers; makers = makers; segments = d .segments; places = d .places }
+withMakers d makers = stateWith (d .users) (d .threadNumbers) (d .lockNumbers) makers (d .segments) (d .places)
 
 abbrev pub withSegments : State → List Segment → State
-withSegments d segments =
-    record { users = d .users; threadNumbers = d .threadNumbers; lockNumbers = d .lockNumbers; makers = d .makers; segments = segments; places = d .places }
+withSegments d segments = stateWith (d .users) (d .threadNumbers) (d .lockNumbers) (d .makers) segments (d .places)
 
 abbrev pub withPlaces : State → List Place → State
-withPlaces d places =
-    record { users = d .users; threadNumbers = d .threadNumbers; lockNumbers = d .lockNumbers; makers = d .makers; segments = d .segments; places = places }
+withPlaces d places = stateWith (d .users) (d .threadNumbers) (d .lockNumbers) (d .makers) (d .segments) places
 
 abbrev pub onSegment : State → ℕ → (Segment → Segment) → State
 onSegment d s f = withSegments d (set (d .segments) s (f (segmentAt d s)))
@@ -57,11 +64,11 @@ atPlace d n f = let i = placeOf n (d .places) in withPlaces d (set (d .places) i
 
 -- 'A granted call hands the run the segment's key list as it then is.'
 abbrev pub pushFrame : ℕ → List Key → Thread → Thread
-pushFrame s keys t = record { user = t .user; frames = record { segment = s; keys = keys } ∷ t .frames }
+pushFrame s keys t = withFrames t (record { segment = s; keys = keys } ∷ t .frames)
 
 -- 'R leaves the newest open call.'
 abbrev pub popFrame : Thread → Thread
-popFrame t = record { user = t .user; frames = tailOf (t .frames) }
+popFrame t = withFrames t (tailOf (t .frames))
 
 abbrev pub newest : List Frame → ℕ
 newest [] = 0
@@ -93,12 +100,12 @@ module _ (compile : Compiler) where
   update d request.NewUser text = withUsers d (suc (d .users))
   update d (request.StartThread a) text =
       let n = d .threadNumbers in
-      let new = taken n (record { user = a; frames = [] }) in
+      let new = taken n (freshThread a) in
       withThreadNumbers (withPlaces d (set (d .places) (placeFor n isFree (d .places)) new)) (suc n)
   update d (request.EndThread a) text = atPlace d a (λ p. free)
   update d (request.NewSegment a b) text =
       let s = length (d .segments) in
-      withSegments d (d .segments ++ record { owner = userOf d a; kind = b; keys = SegmentKey s ∷ []; products = [] } ∷ [])
+      withSegments d (d .segments ++ freshSegment s (userOf d a) b ∷ [])
   update d (request.NewKey a) text = withMakers d (d .makers ++ userOf d a ∷ [])
   update d (request.GiveKey a b c) text = onSegment d b (giveKey c)
   update d (request.TakeKey a b c) text = onSegment d b (takeKey c)

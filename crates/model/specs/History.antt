@@ -18,7 +18,7 @@ use Rattle.model.specs.declared.answer.Answer.{Answer}
 use Rattle.model.specs.declared.answer.Answer.the-variants.{Accepted, Refused}
 use Rattle.model.specs.Answers.{isAccepted}
 use Rattle.base.specs.Lists.{Map, put, remove, adjust, any, keep, orDefault, tailOf}
-use Rattle.model.specs.Threads.{Frame, Thread, sameKey}
+use Rattle.model.specs.Threads.{Frame, Thread, freshThread, withFrames, sameKey}
 use Rattle.formula.specs.declared.text.Issued.{Issued}
 
 -- a segment handed out
@@ -26,6 +26,10 @@ pub record Entry : Type 0 where
   pub owner : ℕ
   pub kind : ℕ
   pub keys : List Key
+
+-- segment n when it is handed out: 'a list of its own S key'
+abbrev pub freshEntry : ℕ → ℕ → ℕ → Entry
+freshEntry n owner kind = record { owner = owner; kind = kind; keys = SegmentKey n ∷ [] }
 
 -- a standing lock, with its text for its formula
 pub record Lock : Type 0 where
@@ -57,7 +61,7 @@ abbrev pub onKeys : (List Key → List Key) → Entry → Entry
 onKeys f e = record { owner = e .owner; kind = e .kind; keys = f (e .keys) }
 
 abbrev pub onFrames : (List Frame → List Frame) → Thread → Thread
-onFrames f t = record { user = t .user; frames = f (t .frames) }
+onFrames f t = withFrames t (f (t .frames))
 
 -- the list that segment s then has
 abbrev pub listOf : History → ℕ → List Key
@@ -73,18 +77,21 @@ note h request.NewUser text n = h
 note h (request.NewKey a) text n = h
 note h (request.Access a b c) text n = h
 -- 'S writes the answered run as live, with user a and no open calls. E strikes run a and its open calls.'
-note h (request.StartThread a) text n = withThreads h (put (h .threads) n (record { user = a; frames = [] }))
+note h (request.StartThread a) text n = withThreads h (put (h .threads) n (freshThread a))
 note h (request.EndThread a) text n = withThreads h (remove (h .threads) a)
 -- 'N writes the answered segment as handed out, with owner a, kind b and a list of its own S key.'
-note h (request.NewSegment a b) text n = withEntries h (put (h .segments) n (record { owner = editorIn h a; kind = b; keys = SegmentKey n ∷ [] }))
+note h (request.NewSegment a b) text n = withEntries h (put (h .segments) n (freshEntry n (editorIn h a) b))
 -- 'G adds D key c to segment b's list. T strikes it there.'
 note h (request.GiveKey a b c) text n = withEntries h (adjust (h .segments) b (onKeys (λ keys. keys ++ Defined c ∷ [])))
-note h (request.TakeKey a b c) text n = withEntries h (adjust (h .segments) b (onKeys (keep (λ k. not (sameKey (Defined c) k)))))
+note h (request.TakeKey a b c) text n =
+    withEntries h (adjust (h .segments) b (onKeys (keep (λ k. not (sameKey (Defined c) k)))))
 -- 'L writes the answered lock as standing, with segment b, operations c and the text's formula. D strikes lock b.'
-note h (request.AddLock a b c) text n = withLocks h (h .locks ++ record { number = n; segment = b; operations = c; text = text } ∷ [])
+note h (request.AddLock a b c) text n =
+    withLocks h (h .locks ++ record { number = n; segment = b; operations = c; text = text } ∷ [])
 note h (request.DropLock a b) text n = withLocks h (keep (λ l. not (eqb (l .number) b)) (h .locks))
 -- 'C writes, as run a's newest open call, segment b with the list that b then has. R strikes run a's newest open call.'
-note h (request.CallSegment a b) text n = withThreads h (adjust (h .threads) a (onFrames (λ frames. record { segment = b; keys = listOf h b } ∷ frames)))
+note h (request.CallSegment a b) text n =
+    withThreads h (adjust (h .threads) a (onFrames (λ frames. record { segment = b; keys = listOf h b } ∷ frames)))
 note h (request.ReturnCall a) text n = withThreads h (adjust (h .threads) a (onFrames tailOf))
 
 -- 'Refused calls .. change nothing in it.'
@@ -144,4 +151,10 @@ makersOf es = makersFrom emptyHistory es
 
 -- the keys that the accepted U, S, N and K handed out
 abbrev pub issuedBy : List Event → Issued
-issuedBy es = record { users = acceptedOf letters.U es; threads = acceptedOf letters.S es; segments = acceptedOf letters.N es; defined = acceptedOf letters.K es }
+issuedBy es =
+    record {
+      users = acceptedOf letters.U es;
+      threads = acceptedOf letters.S es;
+      segments = acceptedOf letters.N es;
+      defined = acceptedOf letters.K es;
+    }

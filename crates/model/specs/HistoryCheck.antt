@@ -15,6 +15,7 @@ use Rattle.model.specs.declared.answer.Refusal.the-variants.{Full, Denie
 use Rattle.model.specs.declared.answer.Answer.{Answer}
 use Rattle.model.specs.declared.answer.Answer.the-variants.{Accepted, Refused}
 use Rattle.base.specs.Lists.{any, first}
+use Rattle.model.specs.Limits.{mostFrames}
 use Rattle.model.specs.Operations.{execute, denies, grants, takes, isAccess}
 use Rattle.model.specs.Threads.{Thread, keySet}
 use Rattle.model.specs.History.{History, Entry, Lock}
@@ -55,7 +56,7 @@ pub record Fits (h : History) (next : Call) (o : Operation) : Type 0 where
 
 -- 'for a C, fewer than sixteen of the run's calls are open'
 abbrev pub hasRoom : Operation → Thread → Bool
-hasRoom (calls a b) t = ltb (length (t .frames)) 16
+hasRoom (calls a b) t = ltb (length (t .frames)) mostFrames
 hasRoom (accesses a b c) t = true
 
 module _ (holds : Meaning) where
@@ -64,7 +65,8 @@ module _ (holds : Meaning) where
   -- formula that it spells: `HoldsSpelt` and `OpeningLaw` of crates/formula, `formula` of `Mirror`.
   abbrev pub lockOpens : (ℕ → ℕ → Bool) → Operation → Thread → Lock → Bool
   lockOpens stands o t l =
-      eqb (l .segment) (targetOf o) && (stands (l .operations) (operationOf o) && holds (keySet (threadOf o) t) (l .text))
+      eqb (l .segment) (targetOf o)
+      && (stands (l .operations) (operationOf o) && holds (keySet (threadOf o) t) (l .text))
 
   -- no deny lock opens, some grant lock does, and there is room
   abbrev pub granted : History → Operation → Thread → Bool
@@ -88,4 +90,6 @@ checkAnswer none (some l) true = Accepted (l .number)
 
 -- The standing locks are in the order of their numbers (`Numbering`), so the first that opens is the lowest.
 abbrev pub answerFrom : Meaning → History → Operation → Thread → Answer
-answerFrom holds h o t = checkAnswer (first (lockOpens holds denies o t) (h .locks)) (first (lockOpens holds grants o t) (h .locks)) (hasRoom o t)
+answerFrom holds h o t =
+    checkAnswer (first (lockOpens holds denies o t) (h .locks)) (first (lockOpens holds grants o t) (h .locks))
+    (hasRoom o t)

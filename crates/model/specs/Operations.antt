@@ -24,7 +24,8 @@ isOperation n = eqb n execute || (eqb n read || eqb n write)
 abbrev pub includes : ℕ → ℕ → Bool
 includes operations n = eqb (operations / n % 2) 1
 
--- the sets have an operation in common; of one operation this is `includes`: `shares-one` in `proofs/OperationSets`
+-- the sets have an operation in common; of one operation this is `includes`: `shares-one` in
+-- `proofs/Refinement/OperationSets`
 abbrev pub shares : ℕ → ℕ → Bool
 shares operations n = not (eqb (bitAnd operations n) 0)
 
@@ -54,9 +55,13 @@ isAccess n = eqb n read || eqb n write
 abbrev pub takesIn : ℕ → ℕ → ℕ → Bool
 takesIn kind operations n = not (includes operations n) || takes kind n
 
+-- a set has no bits above 8
+abbrev pub operationSets : ℕ
+operationSets = 16
+
 -- a lock's set: with 1, 2 or 4, no bits above 8, and no operation that the segment doesn't take
 abbrev pub takesSet : ℕ → ℕ → Bool
 takesSet kind operations =
-    ltb operations 16
+    ltb operations operationSets
     && ((includes operations execute || includes operations read || includes operations write)
     && (takesIn kind operations execute && takesIn kind operations read && takesIn kind operations write))

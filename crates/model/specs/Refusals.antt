@@ -19,7 +19,7 @@ use Rattle.base.specs.Lists.{first, isSome, orDefault}
 use Rattle.model.specs.Limits.{mostUsers, mostThreads, mostSegments, mostDefined, mostListed, mostStanding, mostFrames, mostNumbers, passes}
 use Rattle.model.specs.Operations.{execute, denies, grants, sheet, takes, isAccess, takesSet}
 use Rattle.model.specs.Threads.{isIn, KeySet, keySet}
-use Rattle.model.specs.State.{LockProduct, State, isUser, isSegment, isKey, segmentAt, isEditor, userOf, owns, made, issued, liveIn, isLive, threadAt, isLock, lockSegment}
+use Rattle.model.specs.State.{LockProduct, State, isUser, isSegment, isKey, segmentAt, editor, userOf, owns, made, issued, liveIn, isLive, threadAt, isLock, lockSegment}
 
 -- ---- the check
 
@@ -64,9 +64,13 @@ denied d a b n = let o = openingProduct d denies a b n in when (isSome o) (Denie
 abbrev pub notGranted : State → ℕ → ℕ → ℕ → Condition Refusal
 notGranted d a b n = unless (isSome (openingProduct d grants a b n)) NotGranted
 
+-- '8 products in all standing locks of a segment', '65,536 .. lock numbers': no lock of n products can be added
+abbrev pub noRoom : State → ℕ → ℕ → Bool
+noRoom d b n = passes mostStanding (length (segmentAt d b .products) + n) || passes mostNumbers (suc (d .lockNumbers))
+
 -- 'user not handed out', in an edit
 abbrev pub unknownEditor : State → ℕ → Condition Refusal
-unknownEditor d a = unless (isEditor d a) UnknownUser
+unknownEditor d a = unless (editor d a .known) UnknownUser
 
 module _ (compile : Compiler) where
   -- 'Checked in that order, 10 last.'
@@ -113,7 +117,7 @@ module _ (compile : Compiler) where
       ∷ when (isMalformed (compile (issued d) text)) Malformed
       ∷ when (isTooWide (compile (issued d) text)) TooWide
       ∷ when (isUnsatisfiable (compile (issued d) text)) Unsatisfiable
-      ∷ when (passes mostStanding (length (segmentAt d b .products) + length (sumIn (compile (issued d) text))) || passes mostNumbers (suc (d .lockNumbers))) Full
+      ∷ when (noRoom d b (length (sumIn (compile (issued d) text)))) Full
       ∷ []
   conditions d (request.DropLock a b) text =
       unknownEditor d a

@@ -1,17 +1,18 @@
 -- The protection state (document 01: desk) as short lists and records, and what is read of it. In what follows d is
 -- one.
 use mathlib.Core.Bool.{Bool, true, false, not, cond}
-use mathlib.Core.List.{List, []}
+use mathlib.Core.List.{List, [], _∷_}
 use mathlib.Core.Option.{Option, none, some}
 use Prim.Native.Nat.{ℕ, _%_}
 use lib.Dec.{eqb, ltb}
 use lib.ListN.{length, getD, replicate}
 use Rattle.product.specs.declared.literal.Key.{Key}
+use Rattle.product.specs.declared.literal.Key.the-variants.{Segment as SegmentKey}
 use Rattle.product.specs.Product.{Product}
 use Rattle.formula.specs.declared.text.Issued.{Issued}
 use Rattle.base.specs.Lists.{any, keep, indexOf, isSome, orDefault}
 use Rattle.model.specs.Limits.{mostThreads}
-use Rattle.model.specs.Threads.{Thread}
+use Rattle.model.specs.Threads.{Thread, freshThread}
 
 -- a product of a standing lock, with the lock's number and operations
 pub record LockProduct : Type 0 where
@@ -44,7 +45,15 @@ pub record State : Type 0 where
 
 -- 'An empty desk is a new one, before any call.'
 abbrev pub emptyState : State
-emptyState = record { users = 0; threadNumbers = 0; lockNumbers = 0; makers = []; segments = []; places = replicate mostThreads free }
+emptyState =
+    record {
+      users = 0;
+      threadNumbers = 0;
+      lockNumbers = 0;
+      makers = [];
+      segments = [];
+      places = replicate mostThreads free;
+    }
 
 -- ---- reading it
 
@@ -60,16 +69,24 @@ isKey d k = ltb k (length (d .makers))
 abbrev pub blankSegment : Segment
 blankSegment = record { owner = 0; kind = 0; keys = []; products = [] }
 
+-- segment s when it is handed out: 'a list of its own S key', and no lock
+abbrev pub freshSegment : ℕ → ℕ → ℕ → Segment
+freshSegment s owner kind = record { owner = owner; kind = kind; keys = SegmentKey s ∷ []; products = [] }
+
 abbrev pub segmentAt : State → ℕ → Segment
 segmentAt d s = getD (d .segments) s blankSegment
 
--- Who edits, in the six calls that change segments, keys and locks (N, K, G, T, L and D): field a names the user. Whether
--- it names one, and the user that it names where it does.
-abbrev pub isEditor : State → ℕ → Bool
-isEditor d a = isUser d a
+-- Who edits, in the six calls that change segments, keys and locks (N, K, G, T, L and D): whether field a names
+-- somebody, and the user whom it names.
+pub record Editor : Type 0 where
+  pub known : Bool
+  pub user : ℕ
+
+abbrev pub editor : State → ℕ → Editor
+editor d a = record { known = isUser d a; user = a }
 
 abbrev pub userOf : State → ℕ → ℕ
-userOf d a = a
+userOf d a = editor d a .user
 
 abbrev pub owns : State → ℕ → ℕ → Bool
 owns d u s = eqb (segmentAt d s .owner) u
@@ -79,7 +96,13 @@ made d u k = eqb (getD (d .makers) k 0) u
 
 -- 'Numbers .. rise from 0 and are never handed out again.' 'An ended run's R key may still be named in a text.'
 abbrev pub issued : State → Issued
-issued d = record { users = d .users; threads = d .threadNumbers; segments = length (d .segments); defined = length (d .makers) }
+issued d =
+    record {
+      users = d .users;
+      threads = d .threadNumbers;
+      segments = length (d .segments);
+      defined = length (d .makers);
+    }
 
 abbrev pub isFree : Place → Bool
 isFree free = true
@@ -112,7 +135,7 @@ abbrev pub isLive : State → ℕ → Bool
 isLive d n = isSome (findThread n (d .places))
 
 abbrev pub blankThread : Thread
-blankThread = record { user = 0; frames = [] }
+blankThread = freshThread 0
 
 abbrev pub threadAt : State → ℕ → Thread
 threadAt d n = orDefault blankThread (λ t. t) (findThread n (d .places))

@@ -22,10 +22,10 @@ use Rattle.model.specs.declared.answer.Refusal.the-variants.{Corrupt}
 use Rattle.model.specs.declared.answer.Answer.{Answer}
 use Rattle.model.specs.declared.answer.Answer.the-variants.{Accepted, Refused}
 use Rattle.base.specs.Lists.{keep}
-use Rattle.model.specs.State.{isFree, placeFor, placeOf, lockSegment, issued}
+use Rattle.model.specs.State.{userOf, isFree, placeFor, placeOf, lockSegment, issued}
 use Rattle.model.specs.Refusals.{conditions}
 use Rattle.model.specs.Effects.{answer}
-use Rattle.model.specs.Cells.{Row, Table, Cells, registryIs, makersAre, segmentsAre, locksAre, threadsAre, cell, rowAt, tableAt, userCount, threadCount, segmentCount, definedCount, lockCount, frameCount, liveCell, definedCell, hasKey, keyRow, literalCell, head, usedRows, depthOf, productIn, listRow, stateOf}
+use Rattle.model.specs.Cells.{Row, Table, Cells, registryIs, makersAre, segmentsAre, locksAre, threadsAre, cell, rowAt, tableAt, userCount, threadCount, segmentCount, definedCount, lockCount, frameCount, liveCell, definedCell, hasKey, keyRow, literalCell, head, literalCells, usedRows, depthOf, productIn, listRow, stateOf}
 
 -- ---- what an accepted call stores
 
@@ -67,7 +67,8 @@ abbrev pub storeRows : ℕ → Table → Table → Table
 storeRows n ws t = endRows (sets t n ws) (n + length ws)
 
 abbrev pub productRow : ℕ → ℕ → Product → Row
-productRow lock operations p = head lock (length p) operations ∷ map literalCell p ++ replicate (7 - length p) 0
+productRow lock operations p =
+    head lock (length p) operations ∷ map literalCell p ++ replicate (literalCells - length p) 0
 
 abbrev pub addRows : ℕ → ℕ → Sum → Table → Table
 addRows lock operations ps t = storeRows (length (usedRows t)) (map (productRow lock operations) ps) t
@@ -90,10 +91,6 @@ atThread d n f = threadsAre (onTable (d .threads) (placeOf n (stateOf d .places)
 abbrev pub handOut : ℕ → Cells → Cells
 handOut j d = registryIs (countUp (d .registry) j) d
 
--- who edits, in the arrays: `userOf` of the state that they hold
-abbrev pub userIn : Cells → ℕ → ℕ
-userIn d a = a
-
 module _ (compile : Compiler) where
   unfoldable pub store : Cells → Request → List ℕ → Cells
   store d request.NewUser text = handOut userCount d
@@ -105,11 +102,11 @@ module _ (compile : Compiler) where
   store d (request.NewSegment a b) text =
       let s = cell (d .registry) segmentCount in
       handOut segmentCount
-      (segmentsAre (set (d .segments) s (newSegment s (userIn d a) b))
+      (segmentsAre (set (d .segments) s (newSegment s (userOf (stateOf d) a) b))
       (locksAre (onTable (d .locks) s (λ t. endRows t 0)) d))
   store d (request.NewKey a) text =
       let k = cell (d .registry) definedCount in
-      handOut definedCount (makersAre (set (d .makers) k (userIn d a)) d)
+      handOut definedCount (makersAre (set (d .makers) k (userOf (stateOf d) a)) d)
   store d (request.GiveKey a b c) text = segmentsAre (onTable (d .segments) b (giveCode b (definedCell c))) d
   store d (request.TakeKey a b c) text = segmentsAre (onTable (d .segments) b (takeCode b (definedCell c))) d
   store d (request.AddLock a b c) text =

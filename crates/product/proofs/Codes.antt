@@ -180,58 +180,64 @@ never-equal Less p e = refl
 never-equal Equal p e = e
 never-equal Greater p e = refl
 
-module _ {x y : Literal} {a b : Key} where
-  module _ (e : x ≡ Plain a) (f : y ≡ Plain b) where
-    pub plain-plain-same : {r : Bool} → r ≡ isEqual (compareAtoms a b) → r ≡ same x y
-    unfolding compareLiterals orderOf
-    plain-plain-same g = rw (e, f) (g ∙ sym (equal-then (compareAtoms a b)))
+-- literals, by their signs: plain where the truth value is true
 
-    pub plain-plain-before : {r : Bool} → r ≡ isLess (compareAtoms a b) → r ≡ before x y
-    unfolding compareLiterals orderOf
-    plain-plain-before g = rw (e, f) (g ∙ sym (less-then (compareAtoms a b)))
+abbrev pub signed : Bool → Key → Literal
+signed true a = Plain a
+signed false a = Barred a
 
-    pub plain-plain-opposed : false ≡ opposed x y
-    unfolding compareLiterals orderOf
-    plain-plain-opposed = rw (e, f, equal-then (compareAtoms a b)) (sym (and-not-self (isEqual (compareAtoms a b))))
+abbrev signOrder : Bool → Bool → Order
+signOrder true true = Equal
+signOrder true false = Less
+signOrder false true = Greater
+signOrder false false = Equal
 
-  module _ (e : x ≡ Plain a) (f : y ≡ Barred b) where
-    pub plain-barred-same : false ≡ same x y
-    unfolding compareLiterals orderOf
-    plain-barred-same = rw (e, f) (sym (never-equal (compareAtoms a b) Less refl))
+abbrev pub alike : Bool → Bool → Bool
+alike true q = q
+alike false q = not q
 
-    pub plain-barred-before : {r : Bool} → r ≡ isLess (compareAtoms b a) → not r ≡ before x y
-    unfolding compareLiterals orderOf
-    plain-barred-before g = rw (e, f) (ap not g ∙ turned-round a b)
+compare-signed : (p q : Bool) (a b : Key) → compareLiterals (signed p a) (signed q b) ≡ thenBy (compareAtoms a b) (signOrder p q)
+unfolding compareLiterals orderOf
+compare-signed true true a b = refl
+compare-signed true false a b = refl
+compare-signed false true a b = refl
+compare-signed false false a b = refl
 
-    pub plain-barred-opposed : {r : Bool} → r ≡ isEqual (compareAtoms a b) → r ≡ opposed x y
-    unfolding compareLiterals orderOf
-    plain-barred-opposed g = rw (e, f, never-equal (compareAtoms a b) Less refl) (g ∙ sym (and-true (isEqual (compareAtoms a b))))
+equal-signed : (p q : Bool) (o : Order) → isEqual (thenBy o (signOrder p q)) ≡ (alike p q && isEqual o)
+equal-signed true true o = equal-then o
+equal-signed true false o = never-equal o Less refl
+equal-signed false true o = never-equal o Greater refl
+equal-signed false false o = equal-then o
 
-  module _ (e : x ≡ Barred a) (f : y ≡ Plain b) where
-    pub barred-plain-same : false ≡ same x y
-    unfolding compareLiterals orderOf
-    barred-plain-same = rw (e, f) (sym (never-equal (compareAtoms a b) Greater refl))
+less-signed : (p q : Bool) (a b : Key)
+    → isLess (thenBy (compareAtoms a b) (signOrder p q)) ≡ cond (p && not q) (not (isLess (compareAtoms b a))) (isLess (compareAtoms a b))
+less-signed true true a b = less-then (compareAtoms a b)
+less-signed true false a b = sym (turned-round a b)
+less-signed false true a b = less-not (compareAtoms a b)
+less-signed false false a b = less-then (compareAtoms a b)
 
-    pub barred-plain-before : {r : Bool} → r ≡ isLess (compareAtoms a b) → r ≡ before x y
-    unfolding compareLiterals orderOf
-    barred-plain-before g = rw (e, f) (g ∙ sym (less-not (compareAtoms a b)))
+atom-signed : (p : Bool) (a : Key) → atomOf (signed p a) ≡ a
+atom-signed true a = refl
+atom-signed false a = refl
 
-    pub barred-plain-opposed : {r : Bool} → r ≡ isEqual (compareAtoms a b) → r ≡ opposed x y
-    unfolding compareLiterals orderOf
-    barred-plain-opposed g = rw (e, f, never-equal (compareAtoms a b) Greater refl) (g ∙ sym (and-true (isEqual (compareAtoms a b))))
+but-not-both : (n c : Bool) → (c && not (n && c)) ≡ (not n && c)
+but-not-both true c = and-not-self c
+but-not-both false c = and-true c
 
-  module _ (e : x ≡ Barred a) (f : y ≡ Barred b) where
-    pub barred-barred-same : {r : Bool} → r ≡ isEqual (compareAtoms a b) → r ≡ same x y
-    unfolding compareLiterals orderOf
-    barred-barred-same g = rw (e, f) (g ∙ sym (equal-then (compareAtoms a b)))
+-- the tests of two literals, by those of their keys
+module _ (p q : Bool) {x y : Literal} (a b : Key) (e : x ≡ signed p a) (f : y ≡ signed q b) where
+  pub same-signed : same x y ≡ (alike p q && isEqual (compareAtoms a b))
+  same-signed =
+      ap₂ same e f ∙ ap isEqual (compare-signed p q a b) ∙ equal-signed p q (compareAtoms a b)
 
-    pub barred-barred-before : {r : Bool} → r ≡ isLess (compareAtoms a b) → r ≡ before x y
-    unfolding compareLiterals orderOf
-    barred-barred-before g = rw (e, f) (g ∙ sym (less-then (compareAtoms a b)))
+  pub before-signed : before x y ≡ cond (p && not q) (not (isLess (compareAtoms b a))) (isLess (compareAtoms a b))
+  before-signed = ap₂ before e f ∙ ap isLess (compare-signed p q a b) ∙ less-signed p q a b
 
-    pub barred-barred-opposed : false ≡ opposed x y
-    unfolding compareLiterals orderOf
-    barred-barred-opposed = rw (e, f, equal-then (compareAtoms a b)) (sym (and-not-self (isEqual (compareAtoms a b))))
+  pub opposed-signed : opposed x y ≡ (not (alike p q) && isEqual (compareAtoms a b))
+  opposed-signed =
+      ap₂ (λ (c n : Bool). c && not n)
+      (ap₂ (λ (k l : Key). isEqual (compareAtoms k l)) (ap atomOf e ∙ atom-signed p a) (ap atomOf f ∙ atom-signed q b)) same-signed
+      ∙ but-not-both (alike p q) (isEqual (compareAtoms a b))
 
 -- the key of a number, by its first digit
 

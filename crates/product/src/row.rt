@@ -13,6 +13,7 @@ use crate::literal::decode;
 use crate::literal::encode;
 use crate::sum::COUNT_CELL;
 use crate::sum::MOST_LITERALS;
+use base::counts::at_most;
 
 // Document 01: product. Its cells, and those in which two are joined.
 pub(crate) type Cells = [u32; 8];
@@ -146,8 +147,7 @@ fn clashes(cells: &Wide, n: usize, from: usize, x: Literal) -> bool
 pub(crate) fn size(row: &Cells) -> usize
     ensures { λ r. ⌜ Size (now (row .entry)) r ⌝ }
 {
-    let n = last_cell(row);
-    if n <= MOST_LITERALS { n } else { MOST_LITERALS }
+    at_most(last_cell(row), MOST_LITERALS)
 }
 
 fn last_cell(row: &[u32]) -> usize

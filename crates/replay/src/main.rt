@@ -6,8 +6,8 @@ use libc::STDOUT_FILENO;
 use transcript::MOST_PRINTED;
 use transcript::transcript;
 
-// One byte more than the most of a file: a longer one prints the same as its first 65,536 bytes (`specs/Enough` of
-// `lines`).
+// One byte more than the most of a file: a longer one prints the same as its first 65,536 bytes (`Enough` of
+// `transcript`).
 const MOST_READ: usize = 65536;
 
 fn main() {

@@ -60,8 +60,8 @@ module _ (d : Cells) where
   segments-there = length-each (segmentIn d) 0 (min (cell (d .registry) segmentCount) mostSegments)
 
   module _ (s : ℕ) {n : ℕ} (c : Counted (cell (d .registry) segmentCount) mostSegments n) where
-    pub no-segment : n ≤ s → not (isSegment (stateOf d) s) ≡ true
-    no-segment h = ap not (is-segment d s ∙ le-ltb s (min (cell (d .registry) segmentCount) mostSegments) (let e = c .count in omega arith))
+    pub segment-missing : n ≤ s → not (isSegment (stateOf d) s) ≡ true
+    segment-missing h = ap not (is-segment d s ∙ le-ltb s (min (cell (d .registry) segmentCount) mostSegments) (let e = c .count in omega arith))
 
     pub a-segment : s < n → not (isSegment (stateOf d) s) ≡ false
     a-segment h = ap not (is-segment d s ∙ lt-ltb s (min (cell (d .registry) segmentCount) mostSegments) (let e = c .count in omega arith))
@@ -71,9 +71,9 @@ module _ (d : Cells) where
     segment-here h = segment-at d s (let e = c .count in omega arith)
 
   module _ (k : ℕ) {n : ℕ} (c : Handed (cell (d .registry) definedCount) (d .makers) n) where
-    pub no-key : n ≤ k → not (isKey (stateOf d) k) ≡ true
+    pub key-missing : n ≤ k → not (isKey (stateOf d) k) ≡ true
     unfolding stateOf
-    no-key h = ap not (le-ltb k (length (take (min (cell (d .registry) definedCount) mostDefined) (d .makers))) (let e = c .keys in omega arith))
+    key-missing h = ap not (le-ltb k (length (take (min (cell (d .registry) definedCount) mostDefined) (d .makers))) (let e = c .keys in omega arith))
 
     pub a-key : k < n → not (isKey (stateOf d) k) ≡ false
     unfolding stateOf

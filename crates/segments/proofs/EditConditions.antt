@@ -1,9 +1,10 @@
--- The tests that G and T begin with: the user, the segment and the key are handed out.
-use mathlib.Core.Path.{_≡_, ap, _∙_}
-use mathlib.Core.Bool.{Bool, true, false, not}
+-- What the tests that G and T begin with say of the state: the user, the segment and the key are handed out.
+use mathlib.Core.Path.{_≡_, refl, ap, subst, _∙_}
+use mathlib.Core.Bool.{false, not}
 use mathlib.Core.List.{List, _∷_}
-use Prim.Native.Nat.{ℕ, _≤_, _<_}
-use lib.Dec.{ltb}
+use mathlib.Core.Option.{some}
+use Prim.Native.Nat.{ℕ, _<_}
+use native.Mathlib.Omega.{arith}
 use lib.ListN.{getD}
 use Rattle.formula.specs.Outcome.{outcomeOf}
 use Rattle.call.specs.declared.request.Request.{Request}
@@ -11,15 +12,16 @@ use Rattle.base.specs.Conditions.{Condition, firstRefusal}
 use Rattle.model.specs.declared.answer.Refusal.{Refusal}
 use Rattle.model.specs.declared.answer.Refusal.the-variants.{UnknownUser, NoSegment, NoKey}
 use Rattle.model.specs.declared.answer.Answer.the-variants.{Refused}
-use Rattle.model.specs.Limits.{mostSegments}
+use Rattle.model.specs.Limits.{mostSegments, mostDefined}
 use Rattle.model.specs.Refusals.{conditions, unless}
 use Rattle.model.specs.State.{isUser, isSegment, isKey, segmentAt}
-use Rattle.model.specs.Cells.{Cells, cell, userCount, segmentCount, definedCount, segmentIn, stateOf}
+use Rattle.model.specs.Cells.{Row, Cells, cell, segmentIn, stateOf}
 use Rattle.model.specs.Serving.{Serves}
 use Rattle.model.proofs.Refinement.Serving.{serves-refused}
-use Rattle.base.specs.Counts.{Counted}
-use Rattle.registry.specs.Counts.{Handed}
-use Rattle.segments.proofs.ArrayTests.{user-test, no-segment, a-segment, segment-here, no-key, a-key, maker-here}
+use Rattle.segments.specs.declared.names.NameTest.{NameTest}
+use Rattle.segments.specs.declared.names.NameTest.the-variants.{Passed, Failed}
+use Rattle.segments.specs.Internal.{NamesTested, no-user, no-segment, no-key, handed-out}
+use Rattle.segments.proofs.ArrayTests.{user-test, segment-missing, a-segment, segment-here, key-missing, a-key, maker-here}
 
 -- the call's conditions begin with them
 abbrev pub Names : Cells → Request → List ℕ → ℕ → ℕ → ℕ → Type 0
@@ -36,28 +38,49 @@ pub record Named (d : Cells) (u s k : ℕ) : Type 0 where
   pub there : segmentAt (stateOf d) s ≡ segmentIn d s
   pub maker : getD (stateOf d .makers) k 0 ≡ cell (d .makers) k
 
-pub named : (d : Cells) (u s k : ℕ) {r : Bool} → r ≡ ltb u (cell (d .registry) userCount) → not r ≡ false
-    → {n : ℕ} → Counted (cell (d .registry) segmentCount) mostSegments n → s < n
-    → {m : ℕ} → Handed (cell (d .registry) definedCount) (d .makers) m → k < m → Named d u s k
-named d u s k known user segments segment keys key =
-    record {
-      user = user-test d u known user;
-      segment = a-segment d s segments segment;
-      key = a-key d k keys key;
-      there = segment-here d s segments segment;
-      maker = maker-here d k keys key;
-    }
+-- what each answer of the tests says of a call whose conditions begin with them
+module _ (d : Cells) (q : Request) (text : List ℕ) (u s k : ℕ) (names : Names d q text u s k) where
+  abbrev pub Told : NameTest → Type 0
+  Told (Failed x) = Serves d q text (Refused x) d
+  Told Passed = Named d u s k
 
--- a call whose conditions begin with them is refused by the first that does not hold
-module _ (d : Cells) (q : Request) (text : List ℕ) (u s k : ℕ) (names : Names d q text u s k) {r : Bool} (known : r ≡ ltb u (cell (d .registry) userCount)) where
-  pub unknown-user : not r ≡ true → Serves d q text (Refused UnknownUser) d
-  unknown-user t = serves-refused d q text (ap firstRefusal (names .1) ∙ rw (user-test d u known t))
+  refused : {x : Refusal} → {before : List (Condition Refusal)} → conditions outcomeOf (stateOf d) q text ≡ before → firstRefusal before ≡ some x
+      → Serves d q text (Refused x) d
+  refused same e = serves-refused d q text (ap firstRefusal same ∙ e)
 
-  module _ (user : not r ≡ false) {n : ℕ} (segments : Counted (cell (d .registry) segmentCount) mostSegments n) where
-    pub unknown-segment : n ≤ s → Serves d q text (Refused NoSegment) d
-    unknown-segment h = serves-refused d q text (ap firstRefusal (names .1) ∙ rw (user-test d u known user, no-segment d s segments h))
+  told : {r : NameTest} → NamesTested (d .registry) (d .makers) u s k r → Told r
+  told (no-user known) = refused (names .1) (rw (user-test d u refl (ap not known)))
+  told (no-segment known n segments h) = refused (names .1) (rw (user-test d u refl (ap not known), segment-missing d s segments h))
+  told (no-key known n segments segment m keys h) =
+      refused (names .1) (rw (user-test d u refl (ap not known), a-segment d s segments segment, key-missing d k keys h))
+  told (handed-out known n segments segment m keys key) =
+      record {
+        user = user-test d u refl (ap not known);
+        segment = a-segment d s segments segment;
+        key = a-key d k keys key;
+        there = segment-here d s segments segment;
+        maker = maker-here d k keys key;
+      }
 
-    module _ (segment : s < n) {m : ℕ} (keys : Handed (cell (d .registry) definedCount) (d .makers) m) where
-      pub unknown-key : m ≤ k → Serves d q text (Refused NoKey) d
-      unknown-key h =
-          serves-refused d q text (ap firstRefusal (names .1) ∙ rw (user-test d u known user, a-segment d s segments segment, no-key d k keys h))
+  pub name-missing : {r : NameTest} {x : Refusal} → NamesTested (d .registry) (d .makers) u s k r → r ≡ Failed x → Serves d q text (Refused x) d
+  name-missing t e = subst Told e (told t)
+
+  pub names-known : {r : NameTest} → NamesTested (d .registry) (d .makers) u s k r → r ≡ Passed → Named d u s k
+  names-known t e = subst Told e (told t)
+
+-- numbers of what is handed out are below the limits
+abbrev Low : ℕ → ℕ → NameTest → Type 0
+Low s k (Failed x) = Unit {0}
+Low s k Passed = (s < mostSegments) × (k < mostDefined)
+
+low : {registry makers : Row} {u s k : ℕ} {r : NameTest} → NamesTested registry makers u s k r → Low s k r
+low (no-user known) = tt
+low (no-segment known n segments h) = tt
+low (no-key known n segments segment m keys h) = tt
+low (handed-out known n segments segment m keys key) =
+    let most = segments .low in
+    let all = keys .low in
+    (omega arith, omega arith)
+
+pub names-low : {registry makers : Row} {u s k : ℕ} {r : NameTest} → NamesTested registry makers u s k r → r ≡ Passed → (s < mostSegments) × (k < mostDefined)
+names-low {s = s} {k = k} t e = subst (Low s k) e (low t)

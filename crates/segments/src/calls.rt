@@ -3,6 +3,8 @@ ghost use Rattle.call.specs.declared.request.Request.the-variants.{NewSegment, 
 ghost use Rattle.model.specs.Cells.{registryIs, makersAre, segmentsAre, locksAre, _and_};
 ghost use Rattle.model.specs.Serving.{ServesLent};
 use crate::list::remove;
+use crate::names::NameTest;
+use crate::names::test_names;
 use model::answer::Answer;
 use model::answer::Refusal;
 use model::arrays::DEFINED;
@@ -90,16 +92,10 @@ pub fn give_key(
         (GiveKey user segment key) r
         (segmentsAre (now (segments .exit))) ⌝ }
 {
-    if !is_user(registry, user) {
-        return Answer::Refused(Refusal::UnknownUser);
+    if let NameTest::Failed(refusal) = test_names(registry, makers, user, segment, key) {
+        return Answer::Refused(refusal);
     }
     let s = segment as usize;
-    if registry::segments(registry) <= s {
-        return Answer::Refused(Refusal::NoSegment);
-    }
-    if defined(registry, makers) <= key as usize {
-        return Answer::Refused(Refusal::NoKey);
-    }
     let owner = segments[s][0][OWNER];
     let maker = makers[key as usize];
     if !((owner == user) & (maker == user)) {
@@ -134,16 +130,10 @@ pub fn take_key(
         (TakeKey user segment key) r
         (segmentsAre (now (segments .exit))) ⌝ }
 {
-    if !is_user(registry, user) {
-        return Answer::Refused(Refusal::UnknownUser);
+    if let NameTest::Failed(refusal) = test_names(registry, makers, user, segment, key) {
+        return Answer::Refused(refusal);
     }
     let s = segment as usize;
-    if registry::segments(registry) <= s {
-        return Answer::Refused(Refusal::NoSegment);
-    }
-    if defined(registry, makers) <= key as usize {
-        return Answer::Refused(Refusal::NoKey);
-    }
     let owner = segments[s][0][OWNER];
     if owner != user {
         return Answer::Refused(Refusal::NotOwner);

@@ -1,7 +1,7 @@
 -- The scan for the first place that passes a test, and the look at a thread's own place before it.
 use mathlib.Core.Path.{_≡_, sym, ap, _∙_}
 use mathlib.Core.Bool.{Bool, true, false}
-use mathlib.Core.List.{List, [], map, append-nil}
+use mathlib.Core.List.{List, [], map}
 use Prim.Native.Nat.{ℕ, _%_, _≤_, _<_}
 use native.Mathlib.Omega.{arith}
 use lib.ListN.{length, getD, List·getD-map}
@@ -9,8 +9,7 @@ use Rattle.base.specs.Lists.{indexOf, each}
 use Rattle.model.specs.Limits.{mostThreads}
 use Rattle.model.specs.State.{Place, free}
 use Rattle.model.specs.Cells.{Table, tableAt, placeIn}
-use Rattle.base.proofs.Lists.{each-getD}
-use Rattle.base.proofs.Scans.{Missed, missed-hit, missed-end}
+use Rattle.base.proofs.Scans.{Missed, missed-hit, missed-end, each-read}
 use Rattle.threads.specs.Internal.{First}
 use Rattle.threads.specs.Places.{Placed}
 
@@ -21,15 +20,12 @@ place-at threads i = List·getD-map placeIn threads i []
 abbrev pub placeOf : List Table → ℕ → Place
 placeOf threads i = placeIn (tableAt threads i)
 
-places-read : (threads : List Table) → each (placeOf threads) 0 (length threads) ≡ map placeIn threads
-places-read threads = ap (λ (ts : List Table). each (placeOf ts) 0 (length threads)) (sym (append-nil threads)) ∙ each-getD placeIn [] threads []
-
 module _ {threads : List Table} {p : Place → Bool} {places i : ℕ} (size : places ≡ length threads) (most : places ≡ mostThreads)
     (before : Missed p (placeOf threads) places i) where
   found : {r : ℕ} → r ≤ mostThreads → r ≡ indexOf p (each (placeOf threads) 0 places) → First threads p r
   found low e =
       record {
-        place = e ∙ ap (λ (n : ℕ). indexOf p (each (placeOf threads) 0 n)) size ∙ ap (indexOf p) (places-read threads);
+        place = e ∙ ap (λ (n : ℕ). indexOf p (each (placeOf threads) 0 n)) size ∙ ap (indexOf p) (each-read placeIn [] threads);
         low = low;
         count = sym size ∙ most;
       }

@@ -1,11 +1,11 @@
 // The place of a live thread (document 01: live run), and a free place for a new one. A thread stands at its number's
 // remainder by 64 if that was free when it started.
 ghost use mathlib.Core.Path.{_≡_};
-ghost use lib.ListN.{length};
 ghost use Rattle.model.specs.State.{isFree, isThread};
 ghost use Rattle.model.specs.Cells.{placeIn};
 ghost use Rattle.threads.specs.Internal.{First};
 ghost use Rattle.threads.specs.Places.{Placed};
+use base::lengths::count_tables;
 use model::arrays::LIVE;
 use model::arrays::NUMBER;
 use model::arrays::Thread;
@@ -15,7 +15,7 @@ use model::arrays::Threads;
 pub fn find(threads: &Threads, number: u16) -> usize
     ensures { λ r. ⌜ Placed (now (threads .entry)) number (isThread number) r ⌝ }
 {
-    let home = number as usize % count(threads);
+    let home = number as usize % count_tables(threads);
     if is_thread(&threads[home], number) {
         return home;
     }
@@ -26,7 +26,7 @@ pub fn find(threads: &Threads, number: u16) -> usize
 pub(crate) fn find_free(threads: &Threads, number: u16) -> usize
     ensures { λ r. ⌜ Placed (now (threads .entry)) number isFree r ⌝ }
 {
-    let home = number as usize % count(threads);
+    let home = number as usize % count_tables(threads);
     if is_free(&threads[home]) {
         return home;
     }
@@ -36,7 +36,7 @@ pub(crate) fn find_free(threads: &Threads, number: u16) -> usize
 fn first_thread(threads: &Threads, number: u16) -> usize
     ensures { λ r. ⌜ First (now (threads .entry)) (isThread number) r ⌝ }
 {
-    let places = count(threads);
+    let places = count_tables(threads);
     let mut i: usize = 0;
     while i < places {
         if is_thread(&threads[i], number) {
@@ -50,7 +50,7 @@ fn first_thread(threads: &Threads, number: u16) -> usize
 fn first_free(threads: &Threads) -> usize
     ensures { λ r. ⌜ First (now (threads .entry)) isFree r ⌝ }
 {
-    let places = count(threads);
+    let places = count_tables(threads);
     let mut i: usize = 0;
     while i < places {
         if is_free(&threads[i]) {
@@ -71,11 +71,4 @@ fn is_free(thread: &Thread) -> bool
     ensures { λ r. ⌜ r ≡ isFree (placeIn (now (thread .entry))) ⌝ }
 {
     thread[0][LIVE] == 0
-}
-
-// 64: an array has its length where it is lent as a slice.
-fn count(threads: &[[[u16; 8]; 17]]) -> usize
-    ensures { λ r. ⌜ r ≡ length (now (threads .entry)) ⌝ }
-{
-    threads.len()
 }

@@ -31,7 +31,7 @@ impl Own {
     /// That of a call, if its letter has one and its shape is right.
     pub fn of_call(record: &Record) -> Option<Own> {
         let fields = [record.a, record.b, record.c];
-        Own::of(Letter::of_call(record.letter, fields, &record.text)?)
+        Own::of(Letter::of_call(record.letter, fields, record.text.len())?)
     }
 }
 

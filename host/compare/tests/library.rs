@@ -45,7 +45,7 @@ fn typed(guard: &mut Guard, record: &Record) -> Result<u16, (u32, u16)> {
         letter, a, b, c, ..
     } = *record;
     let by_letter = |guard: &mut Guard| numbers(guard.call(&lent(record)), |n| n);
-    let Some(letter) = Letter::of_call(letter, [a, b, c], &record.text) else {
+    let Some(letter) = Letter::of_call(letter, [a, b, c], record.text.len()) else {
         return by_letter(guard);
     };
     match letter {

@@ -171,7 +171,7 @@ impl Guard {
     /// One call by its letter. What the call doesn't name must be 0, and a call
     /// without a text has none.
     pub fn call(&mut self, letter: u8, a: u16, b: u16, c: u16, text: &[u8]) -> Answer {
-        match Letter::of_call(letter, [a, b, c], text).ok_or(Refusal::Corrupt)? {
+        match Letter::of_call(letter, [a, b, c], text.len()).ok_or(Refusal::Corrupt)? {
             Letter::NewUser => self.new_user(),
             Letter::StartThread => self.start_thread(a),
             Letter::EndThread => self.end_thread(a),

@@ -95,7 +95,8 @@ fn shape_fits(letter: u8, fields: [u16; 3], text_length: usize) -> bool {
         true => (1..=MAX_TEXT_BYTES).contains(&text_length),
         false => text_length == 0,
     };
-    text_fits && letter.unnamed_are_0(fields)
+    let named = letter.fields().len();
+    text_fits && fields[named..].iter().all(|field| *field == 0)
 }
 
 /// Whether a journal takes the record.

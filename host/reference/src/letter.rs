@@ -50,6 +50,21 @@ macro_rules! letters {
                 }
             }
 
+            /// The letter of a call of a known shape: 0 in every field that it
+            /// doesn't name, and a text only where it has one. Inlined, so that
+            /// a `match` on it goes from the byte to its arm at once.
+            #[inline(always)]
+            pub fn of_call(byte: u8, fields: [u16; 3], text_length: usize) -> Option<Letter> {
+                match byte {
+                    $($byte => {
+                        let text_fits = text_length == 0 || Letter::$name.has_text();
+                        let fits = text_fits && Letter::$name.unnamed_are_0(fields);
+                        fits.then_some(Letter::$name)
+                    })*
+                    _ => None,
+                }
+            }
+
             /// What its call's fields name, from a on. The others are 0.
             pub const fn fields(self) -> &'static [Field] {
                 match self {
@@ -93,18 +108,11 @@ impl Letter {
         self as u8 as char
     }
 
-    /// The letter of a call of a known shape: 0 in every field that it doesn't
-    /// name, and a text only where it has one.
-    pub fn of_call(byte: u8, fields: [u16; 3], text: &[u8]) -> Option<Letter> {
-        let letter = Letter::of(byte)?;
-        let text_fits = text.is_empty() || letter.has_text();
-        (text_fits && letter.unnamed_are_0(fields)).then_some(letter)
-    }
-
     /// Whether every field that its call doesn't name is 0.
-    pub fn unnamed_are_0(self, fields: [u16; 3]) -> bool {
+    #[inline(always)]
+    const fn unnamed_are_0(self, [a, b, c]: [u16; 3]) -> bool {
         let named = self.fields().len();
-        fields[named..].iter().all(|field| *field == 0)
+        (named > 0 || a == 0) && (named > 1 || b == 0) && (named > 2 || c == 0)
     }
 }
 

@@ -9,7 +9,7 @@ use lib.ListN.{length}
 use Rattle.model.specs.Cells.{rowAt}
 use Rattle.checking.specs.Deciding.{keysAt}
 use Rattle.checking.specs.Internal.{openingOf, headChecked}
-use Rattle.checking.proofs.LoopSteps.{Left, left-start, left-listable, left-hit, left-miss, left-end, Rest, rest-start, rest-as, rest-end, rest-stop, rest-idle, rest-shut, rest-denied, rest-found, rest-before, rest-granted}
+use Rattle.checking.proofs.LoopSteps.{Left, left-start, left-listable, left-hit, left-miss, left-end, Deciding, deciding-start, rest-as, rest-past, rest-stop, rest-idle, rest-shut, rest-denied, rest-found, rest-before, rest-granted}
 use Rattle.checking.proofs.opening.Statement.{statement}
 use Rattle.checking.proofs.opening.Tie as tie
 
@@ -22,13 +22,13 @@ abbrev μ-loop : tie.MeasureT-loop
 
 abbrev Inv-products : tie.InvT-products
 Inv-products thread products operation depth rows found₀ p₀ found p =
-    (((depth ≤ 16) × (rows ≡ length products)) × ((p ≤ 8) × (rows ≡ 8))) × Rest (openingOf thread products operation) (keysAt thread depth) operation products found p
+    (((depth ≤ 16) × (rows ≡ length products)) × ((p ≤ 8) × (rows ≡ 8))) × Deciding (openingOf thread products operation) (keysAt thread depth) operation products found p
 
 abbrev μ-products : tie.MeasureT-products
 μ-products thread products operation depth rows found₀ p₀ found p = 8 - p
 
 products-holds : tie.Need-products-holds Inv-loop μ-loop Inv-products μ-products
-products-holds c = (search needs, rest-start _ _ _ _ (c .before .before .count-in-u16 .ensures .count))
+products-holds c = (search needs, deciding-start _ _ _ _ (c .before .before .count-in-u16 .ensures .count))
 
 loop-holds : tie.Need-loop-holds Inv-loop μ-loop Inv-products μ-products
 loop-holds c = (search needs, refl, left-start _ _)
@@ -70,7 +70,7 @@ returns : tie.Need-returns Inv-loop μ-loop Inv-products μ-products
 returns c =
     let turn = c .before in
     let inv = turn .before .products .inv in
-    c .head-code .ensures ∙ ap headChecked (rest-end (inv .0 .0 .1) (inv .1) (turn .if1 .taken))
+    c .head-code .ensures ∙ ap headChecked (rest-past (inv .0 .0 .1) (inv .1) (turn .if1 .taken))
 
 returns-2 : tie.Need-returns-2 Inv-loop μ-loop Inv-products μ-products
 returns-2 c =
@@ -121,7 +121,7 @@ opening-spec =
     (λ c. search needs)  -- index-1-count-in-u16
     (λ c. search needs)  -- index-2-count-in-u16
     (λ c κs. search needs)  -- count-in-u16-requires
-    (λ c κs. search needs)  -- count-requires
+    (λ c κs. search needs)  -- count-rows-requires
     products-holds
     (λ c κs. search needs)  -- head-code-requires
     (λ c. search needs)  -- mul-head

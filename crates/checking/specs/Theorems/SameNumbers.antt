@@ -6,4 +6,5 @@ use Rattle.checking.specs.declared.Checked.{Checked}
 use Rattle.checking.specs.Deciding.{checkedNumber, checkedValue, answerOf}
 
 abbrev pub SameNumbers : Type 0
-SameNumbers = (k : Checked) → (answerNumber (answerOf k) ≡ checkedNumber k) × (answerValue (answerOf k) ≡ checkedValue k)
+SameNumbers =
+    (k : Checked) → (answerNumber (answerOf k) ≡ checkedNumber k) × (answerValue (answerOf k) ≡ checkedValue k)

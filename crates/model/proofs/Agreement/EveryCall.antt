@@ -1,5 +1,5 @@
--- The model and the history agree: every call, accepted or not, keeps the agreement, so that they agree after every list
--- of calls from the empty state.
+-- The model and the history agree: every call, accepted or not, keeps the agreement, so that they agree after every
+-- list of calls from the empty state.
 use mathlib.Core.Path.{_≡_, refl, sym, ap, _∙_}
 use mathlib.Core.Bool.{cond}
 use mathlib.Core.List.{List, [], _∷_}

@@ -38,7 +38,7 @@ use Rattle.model.proofs.Agreement.Segments.{entry-low, entry-is}
 use Rattle.model.proofs.Agreement.ReadLocks.{check-agrees}
 use Rattle.model.proofs.Agreement.Agrees.{Agrees}
 use Rattle.model.proofs.Agreement.EveryCall.{found-as, thread-as}
-use Rattle.model.proofs.Computed.EveryRequest.{every-request}
+use Rattle.call.proofs.EveryRequest.{every-request}
 
 -- an accepted call: no condition held, its answer is the model's, and the state is what it changes
 pub record Taken (compile : Compiler) (d : State) (next : Call) (q : Request) (n : ℕ) : Type 0 where

@@ -1,7 +1,7 @@
 -- Every accepted request keeps the agreement of model and history.
 use mathlib.Core.Path.{_≡_, refl, sym, ap}
 use mathlib.Core.Bool.{true, false, not}
-use mathlib.Core.List.{List, [], _∷_}
+use mathlib.Core.List.{List, _∷_}
 use mathlib.Core.Option.{none}
 use Prim.Native.Nat.{ℕ, suc, _+_, _<_}
 use native.Mathlib.Omega.{arith}
@@ -19,7 +19,7 @@ use Rattle.base.proofs.Conditions.{all-fail}
 use Rattle.base.proofs.Truth.{neither}
 use Rattle.base.specs.Lists.{adjust, tailOf}
 use Rattle.model.specs.Limits.{mostThreads, passes}
-use Rattle.model.specs.Threads.{Thread}
+use Rattle.model.specs.Threads.{freshThread, Thread}
 use Rattle.model.specs.State.{State, isFree, placeFor, free, taken, Segment, blankSegment, segmentAt, liveIn, issued, isLive, isLock, lockSegment, placeOf, Place, userOf}
 use Rattle.model.specs.Refusals.{conditions}
 use Rattle.model.specs.Effects.{onThread, pushFrame, popFrame, giveKey, takeKey, addProducts, dropProducts, onSegment, update, answer, atPlace, withPlaces}
@@ -87,12 +87,12 @@ module _ (compile : Compiler) (holds : Meaning) (laws : Laws compile holds) (tex
       let n : ℕ = d .threadNumbers in
       let p = spare n (d .places) (c .threads .count) (neither (passes mostThreads (suc (liveIn (d .places)))) _ (f .1 .0) .0) in
       let i : ℕ = placeFor n isFree (d .places) in
-      let x : Place = taken n (record { user = a; frames = [] }) in
+      let x : Place = taken n (freshThread a) in
       let was : one (getD (d .places) i free) ≡ 0 = ap one (p .is-free) in
       let v = c .counts .5 in
       let started : liveIn (set (d .places) i x) + count letters.E ≡ suc (count letters.S) = let m = live-change (d .places) i x (p .low) in omega arith in
       with-threads c (set (d .places) i x) (suc n) _ (bump letters.S count)
-      (agree-start (d .places) n (h .threads) (c .threads) i (record { user = a; frames = [] }) (p .low) (p .is-free))
+      (agree-start (d .places) n (h .threads) (c .threads) i (freshThread a) (p .low) (p .is-free))
       (one-thread c (set (d .places) i x) started)
   keep-accepted (request.EndThread a) e =
       let p = alive compile d h count c a (all-fail (conditions compile d (request.EndThread a) text) e .0) in

@@ -37,7 +37,7 @@ use Rattle.model.specs.History.{History, Event, Entry, Lock, event, empt
 use Rattle.model.specs.Replay.{stateAfter, eventsOf}
 use Rattle.model.specs.Theorems.Mirror.{MirrorByLaws, Spelt, Mirror}
 use Rattle.base.proofs.Lists.{caseBool, same-truth, eqb-self, any-passes, at-lt, isSome-some}
-use Rattle.model.proofs.Computed.EveryRequest.{every-request}
+use Rattle.call.proofs.EveryRequest.{every-request}
 use Rattle.model.proofs.Refinement.Literals.{keyIn-segment}
 use Rattle.model.proofs.Agreement.Segments.{entryOf, entry-low, entry-is}
 use Rattle.model.proofs.Agreement.Locks.{found}

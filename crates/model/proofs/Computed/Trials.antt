@@ -15,6 +15,7 @@ trials =
     let (most-users, most-segments, most-threads, most-listed, most-frames) = limits-happen in
     record {
       table = refl;
+      everyLetter = refl;
       identityHappens = refl;
       usersHappen = most-users;
       segmentsHappen = most-segments;

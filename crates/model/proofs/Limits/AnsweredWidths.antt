@@ -1,4 +1,5 @@
--- What is answered of a thread or a segment has 16 bits: it is in a cell, or is a count of a list that the arrays bound.
+-- What is answered of a thread or a segment has 16 bits: it is in a cell, or is a count of a list that the arrays
+-- bound.
 use mathlib.Core.Path.{_≡_, sym, ap, subst}
 use mathlib.Core.Bool.{Bool, true, not}
 use mathlib.Core.List.{List, [], _∷_, map}

@@ -20,7 +20,7 @@ use Rattle.base.proofs.Conditions.{all-fail}
 use Rattle.base.proofs.Truth.{neither}
 use Rattle.model.specs.declared.answer.Refusal.{Refusal}
 use Rattle.model.specs.Limits.{mostUsers, mostThreads, mostSegments, mostDefined, mostListed, mostStanding, mostFrames, mostNumbers, passes}
-use Rattle.model.specs.State.{State, emptyState, Segment, segmentAt, Place, free, isFree, liveIn, placeFor, placeOf, threadAt, lockSegment, issued}
+use Rattle.model.specs.State.{userOf, State, emptyState, Segment, segmentAt, Place, free, isFree, liveIn, placeFor, placeOf, threadAt, lockSegment, issued}
 use Rattle.model.specs.Refusals.{conditions}
 use Rattle.model.specs.Effects.{onSegment, onThread, atPlace, pushFrame, popFrame, giveKey, takeKey, dropProducts, update}
 use Rattle.model.specs.Model.{judged, stepDecoded, step}
@@ -59,7 +59,7 @@ module _ (compile : Compiler) (d : State) (k : Kept d) (text : List ℕ) where
       let room = within mostSegments (suc (length (d .segments))) full in
       with-segments k _ (segments-add (d .segments) (k .segments) _ (record { listed = suc-le-suc zero-le; products = zero-le }) room)
   keep-accepted (request.NewKey a) e =
-      let more : length (d .makers ++ a ∷ []) ≡ suc (length (d .makers)) = length-append-one (d .makers) a in
+      let more : length (d .makers ++ userOf d a ∷ []) ≡ suc (length (d .makers)) = length-append-one (d .makers) (userOf d a) in
       let full = all-fail (conditions compile d (request.NewKey a) text) e .1 .0 in
       let room : suc (length (d .makers)) ≤ mostDefined = within mostDefined (suc (length (d .makers))) full in
       with-makers k _ (omega arith)

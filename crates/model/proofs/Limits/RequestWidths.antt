@@ -40,7 +40,7 @@ use Rattle.model.proofs.Refusals.AcceptedTexts.{compiled}
 use Rattle.model.proofs.Refinement.Serving.{segmentsIn}
 use Rattle.model.proofs.Refinement.Counts.{within}
 use Rattle.model.proofs.Refinement.SegmentStores.{length-segments, handed}
-use Rattle.model.proofs.Computed.EveryRequest.{every-request}
+use Rattle.call.proofs.EveryRequest.{every-request}
 use Rattle.call.specs.Letters as letters
 use Rattle.model.proofs.Limits.Fitting.{LowRows, LowTables, low-set, low-table, low-cell, fitting-makers, fitting-segments, fitting-locks, fitting-threads, fitting-count}
 use Rattle.model.proofs.Limits.ThreadWidths.{start-low, push-low, pop-low}

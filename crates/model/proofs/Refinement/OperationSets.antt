@@ -1,12 +1,12 @@
 -- Laws of operations and their sets.
-use mathlib.Core.Path.{_≡_, refl, sym, ap, _∙_}
+use mathlib.Core.Path.{_≡_, refl, ap, _∙_}
 use mathlib.Core.Bool.{Bool, true, false, _&&_, _||_, not}
 use Prim.Native.Nat.{ℕ, _*_, _/_, _%_, _<_}
 use native.Mathlib.Omega.{arith}
 use lib.Bits.{and-high}
 use lib.Dec.{eqb, ltb}
 use borrow.Author.Tests.{eq-eqb, ne-eqb, eqb-true, eqb-false}
-use Rattle.model.specs.Operations.{execute, read, write, deny, includes, shares, takes, takesIn, takesSet}
+use Rattle.model.specs.Operations.{execute, read, write, deny, includes, shares, takesSet}
 use Rattle.base.proofs.Lists.{caseBool}
 
 -- the number of one operation, or of deny

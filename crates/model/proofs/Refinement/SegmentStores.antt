@@ -9,10 +9,9 @@ use lib.Dec.{ltb}
 use lib.ListN.{length, set, take, length-set, length-map, length-take}
 use lib.Seq.{getD-set-same, getD-set-other, take-suc-set}
 use borrow.Author.Tests.{ltb-true, not-false}
-use Rattle.product.specs.declared.literal.Key.the-variants.{Segment as SegmentKey}
 use Rattle.base.specs.Lists.{keep, each}
 use Rattle.model.specs.Limits.{mostListed, mostSegments, mostDefined}
-use Rattle.model.specs.State.{Segment, blankSegment, segmentAt}
+use Rattle.model.specs.State.{freshSegment, Segment, blankSegment, segmentAt}
 use Rattle.model.specs.Effects.{withSegments, onSegment, giveKey, takeKey, withMakers}
 use Rattle.model.specs.Cells.{Row, Table, Cells, Sized, cell, rowAt, tableAt, segmentCount, definedCell, keyIn, hasKey, keysIn, listRow, segmentOf, segmentIn, stateOf, makersAre, segmentsAre, locksAre, definedCount}
 use Rattle.model.specs.Stores.{onTable, handOut, newSegment, giveCode, takeCode, endRows}
@@ -81,7 +80,7 @@ module _ (d : Cells) (c : Sized d) where
   -- N: one more segment, without locks
   pub segment-held : (u kind : ℕ) → suc (length (stateOf d .segments)) ≤ mostSegments → (s : ℕ) → s ≡ cell (d .registry) segmentCount
       → Holds (handOut segmentCount (segmentsAre (set (d .segments) s (newSegment s u kind)) (locksAre (onTable (d .locks) s (λ t. endRows t 0)) d)))
-      (withSegments (stateOf d) (stateOf d .segments ++ record { owner = u; kind = kind; keys = SegmentKey (length (stateOf d .segments)) ∷ []; products = [] } ∷ []))
+      (withSegments (stateOf d) (stateOf d .segments ++ freshSegment (length (stateOf d .segments)) u kind ∷ []))
   unfolding stateOf
   segment-held u kind room s is =
       let many : length (stateOf d .segments) ≡ segmentsIn d = length-segments d in
@@ -94,7 +93,7 @@ module _ (d : Cells) (c : Sized d) where
       let zero-on : 0 + s ≡ s = omega arith in
       let tables : tableAt (d′ .segments) s ≡ newSegment s u kind = getD-set-same (d .segments) s _ [] (let q = c .segments .count in omega arith) in
       let rows : tableAt (d′ .locks) s ≡ endRows t 0 = getD-set-same (d .locks) s _ [] (let q = c .locks .count in omega arith) in
-      let new : segmentIn d′ s ≡ record { owner = u; kind = kind; keys = SegmentKey s ∷ []; products = [] } = ap₂ (segmentOf s) tables rows ∙ new-table s u kind g t low in
+      let new : segmentIn d′ s ≡ freshSegment s u kind = ap₂ (segmentOf s) tables rows ∙ new-table s u kind g t low in
       let same : (j : ℕ) → 0 ≤ j → j < 0 + s → segmentIn d′ j ≡ segmentIn d j =
       λ j l b. ap₂ (segmentOf j) (table-other (d .segments) s _ j (λ p. omega arith)) (table-other (d .locks) s _ j (λ p. omega arith)) in
       next-segment d′ (stateOf d)
@@ -105,7 +104,7 @@ module _ (d : Cells) (c : Sized d) where
       (ap (each (segmentIn d′) 0) more
       ∙ each-snoc (segmentIn d′) 0 s
       ∙ ap₂ (λ (xs : List Segment) (x : Segment). xs ++ x ∷ []) (each-same (segmentIn d′) (segmentIn d) 0 s same) (ap (segmentIn d′) zero-on ∙ new)
-      ∙ ap₂ (λ (x y : ℕ). each (segmentIn d) 0 x ++ record { owner = u; kind = kind; keys = SegmentKey y ∷ []; products = [] } ∷ []) (sym old) (sym (many ∙ old)))
+      ∙ ap₂ (λ (x y : ℕ). each (segmentIn d) 0 x ++ freshSegment y u kind ∷ []) (sym old) (sym (many ∙ old)))
       refl
 
   -- a change of one segment's key list

@@ -10,7 +10,7 @@ use lib.ListN.{length, set, replicate, length-set, length-append, length-map, le
 use lib.Seq.{getD-set-same, getD-set-other}
 use borrow.Author.Tests.{eqb-true, eqb-false, ne-eqb, eq-eqb, ltb-true, ltb-false}
 use Rattle.product.specs.declared.literal.Key.{Key}
-use Rattle.product.specs.declared.literal.Key.the-variants.{Segment as SegmentKey, Defined}
+use Rattle.product.specs.declared.literal.Key.the-variants.{Defined}
 use Rattle.product.specs.Atom.{atomOf, compareAtoms, orderOf}
 use Rattle.product.specs.Product.{All as Each}
 use Rattle.product.specs.Sum.{Sum}
@@ -22,7 +22,7 @@ use Rattle.formula.specs.Compiler.{Kept}
 use Rattle.base.specs.Lists.{keep, tailOf}
 use Rattle.model.specs.Limits.{mostSegments, mostDefined, mostListed, mostStanding}
 use Rattle.model.specs.Threads.{sameKey}
-use Rattle.model.specs.State.{Segment, LockProduct, isOfLock}
+use Rattle.model.specs.State.{freshSegment, Segment, LockProduct, isOfLock}
 use Rattle.model.specs.Effects.{withKeys, giveKey, takeKey, addProducts, dropProducts}
 use Rattle.model.specs.Cells.{Row, Table, cell, rowAt, ownerCell, kindCell, noKey, definedCell, keyIn, hasKey, keysIn, keyRow, usedRows, productIn, listRow, segmentOf}
 use Rattle.model.specs.Stores.{newSegment, giveCode, takeCode, endRows, productRow, addRows, dropRows}
@@ -79,7 +79,7 @@ store-list s xs g t two h =
 -- ---- N, G and T
 
 pub new-table : (s u kind : ℕ) (g t : Table) → s < mostSegments
-    → segmentOf s (newSegment s u kind) (endRows t 0) ≡ record { owner = u; kind = kind; keys = SegmentKey s ∷ []; products = [] }
+    → segmentOf s (newSegment s u kind) (endRows t 0) ≡ freshSegment s u kind
 new-table s u kind g t low =
     segment-path refl refl
     (ap (map keyIn) (keep-keyRow (s ∷ []) (hasKey-below s (omega arith), tt)) ∙ ap (λ (k : Key). k ∷ []) (keyIn-segment s low))

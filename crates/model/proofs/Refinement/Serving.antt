@@ -1,27 +1,25 @@
 -- How a function of the guard meets its promise: a refusal is the first condition that holds, and leaves the arrays; an
 -- accepted call's answer and arrays are the definitions'. And what the tests that the code makes on the arrays say of
 -- the state that they hold.
-use mathlib.Core.Path.{_≡_, refl, sym, ap, _∙_}
-use mathlib.Core.Bool.{Bool, true, false}
+use mathlib.Core.Path.{_≡_, sym, ap, _∙_}
 use mathlib.Core.List.{List}
 use mathlib.Core.Option.{Option, none, some}
-use Prim.Native.Nat.{ℕ, _+_, _<_, min}
+use Prim.Native.Nat.{ℕ, _<_, min}
 use native.Mathlib.Omega.{arith}
 use lib.Dec.{ltb}
-use lib.ListN.{length, getD, take}
 use Rattle.formula.specs.Outcome.{outcomeOf}
 use Rattle.call.specs.declared.request.Request.{Request}
 use Rattle.base.specs.Conditions.{firstRefusal}
 use Rattle.model.specs.declared.answer.Refusal.{Refusal}
 use Rattle.model.specs.declared.answer.Answer.{Answer}
 use Rattle.model.specs.declared.answer.Answer.the-variants.{Accepted, Refused}
-use Rattle.model.specs.Limits.{mostSegments, mostDefined}
+use Rattle.model.specs.Limits.{mostSegments}
 use Rattle.model.specs.Refusals.{conditions}
 use Rattle.model.specs.Effects.{answer}
 use Rattle.model.specs.State.{blankSegment, segmentAt, isSegment}
 use Rattle.model.specs.Cells.{Cells, cell, segmentCount, segmentIn, stateOf}
 use Rattle.model.specs.Stores.{store, judgedCells}
-use Rattle.model.specs.Serving.{Gives, Serves}
+use Rattle.model.specs.Serving.{Serves}
 use Rattle.base.proofs.Lists.{length-each, getD-each}
 
 module _ (d : Cells) (q : Request) (text : List ℕ) where

@@ -18,11 +18,11 @@ use Rattle.base.proofs.Truth.{neither}
 use Rattle.base.specs.Lists.{each, orDefault}
 use Rattle.model.specs.Limits.{mostListed, mostThreads, mostSegments, mostDefined, mostStanding, mostFrames, passes}
 use Rattle.model.specs.Threads.{Thread}
-use Rattle.model.specs.State.{Place, isFree, liveIn, blankThread, threadAt, placeFor, issued, segmentAt}
+use Rattle.model.specs.State.{userOf, Place, isFree, liveIn, blankThread, threadAt, placeFor, issued, segmentAt}
 use Rattle.model.specs.Refusals.{conditions}
 use Rattle.model.specs.Effects.{update}
 use Rattle.model.specs.Cells.{Cells, Sized, cell, tableAt, segmentCount, placeIn, depthOf, listRow, stateOf, threadCount, lockCount}
-use Rattle.model.specs.Stores.{store, userIn}
+use Rattle.model.specs.Stores.{store}
 use Rattle.model.proofs.Agreement.Places.{spare}
 use Rattle.model.proofs.Refusals.AcceptedTexts.{compiled}
 use Rattle.product.specs.Sum.{Sum}
@@ -49,10 +49,10 @@ module _ (compile : Compiler) (holds : Meaning) (law : Laws compile holds) (text
   store-accepted (request.EndThread a) e = end-held d c a (alive d a (all-fail (conditions compile (stateOf d) (request.EndThread a) text) e .0))
   store-accepted (request.NewSegment a b) e =
       let f = all-fail (conditions compile (stateOf d) (request.NewSegment a b) text) e in
-      segment-held d c (userIn d a) b (within mostSegments _ (f .1 .1 .0)) (cell (d .registry) segmentCount) refl
+      segment-held d c (userOf (stateOf d) a) b (within mostSegments _ (f .1 .1 .0)) (cell (d .registry) segmentCount) refl
   store-accepted (request.NewKey a) e =
       let f = all-fail (conditions compile (stateOf d) (request.NewKey a) text) e in
-      key-held d c (userIn d a) (within mostDefined _ (f .1 .0))
+      key-held d c (userOf (stateOf d) a) (within mostDefined _ (f .1 .0))
   store-accepted (request.GiveKey a b k) e =
       let f = all-fail (conditions compile (stateOf d) (request.GiveKey a b k) text) e in
       give-held d c b k (handed d b (f .1 .0)) (ltb-true k _ (not-false _ (f .1 .1 .0))) (within mostListed _ (f .1 .1 .1 .1 .1 .0))

@@ -9,6 +9,7 @@ use lib.ListN.{length, getD, set, length-map, List·getD-map}
 use borrow.Author.Tests.{not-false}
 use Rattle.product.specs.declared.literal.Key.{Key}
 use Rattle.base.specs.Lists.{isSome}
+use Rattle.model.specs.Threads.{freshThread}
 use Rattle.model.specs.Limits.{mostThreads, mostFrames}
 use Rattle.model.specs.State.{Place, free, taken, findThread, placeOf}
 use Rattle.model.specs.Effects.{withPlaces, onThread, atPlace, pushFrame, popFrame}
@@ -46,10 +47,10 @@ module _ (d : Cells) (c : Sized d) where
 
   -- S: at a place, a thread that begins
   pub start-held : (i n u : ℕ) → i < mostThreads
-      → Holds (threadsAre (onTable (d .threads) i (startThread n u)) d) (withPlaces (stateOf d) (set places i (taken n (record { user = u; frames = [] }))))
+      → Holds (threadsAre (onTable (d .threads) i (startThread n u)) d) (withPlaces (stateOf d) (set places i (taken n (freshThread u))))
   start-held i n u lt =
       let t : Shaped 17 (tableAt (d .threads) i) = shaped 64 17 (d .threads) (c .threads) i lt in
-      place-held i (startThread n u) (λ x. taken n (record { user = u; frames = [] })) (start-place n u (tableAt (d .threads) i) (let l = t .rows in omega arith))
+      place-held i (startThread n u) (λ x. taken n (freshThread u)) (start-place n u (tableAt (d .threads) i) (let l = t .rows in omega arith))
       (λ l. shaped-row 17 (tableAt (d .threads) i) t 0 _ refl)
 
   -- the table of a live thread

@@ -9,7 +9,7 @@ use lib.Dec.{eqb}
 use lib.ListN.{length, set, length-set}
 use lib.Seq.{getD-set-same, getD-set-other}
 use Rattle.base.specs.Lists.{tailOf}
-use Rattle.model.specs.Threads.{Frame, Thread}
+use Rattle.model.specs.Threads.{freshThread, Frame, Thread}
 use Rattle.model.specs.State.{free, taken}
 use Rattle.model.specs.Effects.{onThread, pushFrame, popFrame}
 use Rattle.model.specs.Cells.{Row, Table, cell, rowAt, frameCount, liveCell, numberCell, userCell, keysIn, frameOf, framesOf, depthOf, placeIn}
@@ -41,7 +41,7 @@ pub live-place : (t : Table) → eqb (cell (rowAt t 0) liveCell) 0 ≡ false
     → placeIn t ≡ taken (cell (rowAt t 0) numberCell) (record { user = cell (rowAt t 0) userCell; frames = framesOf t (depthOf t) })
 live-place t live = simp live
 
-pub start-place : (n u : ℕ) (t : Table) → 0 < length t → placeIn (startThread n u t) ≡ taken n (record { user = u; frames = [] })
+pub start-place : (n u : ℕ) (t : Table) → 0 < length t → placeIn (startThread n u t) ≡ taken n (freshThread u)
 start-place n u t h =
     let row : rowAt (startThread n u t) 0 ≡ n ∷ u ∷ 0 ∷ 1 ∷ 0 ∷ 0 ∷ 0 ∷ 0 ∷ [] = getD-set-same t 0 _ [] h in
     place-is (startThread n u t) n u []

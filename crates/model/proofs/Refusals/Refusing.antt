@@ -29,7 +29,7 @@ use Rattle.model.specs.Cells.{Cells, stateOf}
 use Rattle.model.specs.Stores.{judgedCells, stepCellsDecoded, stepCells}
 use Rattle.model.specs.Theorems.Refusing.{someHolds, FirstHolds, rank, ranks, Refusing, InOrder}
 use Rattle.base.proofs.Lists.{caseBool, clash}
-use Rattle.model.proofs.Computed.EveryRequest.{every-request}
+use Rattle.call.proofs.EveryRequest.{every-request}
 
 -- ---- the first condition that holds
 

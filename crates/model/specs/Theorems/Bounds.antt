@@ -1,6 +1,6 @@
 -- Document 01, 'Twelve calls': 'Most at a time'. After any list of calls from the empty state every limit holds. It is
 -- said of the model, whose key lists, products, frames and makers could be of any length, and so of the state in the
--- arrays too (`Refinement`). Proved in `proofs/Bounds.antt`.
+-- arrays too (`Refinement`). Proved in `proofs/Limits/Bounds.antt`.
 use mathlib.Core.List.{List}
 use mathlib.Core.Path.{_≡_}
 use Prim.Native.Nat.{ℕ, _≤_}

@@ -1,7 +1,7 @@
 -- Worked examples, on the arrays and with the compiler that there is: the calls of document 01's starred trials under
--- 'Trial desks' (marked *), which stand as one theorem, with what is printed, in `StarredTrials` of the crate `lines`;
--- a few more; and lists of calls after which the premises of `Granting` hold. Proved in `proofs/Examples.antt`, by
--- computing.
+-- 'Trial desks' (marked *), which stand as one theorem, with what is printed, in `StarredTrials` (transcript);
+-- a few more; and lists of calls after which the premises of `Granting` hold. Proved in
+-- `proofs/Computed/Examples.antt`, by computing.
 use mathlib.Core.Path.{_≡_}
 use mathlib.Core.Bool.{true}
 use mathlib.Core.List.{List, [], _∷_, _++_}
@@ -13,7 +13,7 @@ use Rattle.product.specs.declared.literal.Literal.the-variants.{Plain, Barred}
 use Rattle.formula.specs.Outcome.{outcomeOf}
 use Rattle.base.specs.Bytes.{bytes}
 use Rattle.base.specs.Lists.{mapOption}
-use Rattle.model.specs.Threads.{keySet}
+use Rattle.model.specs.Threads.{Frame, keySet}
 use Rattle.model.specs.State.{LockProduct, segmentAt, threadAt}
 use Rattle.model.specs.Effects.{lockProduct}
 use Rattle.model.specs.Cells.{stateOf}
@@ -166,20 +166,26 @@ productsOn s = segmentAt (stateOf (reached outcomeOf (callsOf standing))) s .pro
 abbrev pub before : ℕ → History
 before n = historyOf outcomeOf (callsOf (take n route))
 
+-- an open call that handed over its segment's own key alone
+abbrev pub opened : ℕ → Frame
+opened s = record { segment = s; keys = SegmentKey s ∷ [] }
+
 pub record Examples : Type 0 where
   pub routeHappens : Happens route
   pub emptyDeskHappens : Happens emptyDesk
   pub textsHappen : Happens texts
   pub twiceHappens : Happens twice
   -- after the first return the S key is held, by the history and by the arrays
-  pub twiceHeld : mapOption (λ t. keySet 0 t (SegmentKey 0)) (historyOf outcomeOf (callsOf (take 9 twice)) .threads 0) ≡ some true
+  pub twiceHeld : mapOption (λ t. keySet 0 t (SegmentKey 0)) (historyOf outcomeOf (callsOf (take 9 twice)) .threads 0)
+      ≡ some true
   pub twiceStored : keySet 0 (threadAt (stateOf (reached outcomeOf (callsOf (take 9 twice)))) 0) (SegmentKey 0) ≡ true
   pub backHappens : Happens back
   pub deepHappens : Happens deep
   pub editsHappen : Happens edits
   pub standingHappens : Happens standing
   pub standingCode : productsOn 0
-      ≡ lockProduct 0 1 (Plain (User 0) ∷ Plain (User 1) ∷ Barred (SegmentKey 0) ∷ Plain (SegmentKey 1) ∷ Plain (Defined 0) ∷ [])
+      ≡ lockProduct 0 1
+      (Plain (User 0) ∷ Plain (User 1) ∷ Barred (SegmentKey 0) ∷ Plain (SegmentKey 1) ∷ Plain (Defined 0) ∷ [])
       ∷ lockProduct 3 9 (Barred (User 0) ∷ [])
       ∷ lockProduct 3 9 (Plain (SegmentKey 1) ∷ [])
       ∷ []
@@ -190,6 +196,6 @@ pub record Examples : Type 0 where
   pub callLive : before 9 .threads 0 ≡ some (record { user = 0; frames = [] })
   pub accessFits : Fits (before 12) (A 0 2 4) (accesses 0 2 4)
   pub accessLive : before 12 .threads 0
-      ≡ some (record { user = 0; frames = record { segment = 1; keys = SegmentKey 1 ∷ [] } ∷ record { segment = 0; keys = SegmentKey 0 ∷ [] } ∷ [] })
+      ≡ some (record { user = 0; frames = opened 1 ∷ opened 0 ∷ [] })
   pub lastFits : Fits (before 15) (A 0 2 4) (accesses 0 2 4)
-  pub lastLive : before 15 .threads 0 ≡ some (record { user = 0; frames = record { segment = 0; keys = SegmentKey 0 ∷ [] } ∷ [] })
+  pub lastLive : before 15 .threads 0 ≡ some (record { user = 0; frames = opened 0 ∷ [] })

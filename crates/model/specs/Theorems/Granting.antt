@@ -3,7 +3,7 @@
 -- deny lock then standing for it opens, some grant lock standing for it does and, for a C, fewer than sixteen of the
 -- run's calls are open. .. Opening is judged on the run's two identity keys and what each still open call handed over
 -- when made. Live runs, segments, standing locks, open calls and keys are all read from the history of calls and
--- answers alone.' Proved in `proofs/Granting.antt`.
+-- answers alone.' Proved in `proofs/Agreement/Granting.antt`.
 use mathlib.Core.Path.{_≡_}
 use mathlib.Core.Bool.{true}
 use mathlib.Core.List.{List}
@@ -32,8 +32,10 @@ pub record Grants (holds : Meaning) (es : List Event) (next : Call) (r : Answer)
       → isAccepted r ≡ granted holds (history es) o t
   pub exactly : (o : Operation) (t : Thread) → Fits (history es) next o → history es .threads (threadOf o) ≡ some t
       → (isAccepted r ≡ true) ↔ Granted holds (history es) o t
-  pub answer : (o : Operation) (t : Thread) → Fits (history es) next o → history es .threads (threadOf o) ≡ some t → r ≡ answerFrom holds (history es) o t
-  pub number : (q : Request) (n : ℕ) → decoded next ≡ WellFormed q → handsOut q ≡ true → r ≡ Accepted n → n ≡ acceptedOf (next .letter) es
+  pub answer : (o : Operation) (t : Thread) → Fits (history es) next o → history es .threads (threadOf o) ≡ some t
+      → r ≡ answerFrom holds (history es) o t
+  pub number : (q : Request) (n : ℕ) → decoded next ≡ WellFormed q → handsOut q ≡ true → r ≡ Accepted n
+      → n ≡ acceptedOf (next .letter) es
 
 -- for whatever compiler keeps the laws
 abbrev pub GrantingByLaws : Type 0

@@ -1,7 +1,7 @@
 -- Demand 2: 'a text that fits, in a call that no earlier number refuses, is refused as void exactly when no key set
 -- opens it.' And demand 1 of the other numbers that an L's text can get, 11, 12 and 10: each is given exactly where its
 -- condition holds and no earlier one does, all read from the list of calls and answers before the L. Proved in
--- `proofs/LockTexts.antt`.
+-- `proofs/Agreement/LockTexts.antt`.
 use mathlib.Core.Path.{_≡_}
 use mathlib.Core.Bool.{true, false}
 use mathlib.Core.List.{List}
@@ -64,8 +64,10 @@ pub record TextJudged (es : List Event) (a b c : ℕ) (text : List ℕ) (r : Ans
   pub unsatisfiableExactly : Allowed es a b c → (t : Tree ors) → Text (issuedBy es) text t → fits false t ≡ true
       → (r ≡ Refused Unsatisfiable) ↔ ((keys : KeySet) → holds keys t ≡ false)
   -- 10 last, and accepted is all the rest
-  pub full : (r ≡ Refused Full) ↔ (Allowed es a b c × (f : Satisfiable (issuedBy es) text) × (Room es b (length (products false (f .tree))) → ⊥))
-  pub made : (isAccepted r ≡ true) ↔ (Allowed es a b c × (f : Satisfiable (issuedBy es) text) × Room es b (length (products false (f .tree))))
+  pub full : (r ≡ Refused Full)
+      ↔ (Allowed es a b c × (f : Satisfiable (issuedBy es) text) × (Room es b (length (products false (f .tree))) → ⊥))
+  pub made : (isAccepted r ≡ true)
+      ↔ (Allowed es a b c × (f : Satisfiable (issuedBy es) text) × Room es b (length (products false (f .tree))))
 
 abbrev pub LockTexts : Type 0
 LockTexts =

@@ -2,7 +2,7 @@
 -- table ask of users, threads, segments, key lists, defined keys and locks, the list of calls and answers tells. (14
 -- and 15 are in `Granting`, 11 to 13 and what 10 asks in L in `LockTexts`, what is stored for locks in `StoredLocks`.)
 -- And the text of each standing lock spells a formula, which is what the text holds for. Proved in
--- `proofs/Mirror.antt`.
+-- `proofs/Agreement/Mirror.antt`.
 use mathlib.Core.Path.{_≡_}
 use mathlib.Core.Bool.{Bool}
 use mathlib.Core.List.{List, _∷_, List·Memᴰ}
@@ -49,7 +49,9 @@ pub record Mirrors (es : List Event) (d : State) : Type 0 where
   pub segmentFor : (l : Lock) → List·Memᴰ l (history es .locks) → lockSegment d (l .number) ≡ l .segment
 
 abbrev pub MirrorByLaws : Type 0
-MirrorByLaws = (compile : Compiler) (meaning : Meaning) → Laws compile meaning → (xs : List Call) → Mirrors (events compile xs) (stateOf (reached compile xs))
+MirrorByLaws =
+    (compile : Compiler) (meaning : Meaning) → Laws compile meaning → (xs : List Call)
+    → Mirrors (events compile xs) (stateOf (reached compile xs))
 
 -- a text of the grammar, under some counts of keys handed out, and the formula that it spells
 pub record Spelt (s : List ℕ) : Type 0 where

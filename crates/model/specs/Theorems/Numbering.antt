@@ -1,5 +1,5 @@
 -- Document 01, 'Twelve calls': what an accepted E, G, T, D or R answers, from the list of calls and answers before it.
--- What the others answer is in `Granting`. Proved in `proofs/Numbering.antt`.
+-- What the others answer is in `Granting`. Proved in `proofs/Agreement/Numbering.antt`.
 use mathlib.Core.Path.{_≡_}
 use mathlib.Core.Bool.{true}
 use mathlib.Core.List.{List, _∷_, map, List·Memᴰ}
@@ -27,14 +27,17 @@ pub record Numbers (compile : Compiler) (es : List Event) (next : Call) (r : Ans
   pub ended : (a n : ℕ) → decoded next ≡ WellFormed (EndThread a) → r ≡ Accepted n
       → (t : Thread) → history es .threads a ≡ some t → n ≡ length (t .frames)
   -- G and T: keys now in the list
-  pub keyGiven : (a b c n : ℕ) → decoded next ≡ WellFormed (GiveKey a b c) → r ≡ Accepted n → n ≡ length (listOf (advance (history es) (event next r)) b)
-  pub keyTaken : (a b c n : ℕ) → decoded next ≡ WellFormed (TakeKey a b c) → r ≡ Accepted n → n ≡ length (listOf (advance (history es) (event next r)) b)
+  pub keyGiven : (a b c n : ℕ) → decoded next ≡ WellFormed (GiveKey a b c) → r ≡ Accepted n
+      → n ≡ length (listOf (advance (history es) (event next r)) b)
+  pub keyTaken : (a b c n : ℕ) → decoded next ≡ WellFormed (TakeKey a b c) → r ≡ Accepted n
+      → n ≡ length (listOf (advance (history es) (event next r)) b)
   -- D: products removed, those of the lock's text
-  pub dropped : (a b n : ℕ) → decoded next ≡ WellFormed (DropLock a b) → r ≡ Accepted n → (l : Lock) → List·Memᴰ l (history es .locks) → l .number ≡ b
-      → n ≡ length (productsOf compile (l .text))
+  pub dropped : (a b n : ℕ) → decoded next ≡ WellFormed (DropLock a b) → r ≡ Accepted n
+      → (l : Lock) → List·Memᴰ l (history es .locks) → l .number ≡ b → n ≡ length (productsOf compile (l .text))
   -- R: the segment left
-  pub left : (a n : ℕ) → decoded next ≡ WellFormed (ReturnCall a) → r ≡ Accepted n → (t : Thread) → history es .threads a ≡ some t
-      → (f : Frame) (fs : List Frame) → t .frames ≡ f ∷ fs → n ≡ f .segment
+  pub left : (a n : ℕ) → decoded next ≡ WellFormed (ReturnCall a) → r ≡ Accepted n
+      → (t : Thread) → history es .threads a ≡ some t → (f : Frame) (fs : List Frame) → t .frames ≡ f ∷ fs
+      → n ≡ f .segment
   -- the standing locks are in the order of their numbers
   pub inOrder : rising (map (λ l. l .number) (history es .locks)) ≡ true
 

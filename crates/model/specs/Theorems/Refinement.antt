@@ -1,6 +1,6 @@
 -- The arrays hold the model: for arrays of the right sizes, whatever numbers are in them, a call on the arrays leaves
 -- the state that the call on the model leaves, and answers the same; and so does every list of calls from the empty
--- state. Proved in `proofs/Refinement.antt`.
+-- state. Proved in `proofs/Refinement/EveryCall.antt`.
 use mathlib.Core.Path.{_≡_}
 use mathlib.Core.List.{List}
 use Rattle.formula.specs.Outcome.{outcomeOf}
@@ -24,7 +24,9 @@ pub record Follows (compile : Compiler) (xs : List Call) : Type 0 where
   pub sized : Sized (reached compile xs)
 
 abbrev pub RefinementByLaws : Type 0
-RefinementByLaws = (compile : Compiler) (holds : Meaning) → Laws compile holds → (d : Cells) → Sized d → (x : Call) → Refines compile d x
+RefinementByLaws =
+    (compile : Compiler) (holds : Meaning) → Laws compile holds → (d : Cells) → Sized d → (x : Call)
+    → Refines compile d x
 
 pub record Refinement : Type 0 where
   pub call : (d : Cells) → Sized d → (x : Call) → Refines outcomeOf d x

@@ -1,6 +1,6 @@
 -- Demand 1: 'Refused are calls .. that meet a condition in document 01's table, each by the first such number in its
 -- order and never otherwise, with the desk and every lent byte unchanged. Accepted is all the rest.' Over the arrays,
--- whatever numbers are in them, and over every compiler. Proved in `proofs/Refusing.antt`.
+-- whatever numbers are in them, and over every compiler. Proved in `proofs/Refusals/Refusing.antt`.
 use mathlib.Core.Path.{_≡_}
 use mathlib.Core.Bool.{Bool, true, false}
 use mathlib.Core.List.{List, [], _∷_, _++_, map, List·Memᴰ}
@@ -50,10 +50,12 @@ pub record Refuses (compile : Compiler) (d : Cells) (x : Call) : Type 0 where
   pub refused : (q : Request) → decoded x ≡ WellFormed q → (r : Refusal)
       → (stepCells compile d x .answer ≡ Refused r) ↔ FirstHolds r (conditions compile (stateOf d) q (x .text))
   pub accepted : (q : Request) → decoded x ≡ WellFormed q
-      → (isAccepted (stepCells compile d x .answer) ≡ true) ↔ (someHolds (conditions compile (stateOf d) q (x .text)) ≡ false)
+      → (isAccepted (stepCells compile d x .answer) ≡ true)
+      ↔ (someHolds (conditions compile (stateOf d) q (x .text)) ≡ false)
   -- no condition that holds is earlier in the table
   pub earliest : (q : Request) → decoded x ≡ WellFormed q → (r : Refusal) → stepCells compile d x .answer ≡ Refused r
-      → (c : Condition Refusal) → List·Memᴰ c (conditions compile (stateOf d) q (x .text)) → c .holds ≡ true → rank r ≤ rank (c .refusal)
+      → (c : Condition Refusal) → List·Memᴰ c (conditions compile (stateOf d) q (x .text)) → c .holds ≡ true
+      → rank r ≤ rank (c .refusal)
   -- a refusal changes no cell
   pub unchanged : (r : Refusal) → stepCells compile d x .answer ≡ Refused r → stepCells compile d x .cells ≡ d
 
@@ -64,4 +66,6 @@ abbrev pub ranks : List (Condition Refusal) → List ℕ
 ranks cs = map (λ c. rank (c .refusal)) cs
 
 abbrev pub InOrder : Type 0
-InOrder = (compile : Compiler) (d : State) (q : Request) (text : List ℕ) → rising (ranks (conditions compile d q text)) ≡ true
+InOrder =
+    (compile : Compiler) (d : State) (q : Request) (text : List ℕ)
+    → rising (ranks (conditions compile d q text)) ≡ true

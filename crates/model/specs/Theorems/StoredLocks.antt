@@ -2,7 +2,7 @@
 -- After any list of calls from the empty state a segment stores the products of the history's standing locks on it, in
 -- order, and no others. So what is stored for a standing lock opens for exactly the key sets for which the formula that
 -- its text spells holds, whether some thread can have them or not; and how many products a segment has, which 10 asks
--- in L, the history tells. Proved in `proofs/StoredLocks.antt`.
+-- in L, the history tells. Proved in `proofs/Agreement/StoredLocks.antt`.
 use mathlib.Core.Path.{_≡_}
 use mathlib.Core.Bool.{false}
 use mathlib.Core.List.{List, [], map, List·Memᴰ}
@@ -31,16 +31,19 @@ pub record Stores (compile : Compiler) (meaning : Meaning) (es : List Event) (d 
   pub segment : (s : ℕ) → segmentAt d s .products ≡ concatMap (storedOf compile) (locksOn es s)
   pub count : (s : ℕ) → length (segmentAt d s .products) ≡ standingProducts compile es s
   -- of a standing lock: its text is accepted, and all that is stored for it, on whatever segment, is what it stores
-  pub text : (l : Lock) → List·Memᴰ l (history es .locks) → compile everything (l .text) ≡ accepted (productsOf compile (l .text))
+  pub text : (l : Lock) → List·Memᴰ l (history es .locks)
+      → compile everything (l .text) ≡ accepted (productsOf compile (l .text))
   pub lock : (l : Lock) → List·Memᴰ l (history es .locks) → storedFor d (l .number) ≡ storedOf compile l
   -- of any other number, of a lock never made or dropped, nothing is stored
   pub gone : (n : ℕ) → any (λ l. eqb (l .number) n) (history es .locks) ≡ false → storedFor d n ≡ []
   -- so a standing lock opens for every key set as its text holds
-  pub opening : (l : Lock) → List·Memᴰ l (history es .locks) → (keys : KeySet) → storedOpens d (l .number) keys ≡ meaning keys (l .text)
+  pub opening : (l : Lock) → List·Memᴰ l (history es .locks) → (keys : KeySet)
+      → storedOpens d (l .number) keys ≡ meaning keys (l .text)
 
 abbrev pub StoredLocksByLaws : Type 0
 StoredLocksByLaws =
-    (compile : Compiler) (meaning : Meaning) → Laws compile meaning → (xs : List Call) → Stores compile meaning (events compile xs) (stateOf (reached compile xs))
+    (compile : Compiler) (meaning : Meaning) → Laws compile meaning → (xs : List Call)
+    → Stores compile meaning (events compile xs) (stateOf (reached compile xs))
 
 -- The formula that a lock's text spells, and what is stored for the lock: the formula's products, which open for
 -- exactly the key sets for which it holds. The text spells no other: one that it spells under whatever counts of keys
@@ -50,8 +53,10 @@ pub record StoredFormula (d : State) (l : Lock) : Type 0 where
   pub text : Text everything (l .text) tree
   pub stored : storedFor d (l .number) ≡ map (lockProduct (l .number) (l .operations)) (products false tree)
   pub opening : (keys : KeySet) → storedOpens d (l .number) keys ≡ holds keys tree
-  pub spelt : (i : Issued) (t : Tree ors) → Text i (l .text) t → (keys : KeySet) → storedOpens d (l .number) keys ≡ holds keys t
+  pub spelt : (i : Issued) (t : Tree ors) → Text i (l .text) t → (keys : KeySet)
+      → storedOpens d (l .number) keys ≡ holds keys t
 
 pub record StoredLocks : Type 0 where
   pub state : (xs : List Call) → Stores outcomeOf textHolds (events outcomeOf xs) (stateOf (reached outcomeOf xs))
-  pub formula : (xs : List Call) (l : Lock) → List·Memᴰ l (historyOf outcomeOf xs .locks) → StoredFormula (stateOf (reached outcomeOf xs)) l
+  pub formula : (xs : List Call) (l : Lock) → List·Memᴰ l (historyOf outcomeOf xs .locks)
+      → StoredFormula (stateOf (reached outcomeOf xs)) l

@@ -1,16 +1,20 @@
 -- A trial for each number from 1 to 15 of document 01's table with each letter that it can refuse, in the table's order
 -- and often with a later one that holds too; calls that are not well formed; the limits from both sides; and places
--- that are freed and used again. Proved in `proofs/Trials.antt`, by computing.
+-- that are freed and used again. Each letter of the table of calls occurs accepted and refused. Proved in
+-- `proofs/Computed/Trials.antt`, by computing.
 use mathlib.Core.Path.{_≡_}
-use mathlib.Core.List.{List, [], _∷_, _++_}
+use mathlib.Core.Bool.{Bool, _&&_, _||_, not}
+use mathlib.Core.List.{List, [], _∷_, _++_, map}
 use Prim.Native.Nat.{ℕ, _+_}
-use lib.ListN.{replicate}
+use lib.Dec.{eqb}
+use lib.ListN.{length, replicate}
 use Rattle.formula.specs.Outcome.{outcomeOf}
 use Rattle.base.specs.Bytes.{bytes}
-use Rattle.call.specs.Calls.{Call, callWith}
+use Rattle.call.specs.Calls.{Call, callWith, TableRow, table}
 use Rattle.model.specs.Answers.{answerNumber, answerValue}
-use Rattle.base.specs.Lists.{each}
-use Rattle.model.specs.State.{State, free}
+use Rattle.base.specs.Lists.{any, keep, each}
+use Rattle.model.specs.State.{State, emptyState, blankSegment, free}
+use Rattle.model.specs.Refusals.{conditions}
 use Rattle.model.specs.Model.{step}
 use Rattle.model.specs.Notation.{Expected, U, S, E, N, K, G, T, L, D, C, R, A, ok, no, Happens}
 
@@ -176,7 +180,16 @@ abbrev pub segments : List Expected
 segments = ok U 0 ∷ each (ok (N 0 1)) 0 64 ++ no (N 0 1) 10 0 ∷ []
 
 abbrev pub liveThreads : List Expected
-liveThreads = ok U 0 ∷ each (ok (S 0)) 0 64 ++ no (S 0) 10 0 ∷ ok (E 5) 0 ∷ ok (S 0) 64 ∷ no (S 0) 10 0 ∷ no (R 64) 9 0 ∷ no (R 5) 2 0 ∷ []
+liveThreads =
+    ok U 0
+    ∷ each (ok (S 0)) 0 64
+    ++ no (S 0) 10 0
+    ∷ ok (E 5) 0
+    ∷ ok (S 0) 64
+    ∷ no (S 0) 10 0
+    ∷ no (R 64) 9 0
+    ∷ no (R 5) 2 0
+    ∷ []
 
 abbrev pub listed : List Expected
 listed =
@@ -212,7 +225,7 @@ late t l k =
       threadNumbers = t;
       lockNumbers = l;
       makers = replicate k 0;
-      segments = record { owner = 0; kind = 0; keys = []; products = [] } ∷ [];
+      segments = blankSegment ∷ [];
       places = free ∷ [];
     }
 
@@ -220,8 +233,29 @@ late t l k =
 abbrev pub answerIn : State → Call → ℕ × ℕ
 answerIn d x = (answerNumber (step outcomeOf d x .answer), answerValue (step outcomeOf d x .answer))
 
+-- the trials of the table of refusals
+abbrev pub refusals : List Expected
+refusals = start ++ keyLists ++ threads ++ locks ++ calls ++ accesses ++ drops ++ ends ++ unformed
+
+-- a letter's call is accepted in one of them, and refused by a number of the table if it has any
+abbrev pub isAccepting : ℕ → Expected → Bool
+isAccepting letter e = eqb (e .call .letter) letter && eqb (e .number) 0
+
+abbrev pub isRefusing : ℕ → Expected → Bool
+isRefusing letter e = eqb (e .call .letter) letter && not (eqb (e .number) 0 || eqb (e .number) 18)
+
+abbrev pub isShown : List Expected → TableRow → Bool
+isShown es r =
+    let refusable = not (eqb (length (conditions outcomeOf emptyState (r .request) [])) 0) in
+    any (isAccepting (r .letter)) es && (not refusable || any (isRefusing (r .letter)) es)
+
+-- the letters of the table of calls that are not shown
+abbrev pub lettersWithout : List Expected → List ℕ
+lettersWithout es = map (λ r. r .letter) (keep (λ r. not (isShown es r)) (table 0 0 0))
+
 pub record Trials : Type 0 where
-  pub table : Happens (start ++ keyLists ++ threads ++ locks ++ calls ++ accesses ++ drops ++ ends ++ unformed)
+  pub table : Happens refusals
+  pub everyLetter : lettersWithout (refusals ++ users) ≡ []
   pub identityHappens : Happens identity
   pub usersHappen : Happens users
   pub segmentsHappen : Happens segments

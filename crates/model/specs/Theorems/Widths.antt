@@ -1,7 +1,7 @@
 -- What is stored fits the arrays: where every number of the arrays fits its cell, 16 bits of makers, segments and
 -- threads and 32 bits of counts and lock rows, and the call's fields have 16 bits, it is so after the call, and an
 -- accepted call's answer and a refusal's second number have 16 bits. So it is after every list of such calls from the
--- empty state. Proved in `proofs/Widths.antt`.
+-- empty state. Proved in `proofs/Limits/Widths.antt`.
 use mathlib.Core.Path.{_≡_}
 use mathlib.Core.List.{List, [], _∷_}
 use Prim.Native.Nat.{ℕ, _<_}
@@ -42,7 +42,8 @@ pub record Contained (compile : Compiler) (d : Cells) (x : Call) : Type 0 where
 
 abbrev pub WidthsByLaws : Type 0
 WidthsByLaws =
-    (compile : Compiler) (holds : Meaning) → Laws compile holds → (d : Cells) → Sized d → Fitting d → (x : Call) → Fields x → Contained compile d x
+    (compile : Compiler) (holds : Meaning) → Laws compile holds → (d : Cells) → Sized d → Fitting d
+    → (x : Call) → Fields x → Contained compile d x
 
 -- every call of a list
 abbrev pub AllFields : List Call → Type 0

@@ -1,5 +1,5 @@
 -- What is stored as numbers is read back: a literal whose key has a number of 16 bits, a product of such literals that
--- fits a row, and a sum of such products that fits 8 rows. Proved in `proofs/Storing.antt`.
+-- fits a row, and a sum of such products that fits 8 rows. Proved in `proofs/StoredSums.antt`.
 use mathlib.Core.Path.{_≡_}
 use mathlib.Core.Option.{some}
 use Prim.Native.Nat.{ℕ, _≤_, _<_}

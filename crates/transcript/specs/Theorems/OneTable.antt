@@ -1,5 +1,5 @@
 -- Document 01 has one table of refusals, and each crate has the part of it that its answers need. Where two crates have
--- a refusal, they give it the same number. Proved in `proofs/Numbers.antt`.
+-- a refusal, they give it the same number. Proved in `proofs/OneTable.antt`.
 use mathlib.Core.Path.{_≡_}
 use Rattle.formula.specs.declared.text.Status.the-variants.{Malformed as MalformedText, TooWide as TooWideText, Unsatisfiable as UnsatisfiableText}
 use Rattle.formula.specs.Outcome.{refusalNumber as textNumber}

@@ -152,18 +152,18 @@ fn differences<T: PartialEq>(before: &[T], after: &[T]) -> Vec<usize> {
 /// Where an array may change.
 #[derive(Clone, Copy)]
 enum Places {
-    None,
-    This(usize),
-    /// One, whichever it is.
-    Any,
+    Nowhere,
+    Only(usize),
+    /// At one place, whichever it is.
+    Anywhere,
 }
 
 impl Places {
-    fn have(self, changed: &[usize]) -> bool {
+    fn include(self, changed: &[usize]) -> bool {
         match self {
-            Places::None => changed.is_empty(),
-            Places::This(only) => changed.iter().all(|place| *place == only),
-            Places::Any => changed.len() <= 1,
+            Places::Nowhere => changed.is_empty(),
+            Places::Only(only) => changed.iter().all(|place| *place == only),
+            Places::Anywhere => changed.len() <= 1,
         }
     }
 }
@@ -179,10 +179,10 @@ struct Confines {
 
 const NOTHING: Confines = Confines {
     registry: false,
-    makers: Places::None,
-    segments: Places::None,
-    locks: Places::None,
-    threads: Places::None,
+    makers: Places::Nowhere,
+    segments: Places::Nowhere,
+    locks: Places::Nowhere,
+    threads: Places::Nowhere,
 };
 
 const REGISTRY: Confines = Confines {
@@ -191,16 +191,16 @@ const REGISTRY: Confines = Confines {
 };
 
 fn confines(letter: Letter, record: &Record, answer: u16) -> Confines {
-    let new = Places::This(usize::from(answer));
-    let segment = Places::This(usize::from(record.b));
+    let new = Places::Only(usize::from(answer));
+    let segment = Places::Only(usize::from(record.b));
     match letter {
         Letter::NewUser => REGISTRY,
         Letter::StartThread => Confines {
-            threads: Places::Any,
+            threads: Places::Anywhere,
             ..REGISTRY
         },
         Letter::EndThread | Letter::CallSegment | Letter::ReturnCall => Confines {
-            threads: Places::Any,
+            threads: Places::Anywhere,
             ..NOTHING
         },
         Letter::NewSegment => Confines {
@@ -221,7 +221,7 @@ fn confines(letter: Letter, record: &Record, answer: u16) -> Confines {
             ..REGISTRY
         },
         Letter::DropLock => Confines {
-            locks: Places::Any,
+            locks: Places::Anywhere,
             ..NOTHING
         },
         Letter::Access => NOTHING,
@@ -233,14 +233,16 @@ fn assert_confined(record: &Record, answer: u16, before: &Cells, after: &Cells) 
     let letter = Letter::of(record.letter).expect("an accepted call has a letter");
     let may = confines(letter, record, answer);
     let confined = (may.registry || before.registry == after.registry)
-        && may.makers.have(&differences(&before.makers, &after.makers))
+        && may
+            .makers
+            .include(&differences(&before.makers, &after.makers))
         && may
             .segments
-            .have(&differences(&before.segments, &after.segments))
-        && may.locks.have(&differences(&before.locks, &after.locks))
+            .include(&differences(&before.segments, &after.segments))
+        && may.locks.include(&differences(&before.locks, &after.locks))
         && may
             .threads
-            .have(&differences(&before.threads, &after.threads));
+            .include(&differences(&before.threads, &after.threads));
     assert!(confined, "{record:?} changes what it is not about");
 }
 

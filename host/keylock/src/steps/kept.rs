@@ -59,12 +59,8 @@ impl Kept {
                 self.formulas.remove(&record.b);
                 None
             }
-            Letter::EndThread
-            | Letter::GiveKey
-            | Letter::TakeKey
-            | Letter::CallSegment
-            | Letter::ReturnCall
-            | Letter::Access => None,
+            Letter::EndThread | Letter::CallSegment | Letter::ReturnCall => None,
+            Letter::GiveKey | Letter::TakeKey | Letter::Access => None,
         };
         if let (Some(made), Some(note)) = (made, &entry.note) {
             let name = name(&thing(made, answer), note);

@@ -5,8 +5,8 @@ use borrow.Author.Needs.{needs}
 use Rattle.locks.proofs.rows.end_rows.Statement.{statement}
 use Rattle.locks.proofs.rows.end_rows.Tie as tie
 
-rows-len-requires : tie.Need-rows-len-requires
-rows-len-requires c κs = search needs
+count-rows-requires : tie.Need-count-rows-requires
+count-rows-requires c κs = search needs
 
 mul-products : tie.Need-mul-products
 mul-products c = search needs
@@ -26,4 +26,4 @@ returns-2 c = sym (set-out _ _ _ (search needs))
 pub end-rows-spec : {M : Type 1} → statement M
 end-rows-spec =
     tie.close
-    (tie.spec rows-len-requires mul-products index-1-products index-2-products returns returns-2)
+    (tie.spec count-rows-requires mul-products index-1-products index-2-products returns returns-2)

@@ -1,30 +1,33 @@
--- What the whole search finds is what is found from segment s on (`Searching`).
+-- No segment before s has a row of the lock.
 use mathlib.Core.Path.{sym, _∙_}
 use Prim.Native.Nat.{_-_}
-use Rattle.model.specs.Cells.{tableAt}
-use Rattle.locks.specs.Internal.{hasRow}
-use Rattle.locks.proofs.UsedRows.{Searching, searching-start, searching-found, searching-on, searching-past}
 use borrow.Author.Needs.{needs}
+use Rattle.model.specs.Cells.{tableAt}
+use Rattle.base.proofs.Scans.{Missed, missed-start, missed-more, missed-hit, missed-end}
+use Rattle.locks.specs.Internal.{hasRow}
 use Rattle.locks.proofs.rows.segment_of.Statement.{statement}
 use Rattle.locks.proofs.rows.segment_of.Tie as tie
 
 abbrev Inv-loop : tie.InvT-loop
-Inv-loop locks n lock s₀ s = Searching (hasRow lock) (tableAt locks) n s
+Inv-loop locks n lock s₀ s = Missed (hasRow lock) (tableAt locks) n s
 
 abbrev μ-loop : tie.MeasureT-loop
 μ-loop locks n lock s₀ s = n - s
 
 loop-holds : tie.Need-loop-holds Inv-loop μ-loop
-loop-holds c = searching-start _ _ _
+loop-holds c = missed-start _ _ _
 
 returns : tie.Need-returns Inv-loop μ-loop
-returns c = let b = c .before .before in record { place = searching-found _ _ _ (b .before .before .loop .inv) (search needs) (sym (c .before .has-row .ensures) ∙ c .if1 .taken); low = search needs }
+returns c =
+    let inv = c .before .before .before .before .loop .inv in
+    record { place = missed-hit _ _ inv (search needs) (sym (c .before .has-row .ensures) ∙ c .if1 .taken); low = search needs }
 
 loop-again : tie.Need-loop-again Inv-loop μ-loop
-loop-again c = let b = c .before .before in searching-on _ _ _ (b .before .before .loop .inv) (search needs) (sym (c .before .has-row .ensures) ∙ c .if1 .left)
+loop-again c =
+    missed-more _ _ (c .before .before .before .before .loop .inv) (search needs) (sym (c .before .has-row .ensures) ∙ c .if1 .left)
 
 returns-2 : tie.Need-returns-2 Inv-loop μ-loop
-returns-2 c = record { place = searching-past _ _ _ (c .before .loop .inv) (search needs); low = search needs }
+returns-2 c = record { place = missed-end _ _ (c .before .loop .inv) (search needs); low = search needs }
 
 pub segment-of-spec : {M : Type 1} → statement M
 segment-of-spec =

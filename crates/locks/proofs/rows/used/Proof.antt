@@ -1,28 +1,34 @@
--- The rows so far are used (`Counting`).
-use mathlib.Core.Path.{_∙_}
+-- No row before i begins with 0.
 use Prim.Native.Nat.{_-_}
-use Rattle.locks.proofs.UsedRows.{Counting, counting-start, counting-ends, counting-on, counting-past}
 use borrow.Author.Needs.{needs}
+use borrow.Author.Tests.{eq-eqb, ne-eqb}
+use Rattle.model.specs.Cells.{rowAt}
+use Rattle.base.proofs.Scans.{Missed, missed-start, missed-more, missed-hit, missed-end}
+use Rattle.locks.proofs.UsedRows.{ends, used-count}
 use Rattle.locks.proofs.rows.used.Statement.{statement}
 use Rattle.locks.proofs.rows.used.Tie as tie
 
 abbrev Inv-loop : tie.InvT-loop
-Inv-loop products rows i₀ i = Counting products i
+Inv-loop products rows i₀ i = Missed ends (rowAt products) rows i
 
 abbrev μ-loop : tie.MeasureT-loop
 μ-loop products rows i₀ i = rows - i
 
 loop-holds : tie.Need-loop-holds Inv-loop μ-loop
-loop-holds c = counting-start _
+loop-holds c = missed-start _ _ _
 
 returns : tie.Need-returns Inv-loop μ-loop
-returns c = let b = c .before .before in record { count = counting-ends (b .before .loop .inv) (search needs) (c .if1 .taken); low = search needs; inside = search needs }
+returns c =
+    let turn = c .before .before .before in
+    used-count (turn .before .count-rows .ensures) (search needs) (search needs)
+    (missed-hit _ _ (turn .loop .inv) (search needs) (eq-eqb _ _ (c .if1 .taken)))
 
 loop-again : tie.Need-loop-again Inv-loop μ-loop
-loop-again c = let b = c .before .before in counting-on (b .before .loop .inv) (search needs) (c .if1 .left)
+loop-again c = missed-more _ _ (c .before .before .before .loop .inv) (search needs) (ne-eqb _ _ (c .if1 .left))
 
 returns-2 : tie.Need-returns-2 Inv-loop μ-loop
-returns-2 c = let e = c .before .before .rows-len .ensures in record { count = e ∙ counting-past (c .before .loop .inv) (search needs); low = search needs; inside = search needs }
+returns-2 c =
+    used-count (c .before .before .count-rows .ensures) (search needs) (search needs) (missed-end _ _ (c .before .loop .inv) (search needs))
 
 pub used-spec : {M : Type 1} → statement M
 used-spec =
@@ -30,7 +36,7 @@ used-spec =
     (tie.spec
     Inv-loop
     μ-loop
-    (λ c κs. search needs)  -- rows-len-requires
+    (λ c κs. search needs)  -- count-rows-requires
     loop-holds
     (λ c. search needs)  -- mul-if1
     (λ c. search needs)  -- index-1-if1

@@ -1,20 +1,10 @@
 -- By the signs.
 use borrow.Author.Needs.{needs}
-use Rattle.product.proofs.Codes.{plain-plain-before, plain-barred-before, barred-plain-before, barred-barred-before}
+use mathlib.Core.Path.{sym, ap, _∙_}
+use mathlib.Core.Bool.{true, false, not}
+use Rattle.product.proofs.Codes.{before-signed}
 use Rattle.product.proofs.literal.before.Statement.{statement}
 use Rattle.product.proofs.literal.before.Tie as tie
-
-returns : tie.Need-returns
-returns c = let y = c .before .before in plain-plain-before (y .before .before .before .x .given .1) (y .y .given .1) (c .key-before .ensures)
-
-returns-2 : tie.Need-returns-2
-returns-2 c = let y = c .before .before in plain-barred-before (y .before .before .before .x .given .1) (y .y2 .given .1) (c .key-before2 .ensures)
-
-returns-3 : tie.Need-returns-3
-returns-3 c = let y = c .before .before in barred-plain-before (y .before .before .before .x2 .given .1) (y .y3 .given .1) (c .key-before3 .ensures)
-
-returns-4 : tie.Need-returns-4
-returns-4 c = let y = c .before .before in barred-barred-before (y .before .before .before .x2 .given .1) (y .y4 .given .1) (c .key-before4 .ensures)
 
 pub before-spec : {M : Type 1} → statement M
 before-spec =
@@ -30,7 +20,7 @@ before-spec =
     (λ c κs. search needs)  -- key-before-requires-3
     (λ c. search needs)  -- enum-known-y-4
     (λ c κs. search needs)  -- key-before-requires-4
-    returns
-    returns-2
-    returns-3
-    returns-4)
+    (λ c. c .key-before .ensures ∙ sym (before-signed true true _ _ (c .before .before .before .before .before .x .given .1) (c .before .before .y .given .1)))
+    (λ c. ap not (c .key-before2 .ensures) ∙ sym (before-signed true false _ _ (c .before .before .before .before .before .x .given .1) (c .before .before .y2 .given .1)))
+    (λ c. c .key-before3 .ensures ∙ sym (before-signed false true _ _ (c .before .before .before .before .before .x2 .given .1) (c .before .before .y3 .given .1)))
+    (λ c. c .key-before4 .ensures ∙ sym (before-signed false false _ _ (c .before .before .before .before .before .x2 .given .1) (c .before .before .y4 .given .1))))

@@ -1,20 +1,10 @@
 -- By the signs.
 use borrow.Author.Needs.{needs}
-use Rattle.product.proofs.Codes.{plain-plain-opposed, plain-barred-opposed, barred-plain-opposed, barred-barred-opposed}
+use mathlib.Core.Path.{sym, _∙_}
+use mathlib.Core.Bool.{true, false}
+use Rattle.product.proofs.Codes.{opposed-signed}
 use Rattle.product.proofs.literal.opposed.Statement.{statement}
 use Rattle.product.proofs.literal.opposed.Tie as tie
-
-returns : tie.Need-returns
-returns c = plain-plain-opposed (c .before .before .before .x .given .1) (c .enum-told .given .1)
-
-returns-2 : tie.Need-returns-2
-returns-2 c = let y = c .before .before in plain-barred-opposed (y .before .before .before .x .given .1) (y .y .given .1) (c .same-key .ensures)
-
-returns-3 : tie.Need-returns-3
-returns-3 c = let y = c .before .before in barred-plain-opposed (y .before .before .before .x2 .given .1) (y .y2 .given .1) (c .same-key2 .ensures)
-
-returns-4 : tie.Need-returns-4
-returns-4 c = barred-barred-opposed (c .before .before .before .x2 .given .1) (c .enum-told2 .given .1)
 
 pub opposed-spec : {M : Type 1} → statement M
 opposed-spec =
@@ -28,7 +18,7 @@ opposed-spec =
     (λ c. search needs)  -- enum-known-y-2
     (λ c κs. search needs)  -- same-key-requires-2
     (λ c. search needs)  -- enum-told-2
-    returns
-    returns-2
-    returns-3
-    returns-4)
+    (λ c. sym (opposed-signed true true _ _ (c .before .before .before .x .given .1) (c .enum-told .given .1)))
+    (λ c. c .same-key .ensures ∙ sym (opposed-signed true false _ _ (c .before .before .before .before .before .x .given .1) (c .before .before .y .given .1)))
+    (λ c. c .same-key2 .ensures ∙ sym (opposed-signed false true _ _ (c .before .before .before .before .before .x2 .given .1) (c .before .before .y2 .given .1)))
+    (λ c. sym (opposed-signed false false _ _ (c .before .before .before .x2 .given .1) (c .enum-told2 .given .1))))

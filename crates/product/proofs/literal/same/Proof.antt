@@ -1,20 +1,10 @@
 -- By the signs.
 use borrow.Author.Needs.{needs}
-use Rattle.product.proofs.Codes.{plain-plain-same, plain-barred-same, barred-plain-same, barred-barred-same}
+use mathlib.Core.Path.{sym, _∙_}
+use mathlib.Core.Bool.{true, false}
+use Rattle.product.proofs.Codes.{same-signed}
 use Rattle.product.proofs.literal.same.Statement.{statement}
 use Rattle.product.proofs.literal.same.Tie as tie
-
-returns : tie.Need-returns
-returns c = let y = c .before .before in plain-plain-same (y .before .before .before .x .given .1) (y .y .given .1) (c .same-key .ensures)
-
-returns-2 : tie.Need-returns-2
-returns-2 c = plain-barred-same (c .before .before .before .x .given .1) (c .enum-told .given .1)
-
-returns-3 : tie.Need-returns-3
-returns-3 c = barred-plain-same (c .before .before .before .x2 .given .1) (c .enum-told2 .given .1)
-
-returns-4 : tie.Need-returns-4
-returns-4 c = let y = c .before .before in barred-barred-same (y .before .before .before .x2 .given .1) (y .y2 .given .1) (c .same-key2 .ensures)
 
 pub same-spec : {M : Type 1} → statement M
 same-spec =
@@ -28,7 +18,7 @@ same-spec =
     (λ c. search needs)  -- enum-told-2
     (λ c. search needs)  -- enum-known-y-2
     (λ c κs. search needs)  -- same-key-requires-2
-    returns
-    returns-2
-    returns-3
-    returns-4)
+    (λ c. c .same-key .ensures ∙ sym (same-signed true true _ _ (c .before .before .before .before .before .x .given .1) (c .before .before .y .given .1)))
+    (λ c. sym (same-signed true false _ _ (c .before .before .before .x .given .1) (c .enum-told .given .1)))
+    (λ c. sym (same-signed false true _ _ (c .before .before .before .x2 .given .1) (c .enum-told2 .given .1)))
+    (λ c. c .same-key2 .ensures ∙ sym (same-signed false false _ _ (c .before .before .before .before .before .x2 .given .1) (c .before .before .y2 .given .1))))

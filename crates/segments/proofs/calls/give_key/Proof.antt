@@ -1,7 +1,7 @@
 -- Refused in the order of the table, else the list is stored closed up with the key at its end.
 use mathlib.Core.Path.{_≡_, refl, sym, ap, ap₂, _∙_}
 use mathlib.Core.Bool.{Bool, true, false, not, _&&_}
-use mathlib.Core.List.{List}
+use mathlib.Core.List.{List, []}
 use Prim.Native.Nat.{ℕ, suc, _+_, _≤_, _<_}
 use native.Mathlib.Omega.{arith}
 use borrow.Author.Needs.{needs}
@@ -14,7 +14,7 @@ use Rattle.call.specs.declared.request.Request.{Request}
 use Rattle.call.specs.declared.request.Request.the-variants.{GiveKey}
 use Rattle.model.specs.declared.answer.Refusal.the-variants.{NotOwner, AlreadyPresent, Full}
 use Rattle.model.specs.declared.answer.Answer.the-variants.{Accepted, Refused}
-use Rattle.model.specs.Limits.{mostListed}
+use Rattle.model.specs.Limits.{mostListed, mostSegments, mostDefined}
 use Rattle.base.specs.Lists.{keep}
 use Rattle.model.specs.Threads.{isIn}
 use Rattle.model.specs.Refusals.{conditions}
@@ -27,7 +27,7 @@ use Rattle.base.proofs.Lists.{length-append-one}
 use Rattle.model.proofs.Refinement.Serving.{serves-refused, serves-accepted}
 use Rattle.segments.specs.Internal.{Removed}
 use Rattle.segments.proofs.ArrayTests.{owned-by, in-list, list-length, all-stay}
-use Rattle.segments.proofs.EditConditions.{Names, Named, unknown-user, unknown-segment, unknown-key, named}
+use Rattle.segments.proofs.EditConditions.{Names, Named, name-missing, names-known, names-low}
 use Rattle.segments.proofs.RemovedKey.{keyRow-snoc}
 use Rattle.segments.proofs.calls.give_key.Statement.{statement}
 use Rattle.segments.proofs.calls.give_key.Tie as tie
@@ -94,88 +94,69 @@ module _ (d : Cells) (text : List ℕ) (u s k : ℕ) where
             (ap (λ (w : Row). segmentsAre (set (d .segments) s (set table 1 w)) d)
             (ap₂ (λ (w : Row) (i : ℕ). set w i (definedCell k)) (v .closed ∙ ap keyRow all) e ∙ keyRow-snoc codes (definedCell k) (omega arith)))
 
-named-at : (b : tie.Else3) (d : Cells)
-    → let a = b .before .before .before .before .before .before .before .args in
+-- what passed the tests
+named-at : (b : tie.After-enum-told) (d : Cells)
+    → let a = b .before .before .before .before .args in
     Named ((registryIs (now (a .registry)) and makersAre (now (a .makers)) and segmentsAre (now (a .segments))) d) (a .user) (a .segment) (a .key)
-named-at b d =
-    let e = b .before .before .before .before .before in
-    named _ _ _ _
-    (e .before .is-user .ensures) (e .if1 .left) (b .before .before .before .before .segments .ensures) (b .before .before .before .if2 .left)
-    (b .before .defined .ensures) (b .if3 .left)
+named-at b d = names-known _ (GiveKey _ _ _) [] _ _ _ (names _ [] _ _ _) (b .before .before .test-names .ensures) (b .enum-told .given .1)
+
+low : (b : tie.After-enum-told) → let a = b .before .before .before .before .args in (a .segment < mostSegments) × (a .key < mostDefined)
+low b = names-low (b .before .before .test-names .ensures) (b .enum-told .given .1)
 
 returns : tie.Need-returns
 returns c =
     λ text d.
-    unknown-user _ (GiveKey _ _ _) text _ _ _ (names _ text _ _ _)
-    (c .before .is-user .ensures) (c .if1 .taken)
+    name-missing _ (GiveKey _ _ _) text _ _ _ (names _ text _ _ _) (c .before .before .before .test-names .ensures) (c .before .refusal .given .1)
 
 returns-2 : tie.Need-returns-2
-returns-2 c =
-    λ text d.
-    unknown-segment _ (GiveKey _ _ _) text _ _ _ (names _ text _ _ _)
-    (c .before .before .before .is-user .ensures) (c .before .before .if1 .left) (c .before .segments .ensures) (c .if2 .taken)
+returns-2 c = λ text d. not-owner _ text _ _ _ (named-at (c .before .before .before) d) (c .if1 .taken)
 
 returns-3 : tie.Need-returns-3
 returns-3 c =
-    let b = c .before .before .before .before .before in
-    λ text d.
-    unknown-key _ (GiveKey _ _ _) text _ _ _ (names _ text _ _ _)
-    (b .before .is-user .ensures) (b .if1 .left) (c .before .before .before .before .segments .ensures) (c .before .before .before .if2 .left)
-    (c .before .defined .ensures) (c .if3 .taken)
+    let e = c .before .before .before in
+    λ text d. present _ text _ _ _ (named-at (e .before .before .before) d) (e .if1 .left) (c .before .remove .ensures) (c .if2 .taken)
 
 returns-4 : tie.Need-returns-4
 returns-4 c =
-    λ text d. not-owner _ text _ _ _ (named-at (c .before .before .before) d) (c .if4 .taken)
+    let e = c .before .before .before .before in
+    λ text d.
+    full _ text _ _ _ (named-at (e .before .before .before) d) (e .if1 .left) (c .before .before .remove .ensures) (c .before .if2 .left) (c .if3 .taken)
 
 returns-5 : tie.Need-returns-5
 returns-5 c =
-    let e = c .before .before .before in
-    λ text d. present _ text _ _ _ (named-at (e .before .before .before) d) (e .if4 .left) (c .before .remove .ensures) (c .if5 .taken)
-
-returns-6 : tie.Need-returns-6
-returns-6 c =
-    let e = c .before .before .before .before in
-    λ text d.
-    full _ text _ _ _ (named-at (e .before .before .before) d) (e .if4 .left) (c .before .before .remove .ensures)
-    (c .before .if5 .left) (c .if6 .taken)
-
-returns-7 : tie.Need-returns-7
-returns-7 c =
     let e = c .before .before .before .before .before in
     λ text d.
-    given _ text _ _ _ (named-at (e .before .before .before) d) (e .if4 .left) (c .before .before .before .remove .ensures)
-    (c .before .before .if5 .left) (c .before .if6 .left)
+    given _ text _ _ _ (named-at (e .before .before .before) d) (e .if1 .left) (c .before .before .before .remove .ensures)
+    (c .before .before .if2 .left) (c .before .if3 .left)
 
 pub give-key-spec : {M : Type 1} → statement M
 give-key-spec =
     tie.close
     (tie.spec
-    (λ c κs. search needs)  -- is-user-requires
+    (λ c κs. search needs)  -- test-names-requires
+    (λ c. search needs)  -- enum-known-refusal
     returns
-    (λ c κs. search needs)  -- segments-requires
-    returns-2
-    (λ c κs. search needs)  -- defined-requires
-    returns-3
+    (λ c. search needs)  -- enum-told
     (λ c. search needs)  -- mul-owner
-    (λ c. search needs)  -- index-1-owner
+    (λ c. low c .0)  -- index-1-owner
     (λ c. search needs)  -- index-2-owner
     (λ c. search needs)  -- index-3-owner
     (λ c. search needs)  -- mul-maker
-    (λ c. search needs)  -- element-copy-out-maker
-    returns-4
+    (λ c. let l = low (c .before) in search (needs, l))  -- element-copy-out-maker
+    returns-2
     (λ c. search needs)  -- mul-list
-    (λ c. search needs)  -- index-1-list
+    (λ c. low (c .before .before .before) .0)  -- index-1-list
     (λ c. search needs)  -- index-2-list
-    (λ c. search needs)  -- add-remove
+    (λ c. let l = low (c .before .before .before .before) in search (needs, l))  -- add-remove
     (λ c κs. search needs)  -- remove-requires
-    returns-5
-    returns-6
-    (λ c. search needs)  -- add-cells
+    returns-3
+    returns-4
+    (λ c. let l = low (c .before .before .before .before .before .before .before .before) in search (needs, l))  -- add-cells
     (λ c. search needs)  -- mul-cells
     (λ c. search needs)  -- array-write-cells
-    (λ c. search needs)  -- mul-t21
-    (λ c. search needs)  -- index-1-segments
+    (λ c. search needs)  -- mul-t26
+    (λ c. low (c .before .before .before .before .before .before .before .before) .0)  -- index-1-segments
     (λ c. search needs)  -- index-2-segments
-    (λ c. search needs)  -- cast-t29
-    (λ c. search needs)  -- add-t48
-    returns-7)
+    (λ c. search needs)  -- cast-t25
+    (λ c. search needs)  -- add-t47
+    returns-5)

@@ -1,8 +1,8 @@
 -- Refused in the order of the table, else the list is stored closed up without the key.
 use mathlib.Core.Path.{_≡_, refl, sym, ap, _∙_}
 use mathlib.Core.Bool.{Bool, true, false, not}
-use mathlib.Core.List.{List}
-use Prim.Native.Nat.{ℕ}
+use mathlib.Core.List.{List, []}
+use Prim.Native.Nat.{ℕ, _<_}
 use borrow.Author.Needs.{needs}
 use borrow.Author.Tests.{eq-eqb, ne-eqb}
 use denote.Ref.{now}
@@ -11,6 +11,7 @@ use Rattle.call.specs.declared.request.Request.{Request}
 use Rattle.call.specs.declared.request.Request.the-variants.{TakeKey}
 use Rattle.model.specs.declared.answer.Refusal.the-variants.{NotOwner, NotPresent}
 use Rattle.model.specs.declared.answer.Answer.the-variants.{Accepted, Refused}
+use Rattle.model.specs.Limits.{mostSegments, mostDefined}
 use Rattle.model.specs.Refusals.{conditions}
 use Rattle.model.specs.Effects.{answer}
 use Rattle.model.specs.State.{owns}
@@ -20,7 +21,7 @@ use Rattle.model.specs.Serving.{Serves}
 use Rattle.model.proofs.Refinement.Serving.{serves-refused, serves-accepted}
 use Rattle.segments.specs.Internal.{Removed}
 use Rattle.segments.proofs.ArrayTests.{owned-by, in-list, left-length}
-use Rattle.segments.proofs.EditConditions.{Names, Named, unknown-user, unknown-segment, unknown-key, named}
+use Rattle.segments.proofs.EditConditions.{Names, Named, name-missing, names-known, names-low}
 use Rattle.segments.proofs.calls.take_key.Statement.{statement}
 use Rattle.segments.proofs.calls.take_key.Tie as tie
 
@@ -56,72 +57,54 @@ module _ (d : Cells) (text : List ℕ) (u s k : ℕ) where
           (v .counted ∙ sym (left-length d s (z .there) k))
           (ap (λ (w : Row). segmentsAre (set (d .segments) s (set table 1 w)) d) (v .closed))
 
-named-at : (b : tie.Else3) (d : Cells)
-    → let a = b .before .before .before .before .before .before .before .args in
+-- what passed the tests
+named-at : (b : tie.After-enum-told) (d : Cells)
+    → let a = b .before .before .before .before .args in
     Named ((registryIs (now (a .registry)) and makersAre (now (a .makers)) and segmentsAre (now (a .segments))) d) (a .user) (a .segment) (a .key)
-named-at b d =
-    let e = b .before .before .before .before .before in
-    named _ _ _ _
-    (e .before .is-user .ensures) (e .if1 .left) (b .before .before .before .before .segments .ensures) (b .before .before .before .if2 .left)
-    (b .before .defined .ensures) (b .if3 .left)
+named-at b d = names-known _ (TakeKey _ _ _) [] _ _ _ (names _ [] _ _ _) (b .before .before .test-names .ensures) (b .enum-told .given .1)
+
+low : (b : tie.After-enum-told) → let a = b .before .before .before .before .args in (a .segment < mostSegments) × (a .key < mostDefined)
+low b = names-low (b .before .before .test-names .ensures) (b .enum-told .given .1)
 
 returns : tie.Need-returns
 returns c =
     λ text d.
-    unknown-user _ (TakeKey _ _ _) text _ _ _ (names _ text _ _ _)
-    (c .before .is-user .ensures) (c .if1 .taken)
+    name-missing _ (TakeKey _ _ _) text _ _ _ (names _ text _ _ _) (c .before .before .before .test-names .ensures) (c .before .refusal .given .1)
 
 returns-2 : tie.Need-returns-2
-returns-2 c =
-    λ text d.
-    unknown-segment _ (TakeKey _ _ _) text _ _ _ (names _ text _ _ _)
-    (c .before .before .before .is-user .ensures) (c .before .before .if1 .left) (c .before .segments .ensures) (c .if2 .taken)
+returns-2 c = λ text d. not-owner _ text _ _ _ (named-at (c .before .before) d) (c .if1 .taken)
 
 returns-3 : tie.Need-returns-3
 returns-3 c =
-    let b = c .before .before .before .before .before in
-    λ text d.
-    unknown-key _ (TakeKey _ _ _) text _ _ _ (names _ text _ _ _)
-    (b .before .is-user .ensures) (b .if1 .left) (c .before .before .before .before .segments .ensures) (c .before .before .before .if2 .left)
-    (c .before .defined .ensures) (c .if3 .taken)
+    let e = c .before .before .before .before in
+    λ text d. absent _ text _ _ _ (named-at (e .before .before) d) (e .if1 .left) (c .before .before .remove .ensures) (c .if2 .taken)
 
 returns-4 : tie.Need-returns-4
-returns-4 c = λ text d. not-owner _ text _ _ _ (named-at (c .before .before) d) (c .if4 .taken)
-
-returns-5 : tie.Need-returns-5
-returns-5 c =
-    let e = c .before .before .before .before in
-    λ text d. absent _ text _ _ _ (named-at (e .before .before) d) (e .if4 .left) (c .before .before .remove .ensures) (c .if5 .taken)
-
-returns-6 : tie.Need-returns-6
-returns-6 c =
+returns-4 c =
     let e = c .before .before .before .before .before in
-    λ text d.
-    taken _ text _ _ _ (named-at (e .before .before) d) (e .if4 .left) (c .before .before .before .remove .ensures) (c .before .if5 .left)
+    λ text d. taken _ text _ _ _ (named-at (e .before .before) d) (e .if1 .left) (c .before .before .before .remove .ensures) (c .before .if2 .left)
 
 pub take-key-spec : {M : Type 1} → statement M
 take-key-spec =
     tie.close
     (tie.spec
-    (λ c κs. search needs)  -- is-user-requires
+    (λ c κs. search needs)  -- test-names-requires
+    (λ c. search needs)  -- enum-known-refusal
     returns
-    (λ c κs. search needs)  -- segments-requires
-    returns-2
-    (λ c κs. search needs)  -- defined-requires
-    returns-3
+    (λ c. search needs)  -- enum-told
     (λ c. search needs)  -- mul-owner
-    (λ c. search needs)  -- index-1-owner
+    (λ c. low c .0)  -- index-1-owner
     (λ c. search needs)  -- index-2-owner
     (λ c. search needs)  -- index-3-owner
-    returns-4
+    returns-2
     (λ c. search needs)  -- mul-list
-    (λ c. search needs)  -- index-1-list
+    (λ c. low (c .before .before) .0)  -- index-1-list
     (λ c. search needs)  -- index-2-list
-    (λ c. search needs)  -- add-remove
+    (λ c. let l = low (c .before .before .before) in search (needs, l))  -- add-remove
     (λ c κs. search needs)  -- remove-requires
-    returns-5
+    returns-3
     (λ c. search needs)  -- mul-cells
-    (λ c. search needs)  -- index-1-cells
+    (λ c. low (c .before .before .before .before .before .before .before) .0)  -- index-1-cells
     (λ c. search needs)  -- index-2-cells
-    (λ c. search needs)  -- cast-t28
-    returns-6)
+    (λ c. search needs)  -- cast-t24
+    returns-4)

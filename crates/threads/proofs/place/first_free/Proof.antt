@@ -37,7 +37,7 @@ first-free-spec =
     (tie.spec
     Inv-loop
     μ-loop
-    (λ c κs. search needs)  -- count-requires
+    (λ c κs. search needs)  -- count-tables-requires
     loop-holds
     (λ c. search needs)  -- mul-is-free
     (λ c. search needs)  -- index-1-is-free

@@ -37,7 +37,7 @@ first-thread-spec =
     (tie.spec
     Inv-loop
     μ-loop
-    (λ c κs. search needs)  -- count-requires
+    (λ c κs. search needs)  -- count-tables-requires
     loop-holds
     (λ c. search needs)  -- mul-is-thread
     (λ c. search needs)  -- index-1-is-thread

@@ -24,13 +24,6 @@ fn asserted(scene: &Scene, answers: [u32; 2]) {
     assert_eq!(answers, [u32::from(scene.expected); 2], "{}", scene.name);
 }
 
-/// The reference's thread and segment of a check.
-fn checked<'a>(stage: &'a Stage, check: &Check) -> (&'a Thread, &'a Segment) {
-    let thread = stage.reference.thread(check.thread);
-    let segment = stage.reference.known_segment(check.segment);
-    (thread.expect("a live thread"), segment.expect("a segment"))
-}
-
 /// The access of the proved guard that a check is inside of.
 fn proved_access(stage: &Stage, check: &Check) -> u32 {
     let Check {
@@ -47,7 +40,9 @@ pub fn tried(scene: &Scene) {
     let mut stage = Stage::after(&scene.before);
     let answers = match &scene.counted {
         Counted::Check(check) => {
-            let (thread, segment) = checked(&stage, check);
+            let thread = stage.reference.thread(check.thread);
+            let segment = stage.reference.known_segment(check.segment);
+            let (thread, segment) = (thread.expect("a live thread"), segment.expect("a segment"));
             let reference = reference::guard::check(thread, segment, check.operation);
             [proved_access(&stage, check), coded(reference)]
         }
@@ -84,7 +79,9 @@ pub fn count(scene: &Scene) {
     let answers = match &scene.counted {
         Counted::Check(asked) => {
             let check: fn(&Thread, &Segment, u16) -> Answer = black_box(reference::guard::check);
-            let (thread, segment) = black_box(checked(&stage, asked));
+            let thread = black_box(stage.reference.thread(asked.thread).expect("a live thread"));
+            let segment = stage.reference.known_segment(asked.segment);
+            let segment = black_box(segment.expect("a segment"));
             let operation = black_box(asked.operation);
             let reference = callgrind::count(&reference_name, || check(thread, segment, operation));
             [u32::from(scene.expected), coded(reference)]

@@ -1,34 +1,19 @@
 -- What is computed for each row of the table of letters holds of every request: a request is what its call is decoded
 -- as, which is a row of the table for its fields.
-use mathlib.Core.Path.{_≡_, refl, sym, ap, _∙_}
+use mathlib.Core.Path.{_≡_, sym, ap, _∙_}
 use mathlib.Core.Bool.{true, false, cond, _&&_}
 use mathlib.Core.List.{List, [], _∷_, map}
 use Prim.Native.Nat.{ℕ}
 use native.Mathlib.Omega.{arith}
 use lib.Dec.{eqb}
 use lib.ListN.{length}
 use Rattle.call.specs.declared.request.Request.{Request}
-use Rattle.call.specs.declared.request.Request.the-variants as request
 use Rattle.call.specs.declared.request.Decoded.the-variants.{WellFormed, Corrupt}
-use Rattle.call.specs.Calls.{TableRow, table, unnamedZero, textNamed, decodedIn, decodedOf, decoded}
+use Rattle.call.specs.Calls.{TableRow, table, unnamedZero, textNamed, decodedIn, decodedOf}
 use Rattle.call.specs.Requests.{callOf}
 use Rattle.base.specs.Lists.{tailOf}
 use Rattle.base.proofs.Lists.{caseBool}
-
-decoded-back : (q : Request) (t : List ℕ) → decoded (callOf q t) ≡ WellFormed q
-unfolding decodedOf
-decoded-back request.NewUser t = refl
-decoded-back (request.StartThread a) t = refl
-decoded-back (request.EndThread a) t = refl
-decoded-back (request.NewSegment a b) t = refl
-decoded-back (request.NewKey a) t = refl
-decoded-back (request.GiveKey a b c) t = refl
-decoded-back (request.TakeKey a b c) t = refl
-decoded-back (request.AddLock a b c) t = refl
-decoded-back (request.DropLock a b) t = refl
-decoded-back (request.CallSegment a b) t = refl
-decoded-back (request.ReturnCall a) t = refl
-decoded-back (request.Access a b c) t = refl
+use Rattle.call.proofs.Requests.{back}
 
 module _ {A : Type 0} (f g : Request → A) where
   abbrev Same : List TableRow → Type 0
@@ -53,4 +38,4 @@ module _ {A : Type 0} (f g : Request → A) where
   unfolding decodedOf
   every-request s q =
       let x = callOf q [] in
-      same-row (table (x .a) (x .b) (x .c)) (x .letter) (x .a) (x .b) (x .c) (length (x .text)) q (decoded-back q []) (s (x .a) (x .b) (x .c))
+      same-row (table (x .a) (x .b) (x .c)) (x .letter) (x .a) (x .b) (x .c) (length (x .text)) q (back q []) (s (x .a) (x .b) (x .c))
