@@ -11,4 +11,5 @@ cellsAt rows i = getD rows i (rowWith []) .cells
 
 abbrev pub eightCells : List Row → List (List ℕ)
 eightCells rows =
-    cellsAt rows 0 ∷ cellsAt rows 1 ∷ cellsAt rows 2 ∷ cellsAt rows 3 ∷ cellsAt rows 4 ∷ cellsAt rows 5 ∷ cellsAt rows 6 ∷ cellsAt rows 7 ∷ []
+    cellsAt rows 0 ∷ cellsAt rows 1 ∷ cellsAt rows 2 ∷ cellsAt rows 3 ∷ cellsAt rows 4 ∷ cellsAt rows 5 ∷ cellsAt rows 6
+    ∷ cellsAt rows 7 ∷ []

@@ -1,6 +1,6 @@
 -- Every example is computed.
 use mathlib.Core.Path.{refl}
-use Rattle.call.proofs.Computing.{computing}
+use Rattle.call.proofs.Unfoldings.{computing}
 use Rattle.call.specs.Theorems.Examples.{Examples}
 
 pub examples : Examples
@@ -10,6 +10,7 @@ examples =
       every-letter = refl;
       requests = refl;
       values = refl;
+      unnamed-count = refl;
       unnamed-fields = refl;
       unknown-letter = refl;
       small-letter = refl;

@@ -3,5 +3,5 @@ pub mod Requests
 pub mod Examples
 pub mod TableLines
 pub mod Values
-pub mod Computing
 pub mod EveryRequest
+pub mod Unfoldings

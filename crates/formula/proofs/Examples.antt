@@ -1,6 +1,6 @@
 -- Each answer is computed.
 use mathlib.Core.Path.{refl}
-use Rattle.formula.proofs.Computing.{computing}
+use Rattle.formula.proofs.Unfoldings.{computing}
 use Rattle.formula.specs.Theorems.Examples.{Examples, FurtherExamples}
 
 pub examples : Examples

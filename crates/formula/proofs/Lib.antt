@@ -10,4 +10,4 @@ pub mod CompiledAnswers
 pub mod Outcomes
 pub mod ReaderCorrect
 pub mod ReaderSteps
-pub mod Computing
+pub mod Unfoldings

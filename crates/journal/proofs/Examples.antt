@@ -19,7 +19,7 @@ use Rattle.journal.specs.Reading.{verdictOf}
 use Rattle.journal.specs.Appending.{appendAnswer, withRecord, emptyAnswer}
 use Rattle.journal.specs.Theorems.Declines.{full}
 use Rattle.journal.specs.Theorems.Examples.{usersThen, eightBytes, longest, oneMore, callU, Examples, AppendExamples, NumberExamples}
-use Rattle.journal.proofs.Computing.{computing}
+use Rattle.journal.proofs.Unfoldings.{computing}
 use Rattle.journal.proofs.ByteLists.{all-are}
 use Rattle.journal.proofs.ReadsBack.{file-length, written-readable}
 use Rattle.journal.proofs.Declines.{declined-exactly}

@@ -12,4 +12,4 @@ pub mod FileVerdicts
 pub mod ReaderParts
 pub mod RecordSizes
 pub mod StoredBytes
-pub mod Computing
+pub mod Unfoldings

@@ -13,7 +13,7 @@ pub(crate) fn word_at(s: &[u8], i: usize) -> u16
 }
 
 // Stores `s` in `d` from a place on.
-pub fn store(d: &mut [u8], at: usize, s: &[u8])
+pub(crate) fn store(d: &mut [u8], at: usize, s: &[u8])
     requires { ⌜ at + length (now s) ≤ length (now d) ⌝ }
     ensures { λ _. ⌜ now (d .exit) ≡ sets (now (d .entry)) at (now (s .entry)) ⌝ }
 {

@@ -27,7 +27,7 @@ use Rattle.model.specs.Refusals.{isMalformed, isTooWide, isUnsatisfiable}
 use Rattle.model.specs.Cells.{Row, Table, Cells, cell, userCount, threadCount, segmentCount, definedCount, lockCount, usedRows, segmentIn, stateOf}
 use Rattle.model.specs.Stores.{storeRows, productRow}
 use Rattle.base.proofs.Lists.{length-each, each-same, each-getD}
-use Rattle.model.proofs.Refinement.Serving.{segmentsIn}
+use Rattle.model.proofs.Refinement.ServedCalls.{segmentsIn}
 use Rattle.locks.specs.Internal.{UsedCount, rowFrom, rowsFrom, issuedIn, isFull, LockStored, stored}
 use Rattle.locks.proofs.LiteralCells.{product-row}
 

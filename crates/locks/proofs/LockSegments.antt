@@ -9,7 +9,7 @@ use Rattle.base.specs.Lists.{any, keep, indexOf, each}
 use Rattle.model.specs.State.{isOfLock, hasLock, isLock, lockSegment, segmentAt}
 use Rattle.model.specs.Cells.{Cells, tableAt, productIn, usedRows, segmentIn, stateOf}
 use Rattle.base.proofs.Lists.{caseBool, indexOf-lt, any-map, keep-map, length-each}
-use Rattle.model.proofs.Refinement.Serving.{segmentsIn, segment-at}
+use Rattle.model.proofs.Refinement.ServedCalls.{segmentsIn, segment-at}
 use Rattle.locks.specs.Internal.{isOf, hasRow, segmentOfLock}
 
 module _ {A : Type 0} (p : A → Bool) where

@@ -3,4 +3,4 @@ pub mod Refinement
 pub mod Computed
 pub mod Limits
 pub mod Refusals
-pub mod Computing
+pub mod Unfoldings

@@ -1,6 +1,6 @@
 pub mod AnsweredWidths
 pub mod Bounds
-pub mod Fitting
+pub mod FittingCells
 pub mod Kept
 pub mod LockWidths
 pub mod RequestWidths

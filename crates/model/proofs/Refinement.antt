@@ -6,7 +6,7 @@ pub mod OperationSets
 pub mod ProductRows
 pub mod SegmentStores
 pub mod SegmentTables
-pub mod Serving
+pub mod ServedCalls
 pub mod Sizes
 pub mod Stores
 pub mod ThreadStores

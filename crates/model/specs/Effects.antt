@@ -13,8 +13,8 @@ use Rattle.call.specs.declared.request.Request.{Request}
 use Rattle.call.specs.declared.request.Request.the-variants as request
 use Rattle.base.specs.Lists.{keep, tailOf}
 use Rattle.model.specs.Operations.{execute, grants}
-use Rattle.model.specs.Threads.{Frame, Thread, freshThread, withFrames, sameKey}
-use Rattle.model.specs.State.{LockProduct, Segment, Place, State, freshSegment, segmentAt, userOf, issued, isFree, placeFor, placeOf, threadAt, isOfLock, lockSegment, free, taken}
+use Rattle.model.specs.Threads.{Frame, Thread, sameKey}
+use Rattle.model.specs.State.{freshThread, LockProduct, Segment, Place, State, freshSegment, segmentAt, userOf, issued, isFree, placeFor, placeOf, threadAt, isOfLock, lockSegment, free, taken}
 use Rattle.model.specs.Refusals.{openingProduct, lockOf}
 
 -- ---- what an accepted call changes
@@ -57,6 +57,9 @@ onSegment d s f = withSegments d (set (d .segments) s (f (segmentAt d s)))
 abbrev pub onThread : (Thread → Thread) → Place → Place
 onThread f free = free
 onThread f (taken k t) = taken k (f t)
+
+abbrev pub withFrames : Thread → List Frame → Thread
+withFrames t frames = record { user = t .user; frames = frames }
 
 -- the place of thread n
 abbrev pub atPlace : State → ℕ → (Place → Place) → State

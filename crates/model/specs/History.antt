@@ -18,7 +18,7 @@ use Rattle.model.specs.declared.answer.Answer.{Answer}
 use Rattle.model.specs.declared.answer.Answer.the-variants.{Accepted, Refused}
 use Rattle.model.specs.Answers.{isAccepted}
 use Rattle.base.specs.Lists.{Map, put, remove, adjust, any, keep, orDefault, tailOf}
-use Rattle.model.specs.Threads.{Frame, Thread, freshThread, withFrames, sameKey}
+use Rattle.model.specs.Threads.{Frame, Thread, sameKey}
 use Rattle.formula.specs.declared.text.Issued.{Issued}
 
 -- a segment handed out
@@ -61,7 +61,7 @@ abbrev pub onKeys : (List Key → List Key) → Entry → Entry
 onKeys f e = record { owner = e .owner; kind = e .kind; keys = f (e .keys) }
 
 abbrev pub onFrames : (List Frame → List Frame) → Thread → Thread
-onFrames f t = withFrames t (f (t .frames))
+onFrames f t = record { user = t .user; frames = f (t .frames) }
 
 -- the list that segment s then has
 abbrev pub listOf : History → ℕ → List Key
@@ -77,7 +77,7 @@ note h request.NewUser text n = h
 note h (request.NewKey a) text n = h
 note h (request.Access a b c) text n = h
 -- 'S writes the answered run as live, with user a and no open calls. E strikes run a and its open calls.'
-note h (request.StartThread a) text n = withThreads h (put (h .threads) n (freshThread a))
+note h (request.StartThread a) text n = withThreads h (put (h .threads) n (record { user = a; frames = [] }))
 note h (request.EndThread a) text n = withThreads h (remove (h .threads) a)
 -- 'N writes the answered segment as handed out, with owner a, kind b and a list of its own S key.'
 note h (request.NewSegment a b) text n = withEntries h (put (h .segments) n (freshEntry n (editorIn h a) b))

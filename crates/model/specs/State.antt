@@ -12,7 +12,7 @@ use Rattle.product.specs.Product.{Product}
 use Rattle.formula.specs.declared.text.Issued.{Issued}
 use Rattle.base.specs.Lists.{any, keep, indexOf, isSome, orDefault}
 use Rattle.model.specs.Limits.{mostThreads}
-use Rattle.model.specs.Threads.{Thread, freshThread}
+use Rattle.model.specs.Threads.{Thread}
 
 -- a product of a standing lock, with the lock's number and operations
 pub record LockProduct : Type 0 where
@@ -133,6 +133,10 @@ findThread n places = threadIn (getD places (placeOf n places) free)
 
 abbrev pub isLive : State → ℕ → Bool
 isLive d n = isSome (findThread n (d .places))
+
+-- a thread that begins
+abbrev pub freshThread : ℕ → Thread
+freshThread u = record { user = u; frames = [] }
 
 abbrev pub blankThread : Thread
 blankThread = freshThread 0

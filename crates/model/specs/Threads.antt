@@ -1,6 +1,6 @@
 -- Document 01, 'Keys' and 'The history': a thread (document 01: run), its frames (its open calls) and its key set.
 use mathlib.Core.Bool.{Bool, _||_}
-use mathlib.Core.List.{List, []}
+use mathlib.Core.List.{List}
 use Prim.Native.Nat.{ℕ}
 use Rattle.product.specs.declared.literal.Key.{Key}
 use Rattle.product.specs.declared.literal.Key.the-variants.{User, Thread as ThreadKey}
@@ -16,13 +16,6 @@ pub record Frame : Type 0 where
 pub record Thread : Type 0 where
   pub user : ℕ
   pub frames : List Frame
-
--- a thread that begins
-abbrev pub freshThread : ℕ → Thread
-freshThread u = record { user = u; frames = [] }
-
-abbrev pub withFrames : Thread → List Frame → Thread
-withFrames t frames = record { user = t .user; frames = frames }
 
 abbrev pub sameKey : Key → Key → Bool
 sameKey j k = isEqual (compareAtoms j k)

@@ -1,6 +1,6 @@
 -- Each answer is computed.
 use mathlib.Core.Path.{refl}
-use Rattle.product.proofs.Computing.{computing}
+use Rattle.product.proofs.Unfoldings.{computing}
 use Rattle.product.specs.Theorems.Examples.{Examples}
 
 pub examples : Examples

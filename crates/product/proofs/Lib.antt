@@ -10,4 +10,4 @@ pub mod OrderedProducts
 pub mod StoredSums
 pub mod Valuations
 pub mod WideRows
-pub mod Computing
+pub mod Unfoldings

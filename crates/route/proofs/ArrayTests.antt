@@ -18,7 +18,7 @@ use Rattle.model.specs.State.{isThread, isSegment}
 use Rattle.model.specs.Refusals.{lockOf, openingProduct, conditions}
 use Rattle.model.specs.Cells.{Table, Cells, tableAt, stateOf}
 use Rattle.model.specs.Serving.{Serves}
-use Rattle.model.proofs.Refinement.Serving.{segmentsIn, segment-at, is-segment, serves-refused}
+use Rattle.model.proofs.Refinement.ServedCalls.{segmentsIn, segment-at, is-segment, serves-refused}
 use Rattle.threads.specs.Places.{Placed}
 use Rattle.threads.proofs.FoundThread.{Standing, stands, not-live}
 use Rattle.checking.specs.declared.Checked.{Checked}

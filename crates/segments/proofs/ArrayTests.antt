@@ -18,7 +18,7 @@ use Rattle.model.specs.Effects.{takeKey}
 use Rattle.model.specs.Cells.{Cells, cell, rowAt, tableAt, userCount, segmentCount, definedCount, ownerCell, definedCell, keyIn, hasKey, listRow, segmentIn, stateOf}
 use Rattle.base.proofs.Lists.{any-map, keep-map, keep-same, length-each}
 use Rattle.model.proofs.Refinement.SegmentTables.{same-code}
-use Rattle.model.proofs.Refinement.Serving.{is-segment, segment-at}
+use Rattle.model.proofs.Refinement.ServedCalls.{is-segment, segment-at}
 use Rattle.base.specs.Counts.{Counted}
 use Rattle.registry.specs.Counts.{Handed}
 use Rattle.segments.specs.Internal.{without}

@@ -17,7 +17,7 @@ use Rattle.model.specs.Refusals.{conditions, unless}
 use Rattle.model.specs.State.{isUser, isSegment, isKey, segmentAt}
 use Rattle.model.specs.Cells.{Row, Cells, cell, segmentIn, stateOf}
 use Rattle.model.specs.Serving.{Serves}
-use Rattle.model.proofs.Refinement.Serving.{serves-refused}
+use Rattle.model.proofs.Refinement.ServedCalls.{serves-refused}
 use Rattle.segments.specs.declared.names.NameTest.{NameTest}
 use Rattle.segments.specs.declared.names.NameTest.the-variants.{Passed, Failed}
 use Rattle.segments.specs.Internal.{NamesTested, no-user, no-segment, no-key, handed-out}

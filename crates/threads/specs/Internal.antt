@@ -1,5 +1,4 @@
--- What the crate's functions promise each other and the calls of other crates. Nothing here is part of what a reader
--- must believe.
+-- What the crate's private functions promise each other. Nothing here is part of what a reader must believe.
 use mathlib.Core.Path.{_≡_}
 use mathlib.Core.Bool.{Bool}
 use mathlib.Core.List.{List, map}
@@ -10,10 +9,8 @@ use Rattle.model.specs.Limits.{mostThreads}
 use Rattle.model.specs.State.{Place}
 use Rattle.model.specs.Cells.{Table, placeIn}
 
--- In both records the equation has the number of tables for 'none'; the last two fields say that it is 64, and callers
--- find the bound in them.
-
--- r is the first place that passes the test, 64 for none
+-- r is the first place that passes the test, 64 for none: the equation has the number of tables for none, and the last
+-- two fields say that it is 64
 pub record First (threads : List Table) (p : Place → Bool) (r : ℕ) : Type 0 where
   pub place : r ≡ indexOf p (map placeIn threads)
   pub low : r ≤ mostThreads

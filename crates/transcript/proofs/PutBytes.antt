@@ -3,8 +3,8 @@ use mathlib.Core.Path.{_≡_, refl, sym, ap, _∙_}
 use mathlib.Core.List.{List, _++_}
 use Prim.Native.Nat.{ℕ, _+_, _/_, _%_, _≤_, _<_}
 use native.Mathlib.Omega.{arith}
-use lib.ListN.{length, length-append, set}
-use lib.Seq.{length-sets}
+use lib.ListN.{length, length-append, take, set}
+use lib.Seq.{sets, length-sets, take-all}
 use Rattle.formula.specs.Spelling.{decimal}
 use Rattle.journal.proofs.StoredBytes.{sets-append}
 use Rattle.transcript.specs.Internal.{Put}
@@ -26,3 +26,6 @@ put-digit d i n h = record { stored = rw (decimal-one n h); ends = rw (decimal-o
 
 pub put-last : (d e : List ℕ) (i j n : ℕ) → 10 ≤ n → Put d i (decimal (n / 10)) e j → Put d i (decimal n) (set e j (48 + n % 10)) (j + 1)
 put-last d e i j n h p = rw (decimal-more n h) (put-then p (record { stored = refl; ends = refl }))
+
+pub all-put : {d e s : List ℕ} {i n : ℕ} → e ≡ sets d i (take n s) → n ≤ length s → length s ≤ n → Put d i s e (i + n)
+all-put {d} {e} {s} {i} {n} h l g = record { stored = h ∙ rw (take-all n s g); ends = omega arith }

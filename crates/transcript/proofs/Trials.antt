@@ -1,8 +1,8 @@
 -- The worked examples, by computing.
 use mathlib.Core.Path.{refl}
 use Rattle.formula.specs.Spelling.{digits, decimal}
-use Rattle.journal.proofs.Computing.{computing as journal-computing}
-use Rattle.model.proofs.Computing.{computing as model-computing}
+use Rattle.journal.proofs.Unfoldings.{computing as journal-computing}
+use Rattle.model.proofs.Unfoldings.{computing as model-computing}
 use Rattle.formula.proofs.Examples.{examples as formula-examples}
 use Rattle.transcript.specs.Lines.{line, fileLine, printed}
 use Rattle.transcript.specs.Theorems.Trials.{StarredTrials, Trials}

@@ -23,7 +23,8 @@ use Rattle.model.specs.Replay.{events}
 -- '`ok` and the answer, or `no`, refusal and its second number'
 abbrev pub outcome : Answer → List ℕ
 outcome (Accepted n) = bytes "ok " ++ decimal (answerValue (Accepted n))
-outcome (Refused r) = bytes "no " ++ decimal (answerNumber (Refused r)) ++ bytes " " ++ decimal (answerValue (Refused r))
+outcome (Refused r) =
+    bytes "no " ++ decimal (answerNumber (Refused r)) ++ bytes " " ++ decimal (answerValue (Refused r))
 
 -- 'its place from 0, letter', and that; 32 is a blank and 10 a line feed
 unfoldable pub line : ℕ → ℕ → Answer → List ℕ

@@ -3,7 +3,6 @@ ghost use Prim.Native.Nat.{_+_, _≤_};
 ghost use lib.ListN.{length};
 ghost use Rattle.formula.specs.Spelling.{decimal as spelt};
 ghost use Rattle.transcript.specs.Internal.{Put};
-use journal::bytes::store;
 
 // A number's decimal digits, with no leading zeros; the place after them.
 pub(crate) fn decimal(buffer: &mut [u8], at: usize, n: u16) -> usize
@@ -24,6 +23,10 @@ pub(crate) fn put(buffer: &mut [u8], at: usize, s: &[u8]) -> usize
     requires { ⌜ at + length (now s) ≤ length (now buffer) ⌝ }
     ensures { λ r. ⌜ Put (now (buffer .entry)) at (now (s .entry)) (now (buffer .exit)) r ⌝ }
 {
-    store(buffer, at, s);
-    at + s.len()
+    let mut i = 0;
+    while i < s.len() {
+        buffer[at + i] = s[i];
+        i += 1;
+    }
+    at + i
 }

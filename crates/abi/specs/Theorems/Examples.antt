@@ -18,7 +18,9 @@ use Rattle.abi.specs.Files.{presentNumber, valuesIn}
 
 -- an answer's number and value, of its code: a value has 16 bits
 abbrev pub CodeTakenApart : Type 0
-CodeTakenApart = (r : Answer) → answerValue r < 65536 → (answerCode r / 65536 ≡ answerNumber r) × (answerCode r % 65536 ≡ answerValue r)
+CodeTakenApart =
+    (r : Answer) → answerValue r < 65536 → (answerCode r / 65536 ≡ answerNumber r)
+    × (answerCode r % 65536 ≡ answerValue r)
 
 pub record Examples : Type 0 where
   -- calls: lock 7; 1; 10; 14 by lock 3; 18
@@ -45,7 +47,8 @@ pub record Examples : Type 0 where
   pub shut : bit false ≡ 0
   -- records: 1 and the record's values; the end is 0 and a broken file 18, and the lent values stay
   pub record-number : presentNumber (Record (record { letter = 76; a = 1; b = 2; c = 3; start = 16; next = 18 })) ≡ 1
-  pub record-values : valuesIn (Record (record { letter = 76; a = 1; b = 2; c = 3; start = 16; next = 18 })) (9 ∷ []) ≡ 76 ∷ 1 ∷ 2 ∷ 3 ∷ 16 ∷ 18 ∷ []
+  pub record-values : valuesIn (Record (record { letter = 76; a = 1; b = 2; c = 3; start = 16; next = 18 })) (9 ∷ [])
+      ≡ 76 ∷ 1 ∷ 2 ∷ 3 ∷ 16 ∷ 18 ∷ []
   pub end-number : presentNumber End ≡ 0
   pub end-values : valuesIn End (9 ∷ []) ≡ 9 ∷ []
   pub damaged-number : presentNumber Damaged ≡ 18

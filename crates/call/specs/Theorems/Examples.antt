@@ -5,6 +5,7 @@ use mathlib.Core.Path.{_≡_}
 use mathlib.Core.Bool.{true, false, cond}
 use mathlib.Core.List.{List, [], _∷_, _++_, map}
 use lib.Dec.{eqb}
+use lib.ListN.{length}
 use Rattle.base.specs.Lists.{concatMap}
 use Rattle.call.specs.declared.request.Request.{Request}
 use Rattle.call.specs.declared.request.Request.the-variants as request
@@ -51,9 +52,11 @@ pub record Examples : Type 0 where
   pub values :
       map (λ w. decodedValues (WellFormed (w .request))) oneEach
       ≡ map (λ w. w .call .letter ∷ w .call .a ∷ w .call .b ∷ w .call .c ∷ []) oneEach
-  -- a field that the letter does not name is not 0
+  -- a field that the letter does not name is not 0: 14 calls
+  pub unnamed-count : length (concatMap (λ w. spoilt (w .call)) oneEach) ≡ 14
   pub unnamed-fields :
-      map decoded (concatMap (λ w. spoilt (w .call)) oneEach) ≡ map (λ x. Corrupt) (concatMap (λ w. spoilt (w .call)) oneEach)
+      map decoded (concatMap (λ w. spoilt (w .call)) oneEach)
+      ≡ map (λ x. Corrupt) (concatMap (λ w. spoilt (w .call)) oneEach)
   -- B and u are no letters of the table
   pub unknown-letter : decoded (callWith 66 0 0 0 []) ≡ Corrupt
   pub small-letter : decoded (callWith 117 0 0 0 []) ≡ Corrupt

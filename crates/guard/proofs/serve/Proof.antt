@@ -1,4 +1,5 @@
--- Each request is served by its call's function.
+-- Each request is served by its call's function: two needs a call, then a line a call, which goes back over the arrays
+-- that it is lent and two steps more to what the match says of the request.
 use mathlib.Core.Path.{refl}
 use borrow.Author.Needs.{needs}
 use Rattle.guard.proofs.Calls.{as-request, with-text}

@@ -19,10 +19,10 @@ use Rattle.base.proofs.Conditions.{all-fail}
 use Rattle.base.proofs.Truth.{neither}
 use Rattle.base.specs.Lists.{adjust, tailOf}
 use Rattle.model.specs.Limits.{mostThreads, passes}
-use Rattle.model.specs.Threads.{freshThread, Thread}
-use Rattle.model.specs.State.{State, isFree, placeFor, free, taken, Segment, blankSegment, segmentAt, liveIn, issued, isLive, isLock, lockSegment, placeOf, Place, userOf}
-use Rattle.model.specs.Refusals.{conditions}
+use Rattle.model.specs.State.{freshThread, State, isFree, placeFor, free, taken, Segment, blankSegment, segmentAt, liveIn, issued, isLive, isLock, lockSegment, placeOf, Place, userOf}
 use Rattle.model.specs.Effects.{onThread, pushFrame, popFrame, giveKey, takeKey, addProducts, dropProducts, onSegment, update, answer, atPlace, withPlaces}
+use Rattle.model.specs.Threads.{Thread}
+use Rattle.model.specs.Refusals.{conditions}
 use Rattle.model.specs.History.{History, Entry, withEntries, onFrames, listOf, note, counts, withThreads}
 use Rattle.base.proofs.Lists.{at-lt}
 use Rattle.model.proofs.Agreement.Places.{AgreeThreads, Lives, lives, spare, one, live-change, one-onThread, agree-start, agree-change, agree-end}

@@ -45,7 +45,7 @@ use Rattle.model.proofs.Agreement.ReadLocks.{lock-homed, lock-stands, l
 use Rattle.model.proofs.Agreement.Agrees.{Agrees}
 use Rattle.model.proofs.Agreement.EveryCall.{agree, found-as, thread-as}
 use Rattle.model.proofs.Refinement.SegmentTables.{kept-list}
-use Rattle.model.proofs.Refinement.Serving.{segment-at}
+use Rattle.model.proofs.Refinement.ServedCalls.{segment-at}
 use Rattle.model.proofs.Refinement.SegmentStores.{segment-shaped, handed}
 use Rattle.model.proofs.Refinement.EveryCall.{follows}
 

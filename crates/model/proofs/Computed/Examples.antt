@@ -1,6 +1,6 @@
 -- The worked examples, by computing.
 use mathlib.Core.Path.{refl}
-use Rattle.model.proofs.Computing.{computing}
+use Rattle.model.proofs.Unfoldings.{computing}
 use Rattle.model.specs.Theorems.Examples.{Examples}
 
 pub examples : Examples

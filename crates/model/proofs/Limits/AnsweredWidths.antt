@@ -19,9 +19,9 @@ use Rattle.model.specs.Theorems.Widths.{word, doubleWord, Fitting}
 use Rattle.base.proofs.Lists.{All, caseBool, length-keep}
 use Rattle.model.proofs.Refinement.ProductRows.{length-used}
 use Rattle.model.proofs.Refinement.ThreadTables.{length-frames, live-place}
-use Rattle.model.proofs.Refinement.Serving.{segmentsIn, segment-at}
+use Rattle.model.proofs.Refinement.ServedCalls.{segmentsIn, segment-at}
 use Rattle.model.proofs.Refinement.SegmentStores.{handed}
-use Rattle.model.proofs.Limits.Fitting.{Low, LowRows}
+use Rattle.model.proofs.Limits.FittingCells.{Low, LowRows}
 use Rattle.model.proofs.Limits.LockWidths.{used-low}
 
 -- ---- of a thread

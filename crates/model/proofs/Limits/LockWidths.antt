@@ -19,7 +19,7 @@ use Rattle.model.specs.Cells.{Row, Table, literalCell, isUsed, usedRows,
 use Rattle.model.specs.Stores.{endRows, storeRows, productRow, addRows, dropRows}
 use Rattle.model.specs.Theorems.Widths.{word, doubleWord}
 use Rattle.base.proofs.Lists.{All, caseBool, All-append, All-keep, everywhere-sets}
-use Rattle.model.proofs.Limits.Fitting.{Low, LowRows, low-cell, all-replicate, low-cells}
+use Rattle.model.proofs.Limits.FittingCells.{Low, LowRows, low-cell, all-replicate, low-cells}
 
 literal-low : (x : Literal) → Numbered x → literalCell x < doubleWord
 literal-low (Plain (User n)) h = omega arith

@@ -37,12 +37,12 @@ use Rattle.model.specs.Stores.{onTable, startThread, endThread, newSegme
 use Rattle.model.specs.Theorems.Widths.{word, doubleWord, Fitting, Fields}
 use Rattle.base.proofs.Lists.{All, caseBool, some-inj, All-keep, length-keep, length-append-one, indexOf-lt}
 use Rattle.model.proofs.Refusals.AcceptedTexts.{compiled}
-use Rattle.model.proofs.Refinement.Serving.{segmentsIn}
+use Rattle.model.proofs.Refinement.ServedCalls.{segmentsIn}
 use Rattle.model.proofs.Refinement.Counts.{within}
 use Rattle.model.proofs.Refinement.SegmentStores.{length-segments, handed}
 use Rattle.call.proofs.EveryRequest.{every-request}
 use Rattle.call.specs.Letters as letters
-use Rattle.model.proofs.Limits.Fitting.{LowRows, LowTables, low-set, low-table, low-cell, fitting-makers, fitting-segments, fitting-locks, fitting-threads, fitting-count}
+use Rattle.model.proofs.Limits.FittingCells.{LowRows, LowTables, low-set, low-table, low-cell, fitting-makers, fitting-segments, fitting-locks, fitting-threads, fitting-count}
 use Rattle.model.proofs.Limits.ThreadWidths.{start-low, push-low, pop-low}
 use Rattle.model.proofs.Limits.SegmentWidths.{list-low, new-low, give-low, take-low}
 use Rattle.model.proofs.Limits.LockWidths.{end-low, add-low, drop-low}

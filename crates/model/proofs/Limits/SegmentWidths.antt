@@ -11,7 +11,7 @@ use Rattle.model.specs.Cells.{Table, rowAt, noKey, hasKey, keyRow, listR
 use Rattle.model.specs.Stores.{newSegment, giveCode, takeCode}
 use Rattle.model.specs.Theorems.Widths.{word}
 use Rattle.base.proofs.Lists.{All, All-append, All-keep, everywhere-all, all-everywhere}
-use Rattle.model.proofs.Limits.Fitting.{Low, LowRows, low-set, low-row, all-replicate, low-cells, first-low}
+use Rattle.model.proofs.Limits.FittingCells.{Low, LowRows, low-set, low-row, all-replicate, low-cells, first-low}
 
 pub list-low : (s : ℕ) (g : Table) → s < word → LowRows word g → Low word (listRow s g)
 list-low s g l h = low-set word (rowAt g 1) (h 1) 0 s l

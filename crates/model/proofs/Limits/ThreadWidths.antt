@@ -5,7 +5,7 @@ use lib.ListN.{set}
 use Rattle.model.specs.Cells.{Row, Table, frameCount, depthOf}
 use Rattle.model.specs.Stores.{startThread, pushRow, popRow}
 use Rattle.model.specs.Theorems.Widths.{word}
-use Rattle.model.proofs.Limits.Fitting.{Low, LowRows, low-row, low-cell, first-low}
+use Rattle.model.proofs.Limits.FittingCells.{Low, LowRows, low-row, low-cell, first-low}
 
 pub start-low : (n u : ℕ) (t : Table) → n < word → u < word → LowRows word t → LowRows word (startThread n u t)
 start-low n u t ln lu h = low-row word t h 0 _ (first-low n u 1 ln lu (omega arith))

@@ -26,7 +26,7 @@ use Rattle.model.specs.Stores.{judgedCells, stepCellsDecoded, stepCells}
 use Rattle.model.specs.Replay.{cellsAfter}
 use Rattle.model.specs.Theorems.Widths.{word, Fitting, Fields, AllFields, Contained, WidthsByLaws, Widths}
 use Rattle.model.proofs.Refinement.EveryCall.{refinement-by-laws, follows}
-use Rattle.model.proofs.Limits.Fitting.{empty-fits}
+use Rattle.model.proofs.Limits.FittingCells.{empty-fits}
 use Rattle.model.proofs.Limits.RequestWidths.{fit-accepted, fit-refused}
 
 -- an answer's number has 16 bits

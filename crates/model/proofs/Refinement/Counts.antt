@@ -14,7 +14,7 @@ use Rattle.model.specs.State.{State, Segment, Place}
 use Rattle.model.specs.Effects.{withSegments, withUsers, withThreadNumbers, withLockNumbers, withMakers}
 use Rattle.model.specs.Cells.{Row, Cells, Sized, cell, segmentCount, segmentIn, stateOf, userCount, threadCount, definedCount, lockCount}
 use Rattle.model.specs.Stores.{countUp, handOut}
-use Rattle.model.proofs.Refinement.Serving.{segmentsIn}
+use Rattle.model.proofs.Refinement.ServedCalls.{segmentsIn}
 use Rattle.model.proofs.Refinement.Sizes.{sized-count}
 
 -- a limit's test that failed to refuse

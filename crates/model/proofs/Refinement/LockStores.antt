@@ -23,7 +23,7 @@ use Rattle.model.specs.Stores.{onTable, addRows, dropRows}
 use Rattle.base.proofs.Lists.{indexOf-lt}
 use Rattle.model.proofs.Refinement.SegmentTables.{add-table, drop-table, add-sizes, drop-sizes, length-addRows, length-dropRows}
 use Rattle.product.specs.Sum.{Sum}
-use Rattle.model.proofs.Refinement.Serving.{segmentsIn, segment-at}
+use Rattle.model.proofs.Refinement.ServedCalls.{segmentsIn, segment-at}
 use Rattle.model.proofs.Refinement.Sizes.{Shaped, tables-set, sized-locks}
 use Rattle.model.proofs.Refinement.Counts.{Holds}
 use Rattle.model.proofs.Refinement.SegmentStores.{length-segments, table-other, segments-set, locks-shaped}

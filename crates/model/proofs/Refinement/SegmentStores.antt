@@ -17,7 +17,7 @@ use Rattle.model.specs.Cells.{Row, Table, Cells, Sized, cell, rowAt, tab
 use Rattle.model.specs.Stores.{onTable, handOut, newSegment, giveCode, takeCode, endRows}
 use Rattle.base.proofs.Lists.{length-each, each-same, each-set, each-snoc}
 use Rattle.model.proofs.Refinement.SegmentTables.{new-table, give-table, take-table, give-sizes, take-sizes}
-use Rattle.model.proofs.Refinement.Serving.{segmentsIn, is-segment, segment-at}
+use Rattle.model.proofs.Refinement.ServedCalls.{segmentsIn, is-segment, segment-at}
 use Rattle.model.proofs.Refinement.Sizes.{Shaped, shaped, tables-set, shaped-row, shaped-cell, sized-segments, sized-locks, sized-makers}
 use Rattle.model.proofs.Refinement.Counts.{Holds, next-segment, next-key}
 

@@ -9,10 +9,9 @@ use lib.ListN.{length, getD, set, length-map, List·getD-map}
 use borrow.Author.Tests.{not-false}
 use Rattle.product.specs.declared.literal.Key.{Key}
 use Rattle.base.specs.Lists.{isSome}
-use Rattle.model.specs.Threads.{freshThread}
-use Rattle.model.specs.Limits.{mostThreads, mostFrames}
-use Rattle.model.specs.State.{Place, free, taken, findThread, placeOf}
+use Rattle.model.specs.State.{freshThread, Place, free, taken, findThread, placeOf}
 use Rattle.model.specs.Effects.{withPlaces, onThread, atPlace, pushFrame, popFrame}
+use Rattle.model.specs.Limits.{mostThreads, mostFrames}
 use Rattle.model.specs.Cells.{Row, Table, Cells, Sized, cell, rowAt, tableAt, keysIn, placeIn, depthOf, framesOf, stateOf, threadsAre, frameCount, liveCell}
 use Rattle.model.specs.Stores.{onTable, startThread, endThread, pushRow, popRow, atThread}
 use Rattle.base.proofs.Lists.{caseBool, map-set}

@@ -9,9 +9,9 @@ use lib.Dec.{eqb}
 use lib.ListN.{length, set, length-set}
 use lib.Seq.{getD-set-same, getD-set-other}
 use Rattle.base.specs.Lists.{tailOf}
-use Rattle.model.specs.Threads.{freshThread, Frame, Thread}
-use Rattle.model.specs.State.{free, taken}
+use Rattle.model.specs.State.{freshThread, free, taken}
 use Rattle.model.specs.Effects.{onThread, pushFrame, popFrame}
+use Rattle.model.specs.Threads.{Frame, Thread}
 use Rattle.model.specs.Cells.{Row, Table, cell, rowAt, frameCount, liveCell, numberCell, userCell, keysIn, frameOf, framesOf, depthOf, placeIn}
 use Rattle.model.specs.Stores.{setCell, startThread, endThread, pushRow, popRow}
 use Rattle.base.proofs.Lists.{caseBool}

@@ -3,7 +3,7 @@
 -- that are freed and used again. Each letter of the table of calls occurs accepted and refused. Proved in
 -- `proofs/Computed/Trials.antt`, by computing.
 use mathlib.Core.Path.{_≡_}
-use mathlib.Core.Bool.{Bool, _&&_, _||_, not}
+use mathlib.Core.Bool.{Bool, true, false, _&&_, _||_, not}
 use mathlib.Core.List.{List, [], _∷_, _++_, map}
 use Prim.Native.Nat.{ℕ, _+_}
 use lib.Dec.{eqb}
@@ -16,6 +16,7 @@ use Rattle.base.specs.Lists.{any, keep, each}
 use Rattle.model.specs.State.{State, emptyState, blankSegment, free}
 use Rattle.model.specs.Refusals.{conditions}
 use Rattle.model.specs.Model.{step}
+use Rattle.model.specs.History.{handsOut}
 use Rattle.model.specs.Notation.{Expected, U, S, E, N, K, G, T, L, D, C, R, A, ok, no, Happens}
 
 -- users 0 and 1; segments 0 (code) and 1 (sheet) of user 0, 2 (sheet) of user 1; D0 of user 0, D1 of user 1
@@ -253,9 +254,16 @@ isShown es r =
 abbrev pub lettersWithout : List Expected → List ℕ
 lettersWithout es = map (λ r. r .letter) (keep (λ r. not (isShown es r)) (table 0 0 0))
 
+-- whether each letter of the table of calls hands out numbers
+abbrev pub handingOut : List Bool
+handingOut = map (λ r. handsOut (r .request)) (table 0 0 0)
+
 pub record Trials : Type 0 where
   pub table : Happens refusals
   pub everyLetter : lettersWithout (refusals ++ users) ≡ []
+  -- U, S, N, K and L do
+  pub numbered : handingOut
+      ≡ true ∷ true ∷ false ∷ true ∷ true ∷ false ∷ false ∷ true ∷ false ∷ false ∷ false ∷ false ∷ []
   pub identityHappens : Happens identity
   pub usersHappen : Happens users
   pub segmentsHappen : Happens segments

@@ -16,7 +16,7 @@ use Rattle.model.specs.Effects.{answer}
 use Rattle.model.specs.Cells.{Cells, registryIs, cell, userCount, stateOf}
 use Rattle.model.specs.Stores.{store}
 use Rattle.model.specs.Serving.{Serves}
-use Rattle.model.proofs.Refinement.Serving.{serves-refused, serves-accepted}
+use Rattle.model.proofs.Refinement.ServedCalls.{serves-refused, serves-accepted}
 use Rattle.registry.proofs.new_user.Statement.{statement}
 use Rattle.registry.proofs.new_user.Tie as tie
 

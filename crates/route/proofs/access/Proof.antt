@@ -20,7 +20,7 @@ use Rattle.model.specs.Effects.{answer}
 use Rattle.model.specs.Cells.{Cells, cell, rowAt, tableAt, segmentCount, kindCell, stateOf}
 use Rattle.model.specs.Stores.{store}
 use Rattle.model.specs.Serving.{Serves}
-use Rattle.model.proofs.Refinement.Serving.{segmentsIn, segment-at, serves-accepted}
+use Rattle.model.proofs.Refinement.ServedCalls.{segmentsIn, segment-at, serves-accepted}
 use Rattle.base.specs.Counts.{Counted}
 use Rattle.threads.specs.Places.{Placed}
 use Rattle.checking.specs.declared.Checked.{Checked}

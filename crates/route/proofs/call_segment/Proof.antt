@@ -25,7 +25,7 @@ use Rattle.model.specs.Stores.{pushRow, onTable, store}
 use Rattle.model.specs.Serving.{Serves}
 use Rattle.model.proofs.Agreement.HistoryAnswers.{under-limit}
 use Rattle.model.proofs.Refinement.ThreadTables.{length-frames}
-use Rattle.model.proofs.Refinement.Serving.{segmentsIn, segment-at, serves-refused, serves-accepted}
+use Rattle.model.proofs.Refinement.ServedCalls.{segmentsIn, segment-at, serves-refused, serves-accepted}
 use Rattle.base.specs.Counts.{Counted}
 use Rattle.threads.specs.Places.{Placed}
 use Rattle.threads.proofs.FoundThread.{stands}

@@ -56,8 +56,10 @@ pub record StarredTrials : Type 0 where
   -- '`D0&!D0` is 13; `(D0&!D0)|D1` is one product; `D0|D0&D1` two; `!(D0|D1)` one; `D01` is 11; all with D0 and D1
   -- made.' '`(D0|D1)&(D2|D3)`, all made, is four products': each as a lock, and D answers how many products it had
   pub textsAsLocks : Prints
-      (U ∷ N 0 0 ∷ K 0 ∷ K 0 ∷ L 0 0 1 (bytes "D0&!D0") ∷ L 0 0 1 (bytes "(D0&!D0)|D1") ∷ D 0 0 ∷ L 0 0 1 (bytes "D0|D0&D1") ∷ D 0 1
-      ∷ L 0 0 1 (bytes "!(D0|D1)") ∷ D 0 2 ∷ L 0 0 1 (bytes "D01") ∷ K 0 ∷ K 0 ∷ L 0 0 1 (bytes "(D0|D1)&(D2|D3)") ∷ D 0 3 ∷ [])
+      (U ∷ N 0 0 ∷ K 0 ∷ K 0 ∷ L 0 0 1 (bytes "D0&!D0") ∷ L 0 0 1 (bytes "(D0&!D0)|D1") ∷ D 0 0
+      ∷ L 0 0 1 (bytes "D0|D0&D1") ∷ D 0 1
+      ∷ L 0 0 1 (bytes "!(D0|D1)") ∷ D 0 2 ∷ L 0 0 1 (bytes "D01") ∷ K 0 ∷ K 0 ∷ L 0 0 1 (bytes "(D0|D1)&(D2|D3)")
+      ∷ D 0 3 ∷ [])
       (
       "0 U ok 0"
       ∷ "1 N ok 0"
@@ -84,11 +86,16 @@ pub record StarredTrials : Type 0 where
   pub neither : compiled 2 "!(D0|D1)" ≡ (0, (barred 0 ∷ barred 1 ∷ []) ∷ [])
   pub leadingZero : compiled 2 "D01" ≡ (11, [])
   pub four : compiled 4 "(D0|D1)&(D2|D3)"
-      ≡ (0, (plain 0 ∷ plain 2 ∷ []) ∷ (plain 0 ∷ plain 3 ∷ []) ∷ (plain 1 ∷ plain 2 ∷ []) ∷ (plain 1 ∷ plain 3 ∷ []) ∷ [])
+      ≡ (
+        0,
+        (plain 0 ∷ plain 2 ∷ []) ∷ (plain 0 ∷ plain 3 ∷ []) ∷ (plain 1 ∷ plain 2 ∷ []) ∷ (plain 1 ∷ plain 3 ∷ [])
+            ∷ [],
+      )
   -- 'Call one segment twice, return once: its S key is held', and a sheet that asks for it can be read until the second
   -- return
   pub twice : Prints
-      (U ∷ N 0 0 ∷ N 0 1 ∷ L 0 0 1 (bytes "U0") ∷ L 0 1 2 (bytes "S0") ∷ S 0 ∷ C 0 0 ∷ C 0 0 ∷ R 0 ∷ A 0 1 2 ∷ R 0 ∷ A 0 1 2 ∷ [])
+      (U ∷ N 0 0 ∷ N 0 1 ∷ L 0 0 1 (bytes "U0") ∷ L 0 1 2 (bytes "S0") ∷ S 0 ∷ C 0 0 ∷ C 0 0 ∷ R 0 ∷ A 0 1 2 ∷ R 0
+      ∷ A 0 1 2 ∷ [])
       (
       "0 U ok 0"
       ∷ "1 N ok 0"

@@ -1,4 +1,4 @@
--- What was found says which line the call has, and the tests are those of `judged`.
+-- What was found says which line the call has, and the tests are those of `judge`.
 use mathlib.Core.Path.{sym, _∙_}
 use borrow.Author.Needs.{needs}
 use Rattle.call.proofs.TableLines.{unknown, known, unfit}

@@ -25,7 +25,7 @@ use Rattle.model.specs.State.{isSegment, owns, segmentAt, issued}
 use Rattle.model.specs.Cells.{Row, Table, Cells, registryIs, locksAre, cell, rowAt, tableAt, userCount, lockCount, ownerCell, kindCell, usedRows, productIn, stateOf}
 use Rattle.model.specs.Stores.{countUp, storeRows, productRow, store}
 use Rattle.model.specs.Serving.{Serves}
-use Rattle.model.proofs.Refinement.Serving.{serves-refused, serves-accepted, segmentsIn, is-segment, segment-at}
+use Rattle.model.proofs.Refinement.ServedCalls.{serves-refused, serves-accepted, segmentsIn, is-segment, segment-at}
 use Rattle.locks.specs.Internal.{rowsFrom, issuedIn, isFull, LockJudged, full, stored, malformed-text, wide-text, unsatisfiable-text, accepted-text}
 use Rattle.locks.proofs.Tests.{test-fails, test-holds}
 use Rattle.locks.proofs.CompiledRows.{operations-low, issued-is, Judged, judged, sum-kept, rows-stored}

@@ -18,7 +18,7 @@ use Rattle.base.specs.Lists.{keep}
 use Rattle.model.specs.Cells.{Table, Cells, locksAre, cell, rowAt, tableAt, userCount, ownerCell, stateOf}
 use Rattle.model.specs.Stores.{onTable, dropRows, store}
 use Rattle.model.specs.Serving.{Serves}
-use Rattle.model.proofs.Refinement.Serving.{serves-refused, serves-accepted, segmentsIn, segment-at}
+use Rattle.model.proofs.Refinement.ServedCalls.{serves-refused, serves-accepted, segmentsIn, segment-at}
 use Rattle.locks.specs.Internal.{segmentOfLock, HomeFound, Dropped}
 use Rattle.locks.proofs.Tests.{test-fails, test-holds}
 use Rattle.locks.proofs.LockSegments.{lock-segment-is, no-lock-segment, has-lock-segment, count-at}

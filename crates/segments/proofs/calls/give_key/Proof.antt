@@ -24,7 +24,7 @@ use Rattle.model.specs.Cells.{Row, Table, Cells, registryIs, makersAre, segment
 use Rattle.model.specs.Stores.{store}
 use Rattle.model.specs.Serving.{Serves}
 use Rattle.base.proofs.Lists.{length-append-one}
-use Rattle.model.proofs.Refinement.Serving.{serves-refused, serves-accepted}
+use Rattle.model.proofs.Refinement.ServedCalls.{serves-refused, serves-accepted}
 use Rattle.segments.specs.Internal.{Removed}
 use Rattle.segments.proofs.ArrayTests.{owned-by, in-list, list-length, all-stay}
 use Rattle.segments.proofs.EditConditions.{Names, Named, name-missing, names-known, names-low}

@@ -18,7 +18,7 @@ use Rattle.model.specs.Effects.{answer}
 use Rattle.model.specs.Cells.{Cells, registryIs, makersAre, cell, userCount, definedCount, stateOf}
 use Rattle.model.specs.Stores.{store}
 use Rattle.model.specs.Serving.{Serves}
-use Rattle.model.proofs.Refinement.Serving.{serves-refused, serves-accepted}
+use Rattle.model.proofs.Refinement.ServedCalls.{serves-refused, serves-accepted}
 use Rattle.registry.specs.Counts.{Handed}
 use Rattle.segments.proofs.ArrayTests.{user-test}
 use Rattle.segments.proofs.calls.new_key.Statement.{statement}

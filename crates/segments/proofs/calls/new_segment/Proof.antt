@@ -19,7 +19,7 @@ use Rattle.model.specs.Effects.{answer}
 use Rattle.model.specs.Cells.{Cells, registryIs, segmentsAre, locksAre, cell, userCount, segmentCount, stateOf}
 use Rattle.model.specs.Stores.{newSegment, onTable, endRows, store}
 use Rattle.model.specs.Serving.{Serves}
-use Rattle.model.proofs.Refinement.Serving.{serves-refused, serves-accepted}
+use Rattle.model.proofs.Refinement.ServedCalls.{serves-refused, serves-accepted}
 use Rattle.segments.proofs.ArrayTests.{user-test, segments-there}
 use Rattle.segments.proofs.calls.new_segment.Statement.{statement}
 use Rattle.segments.proofs.calls.new_segment.Tie as tie

@@ -18,7 +18,7 @@ use Rattle.model.specs.State.{owns}
 use Rattle.model.specs.Cells.{Row, Table, Cells, registryIs, makersAre, segmentsAre, _and_, cell, rowAt, tableAt, ownerCell, definedCell, listRow, stateOf}
 use Rattle.model.specs.Stores.{store}
 use Rattle.model.specs.Serving.{Serves}
-use Rattle.model.proofs.Refinement.Serving.{serves-refused, serves-accepted}
+use Rattle.model.proofs.Refinement.ServedCalls.{serves-refused, serves-accepted}
 use Rattle.segments.specs.Internal.{Removed}
 use Rattle.segments.proofs.ArrayTests.{owned-by, in-list, left-length}
 use Rattle.segments.proofs.EditConditions.{Names, Named, name-missing, names-known, names-low}

@@ -13,7 +13,7 @@ use Rattle.model.specs.Effects.{answer}
 use Rattle.model.specs.Cells.{Cells, threadsAre, tableAt, depthOf, stateOf}
 use Rattle.model.specs.Stores.{onTable, endThread, store}
 use Rattle.model.specs.Serving.{Serves}
-use Rattle.model.proofs.Refinement.Serving.{serves-refused, serves-accepted}
+use Rattle.model.proofs.Refinement.ServedCalls.{serves-refused, serves-accepted}
 use Rattle.threads.specs.Places.{Placed}
 use Rattle.threads.proofs.FoundThread.{stands, not-live}
 use Rattle.threads.proofs.calls.end_thread.Statement.{statement}

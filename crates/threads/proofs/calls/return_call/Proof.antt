@@ -16,7 +16,7 @@ use Rattle.model.specs.Refusals.{conditions}
 use Rattle.model.specs.Cells.{Table, Cells, threadsAre, cell, rowAt, tableAt, frameCount, depthOf, framesOf, stateOf}
 use Rattle.model.specs.Stores.{setCell, onTable, popRow, store}
 use Rattle.model.specs.Serving.{Serves}
-use Rattle.model.proofs.Refinement.Serving.{serves-refused, serves-accepted}
+use Rattle.model.proofs.Refinement.ServedCalls.{serves-refused, serves-accepted}
 use Rattle.threads.specs.Places.{Placed}
 use Rattle.threads.proofs.FoundThread.{stands, not-live}
 use Rattle.threads.proofs.calls.return_call.Statement.{statement}

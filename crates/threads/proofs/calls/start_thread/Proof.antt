@@ -20,7 +20,7 @@ use Rattle.model.specs.Effects.{answer}
 use Rattle.model.specs.Cells.{Cells, registryIs, threadsAre, cell, userCount, threadCount, placeIn, stateOf}
 use Rattle.model.specs.Stores.{onTable, startThread, store}
 use Rattle.model.specs.Serving.{Serves}
-use Rattle.model.proofs.Refinement.Serving.{serves-refused, serves-accepted}
+use Rattle.model.proofs.Refinement.ServedCalls.{serves-refused, serves-accepted}
 use Rattle.base.proofs.Lists.{caseBool}
 use Rattle.threads.specs.Places.{Placed}
 use Rattle.threads.proofs.FreePlace.{room, no-room}

@@ -1,6 +1,6 @@
 -- What a proof by computing about formula texts unfolds, the reader as well: `unfolding computing` is all that it says.
 use Rattle.base.specs.Bytes.{bytes}
-use Rattle.product.proofs.Computing.{computing as product-computing}
+use Rattle.product.proofs.Unfoldings.{computing as product-computing}
 use Rattle.formula.specs.Text.{issuedTo}
 use Rattle.formula.specs.Tree.{holds}
 use Rattle.formula.specs.Nodes.{products, fits, listOf}

@@ -1,5 +1,5 @@
 -- What a proof by computing about files of calls unfolds: `unfolding computing` is all that it says.
-use Rattle.call.proofs.Computing.{computing as call-computing}
+use Rattle.call.proofs.Unfoldings.{computing as call-computing}
 use Rattle.journal.specs.Format.{fileBytes}
 use Rattle.journal.specs.Reading.{wholeAt, foundAt, wholeFrom, recordsFrom, recordsOf, verdictOf}
 

@@ -1,6 +1,6 @@
 -- What a proof by computing about steps of the guard unfolds: `unfolding computing` is all that it says.
-use Rattle.formula.proofs.Computing.{computing as formula-computing}
-use Rattle.call.proofs.Computing.{computing as call-computing}
+use Rattle.formula.proofs.Unfoldings.{computing as formula-computing}
+use Rattle.call.proofs.Unfoldings.{computing as call-computing}
 use Rattle.model.specs.Refusals.{openingProduct, conditions}
 use Rattle.model.specs.Effects.{update, answer}
 use Rattle.model.specs.Model.{step}
