@@ -1,7 +1,8 @@
 /*
  * Prints the records of a journal, in C: each one's place, letter, a, b, c and text.
  *
- *     cc -std=c99 -Ihost/include host/examples/records.c target/staticlib/libabi.a -o target/records
+ *     cc -std=c99 -Ihost/include -o target/records host/examples/records.c \
+ *         target/staticlib/libabi.a
  *     target/records lessons/route.kld
  */
 #include "rotundaaloe.h"
@@ -9,48 +10,43 @@
 #include <stdio.h>
 #include <stdlib.h>
 
-/* One byte more than a journal may have, so that a longer file is refused and not cut. */
-static uint8_t file[65536];
-
-static size_t read_file(const char *name)
+static unsigned print_records(const uint8_t *file, size_t length)
 {
-    FILE *stream = fopen(name, "rb");
-    size_t length;
-    if (stream == NULL) {
-        perror(name);
-        exit(EXIT_FAILURE);
+    struct rotundaaloe_reader reader;
+    struct rotundaaloe_record record;
+    bool found;
+    unsigned refusal = rotundaaloe_reader_open(&reader, file, length);
+    for (unsigned place = 0; refusal == ROTUNDAALOE_ACCEPTED; place++) {
+        refusal = rotundaaloe_reader_next(&reader, &record, &found);
+        if (refusal != ROTUNDAALOE_ACCEPTED || !found)
+            break;
+        printf("%u %c %d %d %d %.*s\n", place, record.letter, record.a, record.b, record.c,
+               (int)record.text_length, (const char *)record.text);
     }
-    length = fread(file, 1, sizeof file, stream);
-    if (ferror(stream)) {
-        perror(name);
-        exit(EXIT_FAILURE);
-    }
-    fclose(stream);
-    return length;
+    return refusal;
 }
 
 int main(int count, char **arguments)
 {
-    size_t length, cursor;
-    uint64_t values[6];
-    uint32_t refusal, answer;
-    unsigned place = 0;
+    /* One byte more than a journal may have, so that a longer file is refused and not cut. */
+    static uint8_t bytes[ROTUNDAALOE_JOURNAL_BYTES + 1];
+    FILE *file = count == 2 ? fopen(arguments[1], "rb") : NULL;
+    unsigned refusal;
+    size_t length;
 
-    if (count != 2) {
-        fprintf(stderr, "name a journal\n");
+    if (file == NULL) {
+        fprintf(stderr, "name a journal that can be read\n");
         return EXIT_FAILURE;
     }
-    length = read_file(arguments[1]);
-    refusal = rotundaaloe_journal_open(file, length, &cursor);
-    if (refusal != 0) {
-        fprintf(stderr, "%s: refusal %u\n", arguments[1], (unsigned)refusal);
+    length = fread(bytes, 1, sizeof bytes, file);
+    if (ferror(file)) {
+        perror(arguments[1]);
         return EXIT_FAILURE;
     }
-    while ((answer = rotundaaloe_journal_next(file, length, &cursor, values)) == 1) {
-        printf("%u %c %u %u %u %.*s\n", place, (int)values[0], (unsigned)values[1],
-               (unsigned)values[2], (unsigned)values[3], (int)(values[5] - values[4]),
-               (const char *)file + values[4]);
-        place++;
-    }
-    return answer == 0 ? EXIT_SUCCESS : EXIT_FAILURE;
+    fclose(file);
+    refusal = print_records(bytes, length);
+    if (refusal != ROTUNDAALOE_ACCEPTED)
+        fprintf(stderr, "%s: %s (%u)\n", arguments[1], rotundaaloe_refusal_text(refusal),
+                refusal);
+    return refusal == ROTUNDAALOE_ACCEPTED ? EXIT_SUCCESS : EXIT_FAILURE;
 }

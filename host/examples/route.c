@@ -2,124 +2,74 @@
  * A host in miniature, in C: the totals may be saved only by way of the rate loader.
  *
  *     cc -std=c99 -Ihost/include host/examples/route.c target/staticlib/libabi.a -o target/route
- *     target/route            what the guard answers
- *     target/route FILE       the same, and a journal of all calls, for the office program
+ *     target/route
  */
 #include "rotundaaloe.h"
 
 #include <stdio.h>
 #include <stdlib.h>
-#include <string.h>
 
 /* The protection state. A host keeps it wherever it likes, for as long as it runs. */
 static struct rotundaaloe_state state;
 
-/* What was asked, in order. */
-static uint8_t journal[65535];
-static size_t journal_length;
-
-/* After the guard was asked: a journal that is full must not keep a host from asking. */
-static void record(char letter, uint16_t a, uint16_t b, uint16_t c, const char *text)
+/* For what this program counts on. */
+static void must(unsigned refusal)
 {
-    uint32_t refusal =
-        rotundaaloe_journal_append(journal, sizeof journal, &journal_length, (uint8_t)letter, a, b,
-                                   c, (const uint8_t *)text, strlen(text));
-    if (refusal != 0)
-        fprintf(stderr, "%c is not in the journal: refusal %u\n", letter, (unsigned)refusal);
+    if (refusal != ROTUNDAALOE_ACCEPTED) {
+        fprintf(stderr, "%s (%u)\n", rotundaaloe_refusal_text(refusal), refusal);
+        exit(EXIT_FAILURE);
+    }
 }
 
-/* Any call, by its letter. */
-static uint32_t ask(char letter, uint16_t a, uint16_t b, uint16_t c, const char *text)
+static void lock(uint16_t owner, uint16_t segment, uint16_t operations, const char *text)
 {
-    uint32_t answer = rotundaaloe_call(state.registry, state.makers, state.segments, state.locks,
-                                       state.threads, (uint8_t)letter, a, b, c,
-                                       (const uint8_t *)text, strlen(text));
-    record(letter, a, b, c, text);
-    return answer;
+    must(rotundaaloe_add_lock(&state, owner, segment, operations, text, NULL));
 }
 
-/* C, R and A have functions of their own, since a host asks them on every call and access. */
-static uint32_t call(uint16_t thread, uint16_t segment)
+static void call(uint16_t thread, uint16_t segment)
 {
-    uint32_t answer = rotundaaloe_call_segment(state.registry, state.segments, state.locks,
-                                               state.threads, thread, segment);
-    record('C', thread, segment, 0, "");
-    return answer;
+    must(rotundaaloe_call_segment(&state, thread, segment, NULL, NULL));
 }
 
-static uint32_t leave(uint16_t thread)
+/* What a save's answer means to the person at the sheet. */
+static void save(const char *what, uint16_t thread, uint16_t sheet)
 {
-    uint32_t answer = rotundaaloe_return_call(state.threads, thread);
-    record('R', thread, 0, 0, "");
-    return answer;
-}
-
-static uint32_t save(uint16_t thread, uint16_t sheet)
-{
-    uint32_t answer = rotundaaloe_access(state.registry, state.segments, state.locks,
-                                         state.threads, thread, sheet, ROTUNDAALOE_WRITE);
-    record('A', thread, sheet, ROTUNDAALOE_WRITE, "");
-    return answer;
-}
-
-/* An answer below 65536 accepts; any other is refusal * 65536 + second number. */
-static void tell(const char *what, uint32_t answer)
-{
-    if (answer < 65536)
-        printf("%s: saved, lock %u opened\n", what, (unsigned)answer);
+    uint16_t opened, denying;
+    unsigned refusal =
+        rotundaaloe_access(&state, thread, sheet, ROTUNDAALOE_WRITE, &opened, &denying);
+    if (refusal == ROTUNDAALOE_ACCEPTED)
+        printf("%s: saved, lock %d opened\n", what, opened);
+    else if (refusal == ROTUNDAALOE_DENIED)
+        printf("%s: not saved, lock %d forbids it\n", what, denying);
     else
-        printf("%s: not saved, refusal %u\n", what, (unsigned)(answer / 65536));
+        printf("%s: not saved, %s (%u)\n", what, rotundaaloe_refusal_text(refusal), refusal);
 }
 
-/* The answer of a call that this program counts on. */
-static uint16_t made(uint32_t answer)
-{
-    if (answer >= 65536) {
-        fprintf(stderr, "refusal %u\n", (unsigned)(answer / 65536));
-        exit(EXIT_FAILURE);
-    }
-    return (uint16_t)answer;
-}
-
-static void write_journal(const char *name)
-{
-    FILE *file = fopen(name, "wb");
-    if (file == NULL || fwrite(journal, 1, journal_length, file) != journal_length
-        || fclose(file) != 0) {
-        perror(name);
-        exit(EXIT_FAILURE);
-    }
-}
-
-int main(int count, char **arguments)
+int main(void)
 {
     uint16_t owner, loader, recalculation, totals, january, february;
+    char route[ROTUNDAALOE_MOST_TEXT + 1];
 
-    rotundaaloe_empty(state.registry, state.makers, state.segments, state.locks, state.threads);
-    rotundaaloe_journal_empty(journal, sizeof journal);
-    journal_length = 7;
+    rotundaaloe_empty(&state);
+    must(rotundaaloe_new_user(&state, &owner));
+    must(rotundaaloe_new_segment(&state, owner, ROTUNDAALOE_CODE, &loader));
+    must(rotundaaloe_new_segment(&state, owner, ROTUNDAALOE_CODE, &recalculation));
+    must(rotundaaloe_new_segment(&state, owner, ROTUNDAALOE_SHEET, &totals));
+    lock(owner, loader, ROTUNDAALOE_EXECUTE, "U0");
+    lock(owner, recalculation, ROTUNDAALOE_EXECUTE, "U0");
+    snprintf(route, sizeof route, "S%d&S%d", loader, recalculation);
+    lock(owner, totals, ROTUNDAALOE_WRITE, route);
 
-    owner = made(ask('U', 0, 0, 0, ""));
-    loader = made(ask('N', owner, ROTUNDAALOE_CODE, 0, ""));
-    recalculation = made(ask('N', owner, ROTUNDAALOE_CODE, 0, ""));
-    totals = made(ask('N', owner, ROTUNDAALOE_SHEET, 0, ""));
-    made(ask('L', owner, loader, ROTUNDAALOE_EXECUTE, "U0"));
-    made(ask('L', owner, recalculation, ROTUNDAALOE_EXECUTE, "U0"));
-    made(ask('L', owner, totals, ROTUNDAALOE_WRITE, "S0&S1"));
+    must(rotundaaloe_start_thread(&state, owner, &january));
+    call(january, loader);
+    call(january, recalculation);
+    save("by way of the rate loader", january, totals);
 
-    january = made(ask('S', owner, 0, 0, ""));
-    made(call(january, loader));
-    made(call(january, recalculation));
-    tell("by way of the rate loader", save(january, totals));
+    must(rotundaaloe_start_thread(&state, owner, &february));
+    call(february, recalculation);
+    save("the recalculation by itself", february, totals);
 
-    february = made(ask('S', owner, 0, 0, ""));
-    made(call(february, recalculation));
-    tell("the recalculation by itself", save(february, totals));
-
-    made(leave(january));
-    tell("after the return", save(january, totals));
-
-    if (count > 1)
-        write_journal(arguments[1]);
+    must(rotundaaloe_return_call(&state, january, NULL));
+    save("after the return", january, totals);
     return 0;
 }

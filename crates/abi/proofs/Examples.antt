@@ -38,4 +38,8 @@ examples =
       end-values = refl;
       damaged-number = refl;
       damaged-values = refl;
+      left-all = refl;
+      left-some = refl;
+      left-none = refl;
+      version-number = refl;
     }

@@ -1,5 +1,7 @@
 pub mod Answers
 pub mod Files
 pub mod Calls
+pub mod Left
+pub mod Version
 pub mod Theorems
 pub mod Internal

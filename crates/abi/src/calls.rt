@@ -21,7 +21,7 @@ use threads::calls::return_call;
 
 // The empty state.
 #[no_mangle]
-pub extern "C" fn rotundaaloe_empty(
+pub extern "C" fn rotundaaloe_raw_empty(
     registry: &mut Registry,
     makers: &mut Makers,
     segments: &mut Segments,
@@ -42,7 +42,7 @@ pub extern "C" fn rotundaaloe_empty(
 // One call: the answer if it is accepted, else the refusal's number * 65536 + its second number, and then no cell is
 // changed.
 #[no_mangle]
-pub extern "C" fn rotundaaloe_call(
+pub extern "C" fn rotundaaloe_raw_call(
     registry: &mut Registry,
     makers: &mut Makers,
     segments: &mut Segments,
@@ -77,7 +77,7 @@ pub extern "C" fn rotundaaloe_call(
 
 // C, R and A by themselves, for a host's hot path: what the call with that letter does.
 #[no_mangle]
-pub extern "C" fn rotundaaloe_call_segment(
+pub extern "C" fn rotundaaloe_raw_call_segment(
     registry: &Registry,
     segments: &Segments,
     locks: &Locks,
@@ -95,7 +95,7 @@ pub extern "C" fn rotundaaloe_call_segment(
 }
 
 #[no_mangle]
-pub extern "C" fn rotundaaloe_return_call(threads: &mut Threads, a: u16) -> u32
+pub extern "C" fn rotundaaloe_raw_return_call(threads: &mut Threads, a: u16) -> u32
     ensures { λ r. ⌜ TellsLent
         (threadsAre (now (threads .entry)))
         (ReturnCall a) r
@@ -105,7 +105,7 @@ pub extern "C" fn rotundaaloe_return_call(threads: &mut Threads, a: u16) -> u32
 }
 
 #[no_mangle]
-pub extern "C" fn rotundaaloe_access(
+pub extern "C" fn rotundaaloe_raw_access(
     registry: &Registry,
     segments: &Segments,
     locks: &Locks,

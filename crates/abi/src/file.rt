@@ -19,7 +19,7 @@ use journal::record::Found;
 // Checks the whole file: 0, and the cursor is the first record's; or the number of its first refusal, and then the
 // cursor is not changed.
 #[no_mangle]
-pub extern "C" fn rotundaaloe_journal_open(file: &[u8], cursor: &mut usize) -> u32
+pub extern "C" fn rotundaaloe_raw_journal_open(file: &[u8], cursor: &mut usize) -> u32
     ensures number { λ r. ⌜ r ≡ openNumber (now (file .entry)) ⌝ }
     ensures cursor { λ r. ⌜ now (cursor .exit) ≡ openCursor (now (file .entry)) (now (cursor .entry)) ⌝ }
 {
@@ -36,7 +36,7 @@ pub extern "C" fn rotundaaloe_journal_open(file: &[u8], cursor: &mut usize) -> u
 // lent values, and the cursor is after it. 0 at the end and 18 where neither stands there, and then neither the
 // cursor nor a cell is changed.
 #[no_mangle]
-pub extern "C" fn rotundaaloe_journal_next(
+pub extern "C" fn rotundaaloe_raw_journal_next(
     file: &[u8],
     cursor: &mut usize,
     values: &mut [u64; 6],
@@ -67,7 +67,7 @@ pub extern "C" fn rotundaaloe_journal_next(
 
 // 0 and the file with no record at the buffer's start, or 10, and then no byte is changed.
 #[no_mangle]
-pub extern "C" fn rotundaaloe_journal_empty(buffer: &mut [u8]) -> u32
+pub extern "C" fn rotundaaloe_raw_journal_empty(buffer: &mut [u8]) -> u32
     ensures number { λ r. ⌜ r ≡ appendedNumber (emptyAnswer (now (buffer .entry))) ⌝ }
     ensures bytes { λ r. ⌜ now (buffer .exit)
         ≡ emptyAfter (emptyAnswer (now (buffer .entry))) (now (buffer .entry)) ⌝ }
@@ -81,7 +81,7 @@ pub extern "C" fn rotundaaloe_journal_empty(buffer: &mut [u8]) -> u32
 // 0 and the record appended to the file in the buffer's first `size` bytes, with the file's new size; or the number
 // of the refusal, and then neither a byte nor the size is changed.
 #[no_mangle]
-pub extern "C" fn rotundaaloe_journal_append(
+pub extern "C" fn rotundaaloe_raw_journal_append(
     buffer: &mut [u8],
     size: &mut usize,
     letter: u8,

@@ -1,5 +1,8 @@
-// The guard for C and Rust: thin exported functions over the proved crates, with the C header in host/include.
+// The guard for C and Rust: thin exported functions over the proved crates, which host/include/rotundaaloe_raw.h
+// declares.
 pub mod calls;
 pub mod file;
 pub mod held;
+pub mod left;
 pub mod text;
+pub mod version;

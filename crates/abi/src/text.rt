@@ -17,7 +17,7 @@ const NO_REFUSAL: u32 = 0;
 // The number of products, 1 to 8, with their cells in the rows; or the number of a refusal, and then no cell is
 // changed.
 #[no_mangle]
-pub extern "C" fn rotundaaloe_compile(
+pub extern "C" fn rotundaaloe_raw_compile(
     text: &[u8],
     users: u32,
     threads: u32,

@@ -1,5 +1,8 @@
 // The office program (document 01): reads a journal (document 01: desk file) from standard input, and prints a line
 // for each of its records, or the file's refusal.
+mod ignored;
+
+use ignored::tell_ignored;
 use libc::STDERR_FILENO;
 use libc::STDIN_FILENO;
 use libc::STDOUT_FILENO;
@@ -11,6 +14,7 @@ use transcript::transcript;
 const MOST_READ: usize = 65536;
 
 fn main() {
+    tell_ignored();
     let mut input = [0u8; MOST_READ];
     let size = io::read_full(STDIN_FILENO, &mut input);
     if size < MOST_READ {

@@ -1,37 +1,56 @@
 //! The proved guard as numbers: its arrays, and its answers as they are.
 
+use reference::call::Call;
 use reference::guard::Answer;
 use reference::journal::Record;
-use reference::letter::Letter;
+use reference::limits::{
+    MAX_DEFINED_KEYS, MAX_FRAMES, MAX_LIVE_THREADS, MAX_SEGMENT_PRODUCTS, MAX_SEGMENTS,
+};
 use rotundaaloe::raw;
 pub use rotundaaloe::raw::Cells;
 
 /// A call that has a function of its own beside the entry.
 #[derive(Clone, Copy)]
 pub enum Own {
-    CallSegment,
-    ReturnCall,
-    Access,
+    CallSegment {
+        thread: u16,
+        segment: u16,
+    },
+    ReturnCall {
+        thread: u16,
+    },
+    Access {
+        thread: u16,
+        segment: u16,
+        operation: u16,
+    },
 }
 
 impl Own {
-    /// That of a letter, if it has one.
-    pub fn of(letter: Letter) -> Option<Own> {
-        match letter {
-            Letter::CallSegment => Some(Own::CallSegment),
-            Letter::ReturnCall => Some(Own::ReturnCall),
-            Letter::Access => Some(Own::Access),
-            Letter::NewUser | Letter::NewSegment | Letter::NewKey => None,
-            Letter::StartThread | Letter::EndThread => None,
-            Letter::GiveKey | Letter::TakeKey => None,
-            Letter::AddLock | Letter::DropLock => None,
-        }
+    /// That of a record's call, if it has one.
+    pub fn of_record(record: &Record) -> Option<Own> {
+        Own::of(Call::of(record)?)
     }
 
-    /// That of a call, if its letter has one and its shape is right.
-    pub fn of_call(record: &Record) -> Option<Own> {
-        let fields = [record.a, record.b, record.c];
-        Own::of(Letter::of_call(record.letter, fields, record.text.len())?)
+    /// That of a call, if it has one.
+    pub fn of(call: Call) -> Option<Own> {
+        match call {
+            Call::CallSegment { thread, segment } => Some(Own::CallSegment { thread, segment }),
+            Call::ReturnCall { thread } => Some(Own::ReturnCall { thread }),
+            Call::Access {
+                thread,
+                segment,
+                operation,
+            } => Some(Own::Access {
+                thread,
+                segment,
+                operation,
+            }),
+            Call::NewUser | Call::NewSegment { .. } | Call::NewKey { .. } => None,
+            Call::StartThread { .. } | Call::EndThread { .. } => None,
+            Call::GiveKey { .. } | Call::TakeKey { .. } => None,
+            Call::AddLock { .. } | Call::DropLock { .. } => None,
+        }
     }
 }
 
@@ -41,10 +60,10 @@ pub fn filled_with(byte: u8) -> Box<Cells> {
     let large = u32::from_ne_bytes([byte; 4]);
     Box::new(Cells {
         registry: [large; 8],
-        makers: [small; 1_024],
-        segments: [[[small; 8]; 2]; 64],
-        locks: [[[large; 8]; 8]; 64],
-        threads: [[[small; 8]; 17]; 64],
+        makers: [small; MAX_DEFINED_KEYS],
+        segments: [[[small; 8]; 2]; MAX_SEGMENTS],
+        locks: [[[large; 8]; MAX_SEGMENT_PRODUCTS]; MAX_SEGMENTS],
+        threads: [[[small; 8]; 1 + MAX_FRAMES]; MAX_LIVE_THREADS],
     })
 }
 
@@ -93,11 +112,15 @@ impl Guard {
     }
 
     /// A call by its own function.
-    pub fn call_own(&mut self, own: Own, a: u16, b: u16, c: u16) -> u32 {
+    pub fn call_own(&mut self, own: Own) -> u32 {
         match own {
-            Own::CallSegment => self.call_segment(a, b),
-            Own::ReturnCall => self.return_call(a),
-            Own::Access => self.access(a, b, c),
+            Own::CallSegment { thread, segment } => self.call_segment(thread, segment),
+            Own::ReturnCall { thread } => self.return_call(thread),
+            Own::Access {
+                thread,
+                segment,
+                operation,
+            } => self.access(thread, segment, operation),
         }
     }
 

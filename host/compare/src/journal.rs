@@ -1,7 +1,6 @@
 //! The proved guard's journals as numbers: its answers, and the values that a
 //! step of the reference is written as.
 
-use reference::calls::call;
 use reference::journal::{Record, Step};
 
 pub use rotundaaloe::raw::Values;
@@ -16,20 +15,27 @@ pub const RECORD: u32 = 1;
 /// The proved guard's answer where no whole record stands at a cursor.
 pub const CORRUPT: u32 = 18;
 
+/// A record of the reference's for the host library.
+pub fn lent(record: &Record) -> rotundaaloe::Record<'_> {
+    let Record {
+        letter, a, b, c, ..
+    } = *record;
+    let text = &record.text;
+    rotundaaloe::Record {
+        letter,
+        a,
+        b,
+        c,
+        text,
+    }
+}
+
 /// Has the proved guard append a record to the file in the buffer's first
 /// `size` bytes: [`ACCEPTED`], and `size` is the new one, or the refusal 10, 16,
 /// 17 or 18.
 pub fn append(buffer: &mut [u8], size: &mut usize, record: &Record) -> u32 {
     let fields = [record.a, record.b, record.c];
     rotundaaloe::raw::journal_append(buffer, size, record.letter, fields, &record.text)
-}
-
-/// A record with a text of this length, and 0 in every field.
-pub fn bare(letter: impl Into<u8>, text_length: usize) -> Record {
-    Record {
-        text: vec![b'!'; text_length],
-        ..call(letter, 0, 0, 0)
-    }
 }
 
 /// The answer, the cursor and the values for a step of the reference, where the

@@ -1,27 +1,21 @@
 //! What comparing the proved guard with the reference takes: the translation
 //! between its rows and numbers and the reference's products and keys; the same
 //! for [`journal`]s and for the [`guard`] itself. [`office`] is the office
-//! program; [`points`], [`route`], [`scratch`], [`stage`], [`texts`] and
-//! [`timing`] are what the measurements share.
+//! program.
 
 pub mod guard;
 pub mod journal;
 pub mod office;
-pub mod points;
-pub mod route;
-pub mod scratch;
-pub mod stage;
-pub mod texts;
-pub mod timing;
 
-use reference::formula::{Literal, MAX_LITERALS, Product};
+use reference::formula::{Literal, Product};
+use reference::limits::{MAX_LITERALS, MAX_PRODUCTS};
 use reference::{Issued, Key, Kind};
 use rotundaaloe::raw;
 
 pub use rotundaaloe::raw::Rows;
 
 /// The rows that the proved guard writes to: one for each product that fits.
-pub const ROWS: usize = 8;
+pub const ROWS: usize = MAX_PRODUCTS;
 /// The cells in a row: one for each literal that fits, one that stays 0, and
 /// the number of literals.
 pub const CELLS: usize = 8;
@@ -62,7 +56,7 @@ fn cell_of(literal: &Literal) -> u32 {
 }
 
 /// The number that the proved guard knows a key by: its kind's place times half
-/// a [`KIND_STEP`], plus its own number.
+/// a `KIND_STEP`, plus its own number.
 pub fn key_number(key: &Key) -> u32 {
     let place = KINDS.iter().position(|kind| *kind == key.kind);
     let place = place.expect("all four kinds have a place") as u32;

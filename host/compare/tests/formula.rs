@@ -4,15 +4,13 @@
 //! `cargo test --release -- --nocapture` also prints how many texts came to
 //! which answer.
 
-mod texts;
-
 use compare::{CELLS, ROWS, Rows, key_number, literals_of, rows_of};
 use reference::formula::{Literal, parse};
-use reference::random::Random;
 use reference::{Issued, Key, Kind};
 use std::collections::BTreeSet;
 use std::fmt;
-use texts::Case;
+use testing::random::Random;
+use testing::texts::{self, Case};
 
 const MALFORMED: u32 = 11;
 const TOO_WIDE: u32 = 12;

@@ -10,12 +10,12 @@ mod guards;
 
 use guards::pair::Pair;
 use guards::tally::Tally;
-use reference::calls::{Caller, WORLDS, World};
 use reference::guard::Refusal;
 use reference::history::{History, Verdict};
-use reference::random::Random;
-use reference::trials::TRIALS;
 use std::{env, thread};
+use testing::calls::{Caller, WORLDS, World};
+use testing::random::Random;
+use testing::trials::TRIALS;
 
 const CALLS_VARIABLE: &str = "ROTUNDAALOE_CALLS";
 const CALLS: u64 = 20_000_000;

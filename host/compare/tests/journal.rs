@@ -12,19 +12,21 @@
 //! `cargo test --release -- --nocapture` also prints how many files and appends
 //! came to which answer.
 
-mod journals;
-
-use compare::journal::{ACCEPTED, CORRUPT, END, RECORD, Values, bare, coded};
-use journals::{HEAD_BYTES, MAX_FILE_BYTES, field_mut, names};
-use reference::journal::{Record, Refusal, append, check, empty, read, record_at, write};
+use compare::journal::{ACCEPTED, CORRUPT, END, RECORD, Values, coded};
+use reference::journal::{
+    HEAD_BYTES, Record, Refusal, append, check, empty, read, record_at, write,
+};
 use reference::letter::Letter;
-use reference::random::Random;
-use reference::written::{self, EVERY_LETTER, OFFICE, hex};
+use reference::limits::{MAX_JOURNAL_BYTES, MAX_TEXT_BYTES};
 use rotundaaloe::Journal;
 use rotundaaloe::journal::Records;
 use std::collections::HashSet;
 use std::fmt;
 use std::hash::{DefaultHasher, Hash, Hasher};
+use testing::calls::bare;
+use testing::journals::{self, field_mut, names};
+use testing::random::Random;
+use testing::written::{self, EVERY_LETTER, OFFICE, hex};
 
 const FULL: u32 = 10;
 const NOT_JOURNAL: u32 = 16;
@@ -483,10 +485,10 @@ fn marks(comparison: &mut Comparison) {
 }
 
 fn near_the_longest(comparison: &mut Comparison) {
-    for length in MAX_FILE_BYTES - 12..=MAX_FILE_BYTES + 12 {
+    for length in MAX_JOURNAL_BYTES - 12..=MAX_JOURNAL_BYTES + 12 {
         for _ in 0..8 {
             let mut file = journals::whole_of_size(&mut comparison.random, length);
-            let right = length <= MAX_FILE_BYTES;
+            let right = length <= MAX_JOURNAL_BYTES;
             comparison.file_with(&file, if right { ACCEPTED } else { CORRUPT });
             comparison.file_with(&file[..length - 1], CORRUPT);
             file.push(0);
@@ -511,13 +513,16 @@ fn text_lengths(comparison: &mut Comparison) {
     for letter in Letter::ALL {
         for length in 0..=300 {
             let right = match letter.has_text() {
-                true => (1..=96).contains(&length),
+                true => (1..=MAX_TEXT_BYTES).contains(&length),
                 false => length == 0,
             };
             let answer = if right { ACCEPTED } else { CORRUPT };
             let wrong = bare(letter, length);
             comparison.file_with(&write(std::slice::from_ref(&wrong)), answer);
-            comparison.file_with(&write(&[bare(b'L', 96), wrong, bare(b'E', 0)]), answer);
+            comparison.file_with(
+                &write(&[bare(b'L', MAX_TEXT_BYTES), wrong, bare(b'E', 0)]),
+                answer,
+            );
         }
         for length in [1, 2, 96, 97, 255, 256, 257, 352, 32_768, 65_280, 65_535] {
             let mut file = write(&[bare(letter, 0)]);
@@ -554,7 +559,7 @@ fn fields(comparison: &mut Comparison) {
 /// place of a file.
 fn letters(comparison: &mut Comparison) {
     for letter in 0..=255 {
-        for text_length in [0, 1, 96] {
+        for text_length in [0, 1, MAX_TEXT_BYTES] {
             for filled in 0..8 {
                 let mut record = bare(letter, text_length);
                 for field in (0..3).filter(|field| filled >> field & 1 == 1) {
@@ -641,7 +646,7 @@ fn record_to_append(random: &mut Random) -> Record {
     if random.one_in(4) {
         journals::unfit_record(random)
     } else {
-        journals::record(random, 96)
+        journals::record(random, MAX_TEXT_BYTES)
     }
 }
 
@@ -684,7 +689,7 @@ fn appends_near_the_longest() {
     let mut random = Random::new(52);
     let mut tally = Tally::default();
     for missing in 0..=120 {
-        let length = MAX_FILE_BYTES - missing;
+        let length = MAX_JOURNAL_BYTES - missing;
         let file = journals::whole_of_size(&mut random, length);
         let sizes = [9, 10, 105, missing.max(1) - 1, missing, missing + 1];
         for size in sizes.into_iter().filter(|size| (9..=105).contains(size)) {
@@ -692,7 +697,7 @@ fn appends_near_the_longest() {
             let need = length + size;
             for capacity in [need - 1, need, need + 1, 65_535, 65_536, 66_000] {
                 let answer = agreed_append(&Buffer::with(&file, capacity), length, &record);
-                let right = match need <= capacity && need <= MAX_FILE_BYTES {
+                let right = match need <= capacity && need <= MAX_JOURNAL_BYTES {
                     true => ACCEPTED,
                     false if capacity < length => CORRUPT,
                     false => FULL,
@@ -769,7 +774,7 @@ fn rebuilding() {
         appended += records.len();
     }
     for spare in [0, 40] {
-        let file = journals::whole_of_size(&mut random, MAX_FILE_BYTES);
+        let file = journals::whole_of_size(&mut random, MAX_JOURNAL_BYTES);
         let (records, _) = agreed_walk(&file);
         rebuilt(&file, &records, spare);
         appended += records.len();
@@ -920,7 +925,7 @@ fn refused_appends_by_hand() {
     append_answers("4B 4C 44 01 00 01 00", 7, &user, CORRUPT);
     append_answers(nothing, 7, &unfit, CORRUPT);
     append_answers(nothing, 7, &bare(b'L', 0), CORRUPT);
-    append_answers(nothing, 7, &bare(b'L', 97), CORRUPT);
+    append_answers(nothing, 7, &bare(b'L', MAX_TEXT_BYTES + 1), CORRUPT);
     append_answers(nothing, 7, &bare(b'L', 65_537), CORRUPT);
     append_answers(nothing, 7, &bare(b'X', 0), CORRUPT);
     append_answers(nothing, 7, &user, FULL);

@@ -1,38 +1,26 @@
 //! The host library in Rust against the reference: the twelve calls by their
 //! typed functions, journals, and the products of formula texts.
 
-use compare::texts;
-use reference::calls::{Caller, WORLDS, outcomes};
+use compare::journal::lent;
+use reference::call::Call;
 use reference::journal::{Record, write};
 use reference::letter::Letter;
-use reference::random::Random;
+use reference::operations::{READ, WRITE};
 use reference::{Key as ReferenceKey, Kind as ReferenceKind};
 use rotundaaloe::formula::{Issued, Key, Literal, compile};
-use rotundaaloe::raw::Cells;
 use rotundaaloe::{
     Access, Defined, Guard, Journal, Kind, Lock, Operations, Refusal, Segment, Thread, User,
 };
 use std::collections::BTreeSet;
+use testing::calls::{Caller, WORLDS, outcomes};
+use testing::random::Random;
+use testing::shapes;
 
-fn lent(record: &Record) -> rotundaaloe::Record<'_> {
-    let Record {
-        letter, a, b, c, ..
-    } = *record;
-    let text = &record.text;
-    rotundaaloe::Record {
-        letter,
-        a,
-        b,
-        c,
-        text,
-    }
-}
+/// An answer's number, or both of its refusal.
+type Numbers = Result<u16, (u32, u16)>;
 
 /// A number in its type, or a refusal of its call, as document 01's numbers.
-fn numbers<T, E: Into<Refusal>>(
-    answer: Result<T, E>,
-    number: impl FnOnce(T) -> u16,
-) -> Result<u16, (u32, u16)> {
+fn numbers<T, E: Into<Refusal>>(answer: Result<T, E>, number: impl FnOnce(T) -> u16) -> Numbers {
     answer.map(number).map_err(|refusal| {
         let refusal = refusal.into();
         (refusal.number(), refusal.second())
@@ -40,47 +28,70 @@ fn numbers<T, E: Into<Refusal>>(
 }
 
 /// A call by its typed function, or by its letter where no typed one can say it.
-fn typed(guard: &mut Guard, record: &Record) -> Result<u16, (u32, u16)> {
-    let Record {
-        letter, a, b, c, ..
-    } = *record;
-    let by_letter = |guard: &mut Guard| numbers(guard.call(&lent(record)), |n| n);
-    let Some(letter) = Letter::of_call(letter, [a, b, c], record.text.len()) else {
-        return by_letter(guard);
-    };
-    match letter {
-        Letter::NewUser => numbers(guard.new_user(), |User(n)| n),
-        Letter::StartThread => numbers(guard.start_thread(User(a)), |Thread(n)| n),
-        Letter::EndThread => numbers(guard.end_thread(Thread(a)), |n| n),
-        Letter::NewSegment => {
-            let kind = match b {
-                0 => Kind::Code,
-                1 => Kind::Sheet,
-                _ => return by_letter(guard),
-            };
-            numbers(guard.new_segment(User(a), kind), |Segment(n)| n)
+fn called(guard: &mut Guard, record: &Record) -> Numbers {
+    let typed = Call::of(record).and_then(|call| typed(guard, call));
+    typed.unwrap_or_else(|| numbers(guard.call(lent(record)), |n| n))
+}
+
+/// A call by its typed function; `None` where there is none that can say it.
+fn typed(guard: &mut Guard, call: Call) -> Option<Numbers> {
+    Some(match call {
+        Call::NewUser => numbers(guard.new_user(), |User(n)| n),
+        Call::StartThread { user } => numbers(guard.start_thread(User(user)), |Thread(n)| n),
+        Call::EndThread { thread } => numbers(guard.end_thread(Thread(thread)), |n| n),
+        Call::NewSegment { user, kind } => {
+            let segment = guard.new_segment(User(user), kind_of(kind)?);
+            numbers(segment, |Segment(n)| n)
         }
-        Letter::NewKey => numbers(guard.new_key(User(a)), |Defined(n)| n),
-        Letter::GiveKey => numbers(guard.give_key(User(a), Segment(b), Defined(c)), |n| n),
-        Letter::TakeKey => numbers(guard.take_key(User(a), Segment(b), Defined(c)), |n| n),
-        Letter::AddLock => match str::from_utf8(&record.text) {
-            Ok(text) => {
-                let lock = guard.add_lock(User(a), Segment(b), Operations(c), text);
-                numbers(lock, |Lock(n)| n)
-            }
-            Err(_) => by_letter(guard),
-        },
-        Letter::DropLock => numbers(guard.drop_lock(User(a), Lock(b)), |n| n),
-        Letter::CallSegment => numbers(guard.call_segment(Thread(a), Segment(b)), |Lock(n)| n),
-        Letter::ReturnCall => numbers(guard.return_call(Thread(a)), |Segment(n)| n),
-        Letter::Access => {
-            let access = match c {
-                2 => Access::Read,
-                4 => Access::Write,
-                _ => return by_letter(guard),
-            };
-            numbers(guard.access(Thread(a), Segment(b), access), |Lock(n)| n)
+        Call::NewKey { user } => numbers(guard.new_key(User(user)), |Defined(n)| n),
+        Call::GiveKey { user, segment, key } => {
+            let keys = guard.give_key(User(user), Segment(segment), Defined(key));
+            numbers(keys, |n| n)
         }
+        Call::TakeKey { user, segment, key } => {
+            let keys = guard.take_key(User(user), Segment(segment), Defined(key));
+            numbers(keys, |n| n)
+        }
+        Call::AddLock {
+            user,
+            segment,
+            operations,
+            text,
+        } => {
+            let (text, operations) = (str::from_utf8(text).ok()?, Operations(operations));
+            let lock = guard.add_lock(User(user), Segment(segment), operations, text);
+            numbers(lock, |Lock(n)| n)
+        }
+        Call::DropLock { user, lock } => numbers(guard.drop_lock(User(user), Lock(lock)), |n| n),
+        Call::CallSegment { thread, segment } => {
+            let lock = guard.call_segment(Thread(thread), Segment(segment));
+            numbers(lock, |Lock(n)| n)
+        }
+        Call::ReturnCall { thread } => numbers(guard.return_call(Thread(thread)), |Segment(n)| n),
+        Call::Access {
+            thread,
+            segment,
+            operation,
+        } => {
+            let lock = guard.access(Thread(thread), Segment(segment), access_of(operation)?);
+            numbers(lock, |Lock(n)| n)
+        }
+    })
+}
+
+fn kind_of(number: u16) -> Option<Kind> {
+    match number {
+        0 => Some(Kind::Code),
+        1 => Some(Kind::Sheet),
+        _ => None,
+    }
+}
+
+fn access_of(number: u16) -> Option<Access> {
+    match number {
+        READ => Some(Access::Read),
+        WRITE => Some(Access::Write),
+        _ => None,
     }
 }
 
@@ -97,7 +108,7 @@ fn calls_by_their_types() {
             let answer = reference.call(record.letter, record.a, record.b, record.c, &record.text);
             let expected = answer.map_err(|refusal| (refusal.number(), refusal.second()));
             let before = expected.is_err().then(|| guard.clone());
-            assert_eq!(typed(&mut guard, &record), expected, "{record:?}");
+            assert_eq!(called(&mut guard, &record), expected, "{record:?}");
             if let Some(before) = before {
                 assert!(guard == before, "{record:?} is refused and changes a cell");
             }
@@ -127,7 +138,7 @@ fn a_kept_state_goes_on() {
     let sheet = guard.new_segment(user, Kind::Sheet).expect("the first");
     let lock = guard.add_lock(user, sheet, Operations::READ, "U0");
     let thread = guard.start_thread(user).expect("the first");
-    let kept = Guard::from_cells(Cells::from_bytes(guard.cells().bytes()));
+    let kept = Guard::from_bytes(&guard.to_bytes()).expect("a state file");
     assert!(kept == guard);
     assert_eq!(kept.access(thread, sheet, Access::Read).ok(), lock.ok());
 }
@@ -142,7 +153,7 @@ fn journals_append_and_read() {
         for _ in 0..caller.length().min(500) {
             let record = caller.next_call();
             let fits = reference::journal::fits(&record);
-            let answer = journal.append(&lent(&record));
+            let answer = journal.append(lent(&record));
             let expected = match fits {
                 true => Ok(()),
                 false => Err(rotundaaloe::refusal::Append::Corrupt),
@@ -170,11 +181,11 @@ fn a_full_journal_takes_no_more() {
     };
     let mut journal = Journal::new();
     for _ in 0..624 {
-        assert_eq!(journal.append(&record), Ok(()));
+        assert_eq!(journal.append(record), Ok(()));
     }
     let before = journal.clone();
     let full = Err(rotundaaloe::refusal::Append::Full);
-    assert_eq!(journal.append(&record), full);
+    assert_eq!(journal.append(record), full);
     assert_eq!(journal, before);
     assert_eq!(journal.as_bytes().len(), 65_527);
 }
@@ -199,7 +210,7 @@ fn products_and_what_opens_them() {
     };
     let mut random = Random::new(9);
     let (mut opened, mut shut) = (0, 0);
-    for name in texts::texts() {
+    for name in shapes::texts() {
         let text = name.as_bytes();
         let expected = reference::formula::compile(text, &reference::Issued::ALL);
         let given = compile(text, issued);

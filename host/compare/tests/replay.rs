@@ -1,19 +1,18 @@
 //! The office program against the reference, byte by byte, on generated files:
 //! readable ones, damaged ones, too long ones and no bytes at all.
 
-#[allow(dead_code, reason = "the journal's own tests use the rest")]
-mod journals;
-
 use compare::office::program;
-use reference::calls::{Caller, WORLDS};
 use reference::guard::Guard;
-use reference::journal::{self, MAX_FILE_BYTES, Record};
-use reference::random::Random;
+use reference::journal::{self, Record};
+use reference::limits::MAX_JOURNAL_BYTES;
 use std::fs;
 use std::io::Write;
 use std::path::Path;
 use std::process::{Command, Stdio};
 use std::thread;
+use testing::calls::{Caller, WORLDS};
+use testing::journals;
+use testing::random::Random;
 
 /// What the program prints for a file that comes in these pieces.
 fn printed(program: &Path, pieces: [&[u8]; 2]) -> Vec<u8> {
@@ -47,6 +46,30 @@ fn the_lesson_of_the_route() {
     assert_eq!(printed(&program(), [&lesson, b""]), lines.as_bytes());
 }
 
+/// Arguments change nothing, and it says so, with no byte that a terminal would
+/// take for a command.
+#[test]
+fn arguments_are_ignored_and_told() {
+    let output = Command::new(program())
+        .args([
+            "lessons/route.kld",
+            "-x\x1b[31m\u{e9}",
+            "",
+            &"a".repeat(4_097),
+        ])
+        .stdin(Stdio::null())
+        .output()
+        .expect("the program starts");
+    assert_eq!(output.stdout, b"file no 16\n");
+    let told = |name: &str| {
+        format!("replay reads standard input alone, and ignores the argument: {name}\n")
+    };
+    let expected = ["lessons/route.kld", "-x?[31m??", "", ""]
+        .map(told)
+        .concat();
+    assert_eq!(String::from_utf8_lossy(&output.stderr), expected);
+}
+
 /// Both must print the same. Answers what.
 fn agreed(program: &Path, random: &mut Random, file: &[u8]) -> Vec<u8> {
     let (first, rest) = file.split_at(random.below(file.len() + 1));
@@ -74,7 +97,7 @@ fn list_file(random: &mut Random) -> Vec<u8> {
     for _ in 0..caller.length() {
         let record = caller.next_call();
         size += record.size();
-        if size > MAX_FILE_BYTES {
+        if size > MAX_JOURNAL_BYTES {
             break;
         }
         let answer = guard.call(record.letter, record.a, record.b, record.c, &record.text);
@@ -92,14 +115,14 @@ fn list_file(random: &mut Random) -> Vec<u8> {
 /// A file of more bytes than a file may have, now and then with a wrong head.
 fn too_long(random: &mut Random) -> Vec<u8> {
     let size = match random.below(3) {
-        0 => MAX_FILE_BYTES + 1,
-        1 => MAX_FILE_BYTES + random.between(2, 20),
-        _ => random.between(MAX_FILE_BYTES + 1, 3 * MAX_FILE_BYTES),
+        0 => MAX_JOURNAL_BYTES + 1,
+        1 => MAX_JOURNAL_BYTES + random.between(2, 20),
+        _ => random.between(MAX_JOURNAL_BYTES + 1, 3 * MAX_JOURNAL_BYTES),
     };
     let mut file = journals::whole_of_size(random, size.min(4 * 16_000));
     file.resize(size, 0);
     if random.one_in(3) {
-        file[random.below(journals::HEAD_BYTES)] ^= 1 << random.below(8);
+        file[random.below(journal::HEAD_BYTES)] ^= 1 << random.below(8);
     }
     file
 }
@@ -128,7 +151,7 @@ fn generated_files() {
                 file
             }
             18 => {
-                let size = MAX_FILE_BYTES - random.pick(&[0, 0, 1, 9]);
+                let size = MAX_JOURNAL_BYTES - random.pick(&[0, 0, 1, 9]);
                 journals::whole_of_size(&mut random, size)
             }
             _ => too_long(&mut random),

@@ -12,6 +12,9 @@ mod input;
 mod mistakes;
 mod output;
 mod run;
+mod source;
+mod standard;
+mod state;
 mod trace;
 
 use arguments::Command;
@@ -33,23 +36,15 @@ fn obey(command: Command) -> Result<Status, Failure> {
     match command {
         Command::Help(topic) => show(&help::text(topic)),
         Command::Version => show(concat!("keylock ", env!("CARGO_PKG_VERSION"), "\n")),
-        Command::Asm { source, target } => {
-            target.must_differ_from(&source)?;
-            asm::asm(&source, &target)
-        }
-        Command::Dis { source, target } => {
-            target.must_differ_from(&source)?;
-            dis::dis(&source, &target)
-        }
+        Command::Asm { source, target } => asm::asm(&source, &target),
+        Command::Dis { source, target } => dis::dis(&source, &target),
         Command::Run { sources } => run::run(&sources),
+        Command::State { source, target } => state::state(&source, &target),
         Command::Trace {
             html,
             source,
             target,
-        } => {
-            target.must_differ_from(&source)?;
-            trace::trace(html, &source, &target)
-        }
+        } => trace::trace(html, &source, &target),
     }
 }
 

@@ -6,8 +6,10 @@ use crate::figures::{counted, grouped};
 use crate::letters::Letter;
 use reference::journal::{Step, record_at};
 use rotundaaloe::Refusal;
-use rotundaaloe::journal::{HEAD_BYTES, MARK, MAX_BYTES, MAX_TEXT_BYTES};
+use rotundaaloe::journal::MARK;
+use rotundaaloe::limits::{JOURNAL_BYTES, JOURNAL_HEAD, MOST_TEXT};
 use rotundaaloe::refusal::Read;
+use rotundaaloe::state;
 use std::fmt;
 
 const VERSION: usize = 3;
@@ -67,8 +69,11 @@ fn no_mark(bytes: &[u8]) -> Finding {
         .iter()
         .zip(MARK)
         .take_while(|(byte, mark)| byte == mark);
-    let sentence = "no mark: a journal begins with KLD".to_string();
-    (same.count(), None, sentence)
+    let sentence = match bytes.starts_with(state::MARK) {
+        true => "a state file, which 'keylock state' shows",
+        false => "no mark: a journal begins with KLD",
+    };
+    (same.count(), None, sentence.to_string())
 }
 
 fn other_version(bytes: &[u8]) -> Finding {
@@ -79,16 +84,16 @@ fn other_version(bytes: &[u8]) -> Finding {
 
 fn broken(bytes: &[u8]) -> Finding {
     let length = bytes.len();
-    if length < HEAD_BYTES {
-        let sentence = format!("cut short: {length} of the head's {HEAD_BYTES} bytes");
+    if length < JOURNAL_HEAD {
+        let sentence = format!("cut short: {length} of the head's {JOURNAL_HEAD} bytes");
         return (length, None, sentence);
     }
-    if length > MAX_BYTES {
-        let [length, most] = [length, MAX_BYTES].map(grouped);
-        return (MAX_BYTES, None, format!("{length} bytes, over {most}"));
+    if length > JOURNAL_BYTES {
+        let [length, most] = [length, JOURNAL_BYTES].map(grouped);
+        return (JOURNAL_BYTES, None, format!("{length} bytes, over {most}"));
     }
     let count = number_at(bytes, COUNT);
-    let (whole, cursor) = walked(bytes, HEAD_BYTES, count);
+    let (whole, cursor) = walked(bytes, JOURNAL_HEAD, count);
     if whole == count {
         return left_over(bytes, cursor, count);
     }
@@ -152,8 +157,8 @@ fn unfit(record: &[u8]) -> (usize, String) {
     let text = number_at(record, RECORD_HEAD_BYTES - 2);
     let there = length - RECORD_HEAD_BYTES;
     let wrong = match letter.has_text() {
-        true if !(1..=MAX_TEXT_BYTES).contains(&text) => {
-            format!("the text's length is {text}, but {name}'s is 1 to {MAX_TEXT_BYTES}")
+        true if !(1..=MOST_TEXT).contains(&text) => {
+            format!("the text's length is {text}, but {name}'s is 1 to {MOST_TEXT}")
         }
         true => {
             return (

@@ -1,7 +1,6 @@
-//! The calls' letters and fields in words, for messages and for the help. Which
-//! fields a letter names is the reference's table.
+//! The calls' letters and fields in words, for messages and for the help.
 
-pub use reference::letter::{Field, Letter};
+pub use rotundaaloe::{Field, Letter};
 
 /// A field in words.
 pub struct FieldWords {

@@ -3,16 +3,18 @@
 //!
 //! [`text`] is the text of a journal, [`damage`] says where a file is broken.
 //! [`steps`] explains each call; [`trace`] shows the steps on a terminal, [`page`]
-//! in a browser. The rest is what these share.
+//! in a browser. [`state`] shows a state file. The rest is what these share.
 
 pub mod answer;
 pub mod damage;
 pub mod figures;
 pub mod letters;
+pub mod names;
 pub mod page;
 pub mod progress;
 pub mod shown;
 mod spelling;
+pub mod state;
 pub mod steps;
 pub mod text;
 pub mod trace;

@@ -1,12 +1,21 @@
 //! The steps as one page for a class. It needs nothing from elsewhere. Without
-//! JavaScript the steps stand one under the other; with it, it is a stepper.
+//! JavaScript the steps stand one under the other; with it, it is a stepper. The
+//! steps of a long journal are drawn by the script when they are looked at.
 
 mod html;
+mod lines;
+mod list;
 mod locks;
+mod pieces;
+mod segment;
+mod stack;
 mod step;
 
-use crate::steps::{Step, troubles};
-use html::{escaped, sentence};
+use crate::figures::grouped;
+use crate::steps::{Step, Troubles};
+use html::escaped;
+use list::List;
+use pieces::Pieces;
 use std::io::{self, Write};
 
 const STYLE: &str = include_str!("page.css");
@@ -14,18 +23,25 @@ const SCRIPT: &str = include_str!("page.js");
 /// Nothing is fetched, whatever a journal's texts hold.
 const POLICY: &str = "default-src 'none'; style-src 'unsafe-inline'; \
     script-src 'unsafe-inline'; base-uri 'none'; form-action 'none'";
-/// A longer note doesn't fit into the list of calls.
-const LONGEST_LISTED: usize = 44;
+/// The most steps that stand in the page as they are.
+const MOST_PLAIN: usize = 500;
+/// A longer title is shortened.
+const LONGEST_TITLE: usize = 120;
 
-/// Writes the page. The introduction stands above the first step, a paragraph
-/// for each line.
-pub fn write(
-    title: &str,
+/// Writes the page. Its title is the introduction's first line with words, else
+/// the name. The introduction stands above the first step, a paragraph for each
+/// line.
+pub fn write<'a>(
+    name: &str,
     introduction: &[String],
-    steps: &[Step],
+    steps: impl IntoIterator<Item = Step<'a>>,
     out: &mut impl Write,
 ) -> io::Result<()> {
-    let title = escaped(title);
+    let mut body = Body::default();
+    for step in steps {
+        body.take_in(&step);
+    }
+    let title = escaped(&title(name, introduction));
     write!(
         out,
         "<!DOCTYPE html>\n<html lang=\"en\">\n<head>\n<meta charset=\"utf-8\">\n\
@@ -34,78 +50,77 @@ pub fn write(
          <title>{title}</title>\n<style>\n{STYLE}</style>\n\
          <script>document.documentElement.classList.add(\"js\");</script>\n</head>\n<body>\n"
     )?;
-    write_bar(&title, steps.len(), out)?;
+    write_bar(&title, body.sections.len(), out)?;
     writeln!(out, "<div class=\"page\">")?;
-    write_list(steps, out)?;
-    writeln!(out, "<main>")?;
-    for trouble in troubles(steps) {
-        writeln!(out, "<p class=\"alarm\">{}</p>", escaped(&trouble))?;
-    }
-    write_introduction(introduction, out)?;
-    for explained in steps {
-        out.write_all(step::section(explained).as_bytes())?;
-    }
-    if steps.is_empty() {
-        writeln!(out, "<p>This journal has no calls.</p>")?;
-    }
+    body.list.write(out)?;
+    body.write_main(introduction, out)?;
     write!(
         out,
-        "</main>\n</div>\n<script>\n{SCRIPT}</script>\n</body>\n</html>\n"
+        "</div>\n<script>\n{SCRIPT}</script>\n</body>\n</html>\n"
     )
+}
+
+/// The first line of the introduction that has a letter or digit, shortened if it
+/// is long, else the name.
+fn title(name: &str, introduction: &[String]) -> String {
+    let has_words = |line: &&String| line.contains(char::is_alphanumeric);
+    let first = introduction.iter().find(has_words);
+    let first = first.map_or(name, String::as_str);
+    let start: String = first.chars().take(LONGEST_TITLE).collect();
+    match start.len() == first.len() {
+        true => start,
+        false => start + "...",
+    }
 }
 
 fn write_bar(title: &str, count: usize, out: &mut impl Write) -> io::Result<()> {
+    let count = grouped(count);
     writeln!(
         out,
-        "<header class=\"bar\"><h1>{title}</h1>\
-         <div class=\"moves\"><span class=\"count\" role=\"status\">{count} steps</span>\
+        "<a class=\"skip\" href=\"#steps\">Skip the list of calls</a>\n\
+         <header class=\"bar\"><h1 title=\"{title}\">{title}</h1>\
+         <div class=\"moves\"><span class=\"count\">{count} steps</span>\
          <button type=\"button\" title=\"Left arrow or k\">Previous</button>\
-         <button type=\"button\" title=\"Right arrow, j or space\">Next</button></div></header>"
+         <button type=\"button\" title=\"Right arrow, j or space\">Next</button></div>\
+         <p class=\"unseen\" role=\"status\"></p></header>"
     )
 }
 
-/// The list of calls, with headings where the journal has them.
-fn write_list(steps: &[Step], out: &mut impl Write) -> io::Result<()> {
-    let wide = if steps.len() > 100 { " wide" } else { "" };
-    writeln!(
-        out,
-        "<nav class=\"calls{wide}\" aria-label=\"Calls\">\n<ol>"
-    )?;
-    for step in steps {
-        if let Some(heading) = step.entry.heading.first() {
-            writeln!(out, "<li class=\"chapter\">{}</li>", escaped(heading))?;
+/// What the steps leave in the page.
+#[derive(Default)]
+struct Body {
+    list: List,
+    sections: Vec<String>,
+    pieces: Pieces,
+    troubles: Troubles,
+}
+
+impl Body {
+    fn take_in(&mut self, step: &Step) {
+        self.troubles.take_in(step);
+        self.list.push(step);
+        let section = step::section(step, &mut self.pieces);
+        self.sections.push(section);
+    }
+
+    fn write_main(self, introduction: &[String], out: &mut impl Write) -> io::Result<()> {
+        writeln!(out, "<main id=\"steps\" tabindex=\"-1\">")?;
+        for trouble in self.troubles.sentences() {
+            writeln!(out, "<p class=\"alarm\">{}</p>", escaped(&trouble))?;
         }
-        let (class, mark) = match step.answer {
-            Ok(_) => ("ok", "ok"),
-            Err(_) => ("no", "no"),
-        };
-        let place = step.place;
-        let words = sentence(&step.call_in_words());
-        let note = beside(step);
-        writeln!(
-            out,
-            "<li><a class=\"{class}\" href=\"#step-{place}\"><span class=\"at\">{place}</span>\
-             <span>{words}{note}</span><span class=\"mark\">{mark}</span></a></li>"
-        )?;
+        write_introduction(introduction, out)?;
+        let pieces = self.pieces.into_list();
+        match self.sections.len() {
+            0 => writeln!(out, "<p>This journal has no calls.</p>")?,
+            1..=MOST_PLAIN => {
+                for section in &self.sections {
+                    out.write_all(pieces::whole(section, &pieces).as_bytes())?;
+                }
+            }
+            _ => write_drawn_later(&self.sections, &pieces, out)?,
+        }
+        writeln!(out, "</main>")
     }
-    writeln!(
-        out,
-        "</ol>\n<p class=\"hint\">Arrow keys, space, Home and End move.</p>\n</nav>"
-    )
-}
-
-/// What stands under a call in the list: a trouble, else a short note.
-fn beside(step: &Step) -> String {
-    if step.disagreement.is_some() {
-        return "<strong>explanation differs</strong>".to_string();
-    }
-    if step.as_expected() == Some(false) {
-        return "<strong>not as expected</strong>".to_string();
-    }
-    let note = step.entry.note.iter();
-    note.filter(|note| note.chars().count() <= LONGEST_LISTED)
-        .map(|note| format!("<small>{}</small>", escaped(note)))
-        .collect()
 }
 
 fn write_introduction(lines: &[String], out: &mut impl Write) -> io::Result<()> {
@@ -113,8 +128,33 @@ fn write_introduction(lines: &[String], out: &mut impl Write) -> io::Result<()> 
         return Ok(());
     }
     writeln!(out, "<div class=\"about\">")?;
-    for line in lines {
-        writeln!(out, "<p>{}</p>", escaped(line))?;
+    for line in lines::drawn(lines) {
+        writeln!(out, "<p>{line}</p>")?;
     }
     writeln!(out, "</div>")
+}
+
+/// The sections and the pieces for the script to draw from, one a line.
+fn write_drawn_later(
+    sections: &[String],
+    pieces: &[String],
+    out: &mut impl Write,
+) -> io::Result<()> {
+    writeln!(
+        out,
+        "<div class=\"stage\"></div>\n<noscript><p>The steps of a journal as long as this are \
+         drawn by a script, and none runs here. The command <code>keylock trace</code> shows them \
+         as text.</p></noscript>"
+    )?;
+    write_lines("sections", sections, out)?;
+    write_lines("pieces", pieces, out)
+}
+
+fn write_lines(class: &str, lines: &[String], out: &mut impl Write) -> io::Result<()> {
+    write!(out, "<script type=\"text/html\" class=\"{class}\">")?;
+    for (place, line) in lines.iter().enumerate() {
+        let end = if place == 0 { "" } else { "\n" };
+        write!(out, "{end}{}", line.replace('\n', ""))?;
+    }
+    writeln!(out, "</script>")
 }

@@ -3,8 +3,7 @@
 /// Whether a character shows as itself and does nothing else: it is no control,
 /// isn't invisible, and changes none of its neighbours.
 pub fn is_plain(character: char) -> bool {
-    let escaped = character.escape_debug().count() > 1;
-    !escaped || matches!(character, '\'' | '"' | '\\')
+    matches!(character, ' '..='~') || character.escape_debug().count() == 1
 }
 
 /// The text with every character that isn't plain escaped: `\n`, `\u{202e}`.
@@ -19,6 +18,27 @@ pub fn escaped(text: &str) -> String {
     shown
 }
 
+/// The characters of bytes that may be no text: each piece that is no UTF-8 is one
+/// replacement character.
+pub fn characters(bytes: &[u8]) -> impl Iterator<Item = char> {
+    bytes.utf8_chunks().flat_map(|chunk| {
+        let broken = !chunk.invalid().is_empty();
+        let replacement = broken.then_some(char::REPLACEMENT_CHARACTER);
+        chunk.valid().chars().chain(replacement)
+    })
+}
+
+/// The first characters of bytes that may be no text, and dots where there are
+/// more.
+pub fn start(bytes: &[u8], most: usize) -> String {
+    let mut characters = characters(bytes);
+    let mut start: String = characters.by_ref().take(most).collect();
+    if characters.next().is_some() {
+        start += "...";
+    }
+    start
+}
+
 /// Bytes that should be ASCII, with the others as `\xHH`.
 pub fn bytes(bytes: &[u8]) -> String {
     let shown = |byte: &u8| match byte {
@@ -30,7 +50,24 @@ pub fn bytes(bytes: &[u8]) -> String {
 
 #[cfg(test)]
 mod tests {
-    use super::{bytes, escaped};
+    use super::{bytes, characters, escaped, start};
+
+    #[test]
+    fn what_is_no_text_is_replaced() {
+        let shown = |bytes| characters(bytes).collect::<String>();
+        assert_eq!(shown("a\u{9375}".as_bytes()), "a\u{9375}");
+        assert_eq!(shown(b"\xFF\xFEa\xC3"), "\u{FFFD}\u{FFFD}a\u{FFFD}");
+        // Three bytes of four are one piece.
+        assert_eq!(shown(b"\xF0\x9F\x94b"), "\u{FFFD}b");
+    }
+
+    #[test]
+    fn long_texts_are_cut() {
+        assert_eq!(start(b"abc", 3), "abc");
+        assert_eq!(start(b"abcd", 3), "abc...");
+        assert_eq!(start("\u{9375}\u{9375}".as_bytes(), 1), "\u{9375}...");
+        assert_eq!(start(b"", 0), "");
+    }
 
     #[test]
     fn bytes_beyond_ascii_are_escaped() {

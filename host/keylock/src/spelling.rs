@@ -7,6 +7,12 @@ use rotundaaloe::refusal::Compile;
 /// The most brackets around a key.
 const MOST_BRACKETS: usize = 8;
 
+pub const NO_BLANKS: &str = "a formula has no blanks";
+const AND: &str = "AND is written '&'";
+const OR: &str = "OR is written '|'";
+const NOT: &str = "NOT is written '!'";
+const AND_OR: &str = "AND is written '&' and OR '|'";
+
 /// Every key that a text can name.
 const EVERY_KEY: Issued = Issued {
     users: 65_536,
@@ -42,8 +48,8 @@ fn place(text: &[u8]) -> Option<(usize, &'static str)> {
                 at += digits.len();
                 number_fault(digits)
             }
-            (_, b' ') => Some("a formula has no blanks"),
-            (true, _) => Some("a key, '!' or '(' should stand there"),
+            (_, b' ') => Some(NO_BLANKS),
+            (true, _) => Some(no_operand(text, at)),
             (false, b'&' | b'|') => {
                 operand_next = true;
                 None
@@ -53,8 +59,7 @@ fn place(text: &[u8]) -> Option<(usize, &'static str)> {
                 None
             }
             (false, b')') => Some("no bracket is open there"),
-            (false, _) if depth > 0 => Some("'&', '|' or ')' should stand there"),
-            (false, _) => Some("'&' or '|' should stand there"),
+            (false, _) => Some(no_operator(&text[at..], depth)),
         };
         if let Some(wrong) = wrong {
             return Some((start, wrong));
@@ -66,6 +71,52 @@ fn place(text: &[u8]) -> Option<(usize, &'static str)> {
         (false, 0) => None,
         (false, _) => Some((at, "a bracket isn't closed there")),
     }
+}
+
+/// Why no operand stands at a place.
+fn no_operand(text: &[u8], at: usize) -> &'static str {
+    let before = at.checked_sub(1).map(|before| text[before]);
+    match text[at..] {
+        [b'u' | b'r' | b's' | b'd', b'0'..=b'9', ..] => "a key has a capital letter",
+        [b'&', ..] if before == Some(b'&') => "AND is one '&'",
+        [b'|', ..] if before == Some(b'|') => "OR is one '|'",
+        [b'~' | b'-', ..] => NOT,
+        _ if begins(&text[at..], "not") => NOT,
+        _ => "a key, '!' or '(' should stand there",
+    }
+}
+
+/// Why no operator stands at the start of these bytes, within so many brackets.
+fn no_operator(rest: &[u8], depth: usize) -> &'static str {
+    match foreign_operator(rest) {
+        Some(operator) => operator,
+        None if depth > 0 => "'&', '|' or ')' should stand there",
+        None => "'&' or '|' should stand there",
+    }
+}
+
+/// What to write for another notation's operator, where one begins here.
+pub fn foreign_operator(bytes: &[u8]) -> Option<&'static str> {
+    match bytes {
+        [b'+' | b'*' | b',' | b'^', ..] => Some(AND_OR),
+        _ if begins(bytes, "and") => Some(AND),
+        _ if begins(bytes, "or") => Some(OR),
+        _ => None,
+    }
+}
+
+/// Whether the bytes begin with a word, in capitals or not, which ends there or
+/// has a key glued to it.
+fn begins(bytes: &[u8], word: &str) -> bool {
+    let Some((start, rest)) = bytes.split_at_checked(word.len()) else {
+        return false;
+    };
+    let ends = match rest {
+        [] => true,
+        [_, b'0'..=b'9', ..] => true,
+        [next, ..] => !next.is_ascii_alphabetic(),
+    };
+    ends && start.eq_ignore_ascii_case(word.as_bytes())
 }
 
 fn digits(text: &[u8]) -> &[u8] {
@@ -95,12 +146,12 @@ mod tests {
 
     #[test]
     fn the_place_is_named() {
-        at("S0&&S1", 3, "a key, '!' or '(' should stand there");
+        at("S0&*S1", 3, "a key, '!' or '(' should stand there");
         at("S0 & S1", 2, "a formula has no blanks");
         at(" S0", 0, "a formula has no blanks");
         at("S0S1", 2, "'&' or '|' should stand there");
         at("(S0S1)", 3, "'&', '|' or ')' should stand there");
-        at("u0", 0, "a key, '!' or '(' should stand there");
+        at("u", 0, "a key, '!' or '(' should stand there");
         at("S0&", 3, "a key, '!' or '(' is missing there");
         at("(S0", 3, "a bracket isn't closed there");
         at("S0)", 2, "no bracket is open there");
@@ -109,6 +160,32 @@ mod tests {
         at("D65536", 0, "a key's number is at most 65535");
         at("(((((((((D0)))))))))", 8, "brackets are at most 8 deep");
         assert_eq!(fault(b"!(D0|D1)&U3"), None);
+    }
+
+    #[test]
+    fn other_notations_are_told_of_this_one() {
+        for key in ["u0", "r1", "s0", "d65535"] {
+            at(key, 0, "a key has a capital letter");
+            at(&format!("!(D0&{key})"), 5, "a key has a capital letter");
+        }
+        for and in ["S0AND S1", "S0andS1", "S0And(S1)", "S0and!S1"] {
+            at(and, 2, "AND is written '&'");
+        }
+        for or in ["S0OR S1", "S0orS1", "S0or"] {
+            at(or, 2, "OR is written '|'");
+        }
+        for not in ["NOT", "not(S0)", "notS0", "~S0", "-S0"] {
+            at(not, 0, "NOT is written '!'");
+        }
+        for both in ["S0+S1", "S0*S1", "S0,S1", "S0^S1"] {
+            at(both, 2, "AND is written '&' and OR '|'");
+        }
+        at("S0&&S1", 3, "AND is one '&'");
+        at("S0||S1", 3, "OR is one '|'");
+        at("S0|&S1", 3, "a key, '!' or '(' should stand there");
+        // No word of these.
+        at("S0order", 2, "'&' or '|' should stand there");
+        at("nothing", 0, "a key, '!' or '(' should stand there");
     }
 
     /// There is a place exactly where the proved compiler finds a text misspelt.

@@ -6,19 +6,24 @@ mod accepted;
 mod check;
 mod judgement;
 mod kept;
+mod lack;
+mod product;
 mod refused;
+mod state;
+mod troubles;
 mod view;
 
-pub use judgement::{Holder, Judgement, Literal, Product, Tried};
-pub use view::{Change, Lock, OpenCall, Segment, Thread};
+pub use judgement::{Judgement, Tried};
+pub use product::{Holder, Literal, Product};
+pub use troubles::Troubles;
+pub use view::{Change, Lock, OpenCall, SegmentView, ThreadView};
 
 use crate::answer::Answer;
 use crate::text::{self, Line};
 use crate::words;
-use kept::Kept;
-use reference::history::History;
-use rotundaaloe::formula::{Issued, Key};
-use rotundaaloe::{Defined, Guard, Record, Refusal, User};
+use rotundaaloe::formula::Key;
+use rotundaaloe::{Guard, Record, Refusal};
+use state::State;
 use view::Concern;
 
 /// A call, with what its author wrote beside it.
@@ -62,16 +67,17 @@ pub struct Step<'a> {
     pub place: usize,
     pub entry: Entry<'a>,
     pub answer: Result<u16, Refusal>,
+    /// What it asks for, by the names that the journal gives.
+    pub call_in_words: String,
+    pub answer_in_words: String,
     /// One or two sentences.
     pub reason: String,
-    /// What the call names, and what the notes call it: `segment 2`, `the totals sheet`.
-    pub names: Vec<(String, String)>,
     /// Of a C or an A that the locks decide.
     pub judgement: Option<Judgement>,
     /// The thread of an S, E, C, R or A, after it.
-    pub thread: Option<Thread>,
+    pub thread: Option<ThreadView>,
     /// The segment of an N, G, T, L or D, after it.
-    pub segment: Option<Segment>,
+    pub segment: Option<SegmentView>,
     /// What the explanation and the guard's answer differ in. Never there,
     /// unless this library is wrong.
     pub disagreement: Option<String>,
@@ -81,14 +87,6 @@ impl Step<'_> {
     /// The call as a text journal has it: `A 0 2 4`.
     pub fn written(&self) -> String {
         text::call(&self.entry.record)
-    }
-
-    pub fn call_in_words(&self) -> String {
-        words::call(&self.entry.record)
-    }
-
-    pub fn answer_in_words(&self) -> String {
-        words::answer(self.entry.record.letter, self.answer)
     }
 
     /// The answer as a replay prints it: `ok 2`, `no 15 0`.
@@ -101,6 +99,28 @@ impl Step<'_> {
         let expected = self.entry.expected?;
         Some(expected == self.given())
     }
+
+    /// Whether something is wrong with it: the answer isn't the expected one, or
+    /// the explanation differs.
+    pub fn is_odd(&self) -> bool {
+        self.as_expected() == Some(false) || self.disagreement.is_some()
+    }
+
+    /// The call, the answer and, where it is refused for want of keys, what is
+    /// missing, in one sentence.
+    pub fn in_a_sentence(&self) -> String {
+        let refused = self.answer == Err(Refusal::NotGranted);
+        let judgement = self.judgement.as_ref().filter(|_| refused);
+        let nearest = judgement.and_then(Judgement::nearest);
+        let lacking = nearest.map(|(_, product)| format!(", {}", product.shortfall()));
+        let lacking = lacking.unwrap_or_default();
+        let odd = match self.as_expected() {
+            Some(false) => ", not as expected",
+            _ => "",
+        };
+        let (call, answer) = (&self.call_in_words, &self.answer_in_words);
+        format!("{call}, {answer}{lacking}{odd}.")
+    }
 }
 
 /// Keys with blanks between.
@@ -109,55 +129,11 @@ pub fn shown_keys(keys: &[Key]) -> String {
     shown.join(" ")
 }
 
-/// The steps of a journal.
-pub fn explain<'a>(entries: impl IntoIterator<Item = Entry<'a>>) -> Vec<Step<'a>> {
+/// The steps of a journal, one at a time: those of a long one take much memory.
+pub fn explain<'a>(entries: impl IntoIterator<Item = Entry<'a>>) -> impl Iterator<Item = Step<'a>> {
     let mut teller = Teller::default();
     let entries = entries.into_iter().enumerate();
-    entries
-        .map(|(place, entry)| teller.step(place, entry))
-        .collect()
-}
-
-/// What is wrong with a journal's steps, a sentence each: answers that aren't
-/// the expected ones, and explanations that differ from the guard.
-pub fn troubles(steps: &[Step]) -> Vec<String> {
-    let unexpected = steps
-        .iter()
-        .filter(|step| step.as_expected() == Some(false));
-    let differing = steps.iter().filter(|step| step.disagreement.is_some());
-    let sentence = |places: Vec<String>, one: &str, more: &str| {
-        let shown = &places[..places.len().min(8)];
-        let dots = if shown.len() < places.len() {
-            ", ..."
-        } else {
-            ""
-        };
-        let shown = shown.join(", ");
-        match places.len() {
-            0 => None,
-            1 => Some(format!("1 {one}: place {shown}")),
-            count => Some(format!("{count} {more}: places {shown}{dots}")),
-        }
-    };
-    let place = |step: &Step| step.place.to_string();
-    let unexpected = sentence(
-        unexpected.map(place).collect(),
-        "answer isn't as expected",
-        "answers aren't as expected",
-    );
-    let differing = sentence(
-        differing.map(place).collect(),
-        "explanation differs from the guard",
-        "explanations differ from the guard",
-    );
-    unexpected.into_iter().chain(differing).collect()
-}
-
-/// What stands before a call: the history, and what it doesn't keep.
-#[derive(Default)]
-struct State {
-    history: History,
-    kept: Kept,
+    entries.map(move |(place, entry)| teller.step(place, entry))
 }
 
 #[derive(Default)]
@@ -169,7 +145,11 @@ struct Teller {
 impl Teller {
     fn step<'a>(&mut self, place: usize, entry: Entry<'a>) -> Step<'a> {
         let record = entry.record;
-        let answer = self.guard.call(&record);
+        let answer = self.guard.call(record);
+        let call_in_words = words::call_by_name(&record, &self.state.kept.names);
+        if let Ok(answer) = answer {
+            self.state.kept.learn(&entry, answer);
+        }
         let state = &self.state;
         let judgement = judgement::of(state, &record, answer);
         let reason = match answer {
@@ -177,80 +157,26 @@ impl Teller {
             Err(refusal) => refused::reason(state, &record, refusal, judgement.as_ref()),
         };
         let disagreement = check::disagreement(state, &record, answer, judgement.as_ref());
-        let names = state.kept.names_in(&record);
         let concern = view::concern(state, &record, answer);
-        self.take_in(&entry, answer);
+        if let Ok(answer) = answer {
+            self.state.take_in(&record, answer);
+        }
         let (thread, segment) = match concern {
             Concern::Nothing => (None, None),
-            Concern::Thread(number, change) => (view::thread(&self.state, number, change), None),
-            Concern::Segment(number) => (None, view::segment(&self.state, number)),
+            Concern::Thread(thread, change) => (view::thread(&self.state, thread, change), None),
+            Concern::Segment(segment) => (None, view::segment(&self.state, segment)),
         };
         Step {
             place,
             answer,
+            call_in_words,
+            answer_in_words: words::answer(&record, answer, &self.state.kept.names),
             reason,
-            names,
             judgement,
             thread,
             segment,
             disagreement,
             entry,
         }
-    }
-
-    fn take_in(&mut self, entry: &Entry, answer: Result<u16, Refusal>) {
-        let Ok(answer) = answer else { return };
-        let issued = self.state.issued();
-        self.state.kept.take_in(entry, answer, issued);
-        let record = for_history(&entry.record);
-        self.state.history.feed(&record, Some(answer));
-    }
-}
-
-impl State {
-    fn issued(&self) -> Issued {
-        let issued = self.history.issued();
-        Issued {
-            users: issued.users,
-            threads: issued.threads,
-            segments: issued.segments,
-            defined: issued.defined,
-        }
-    }
-
-    /// A live thread's key set, in order.
-    fn key_set(&self, thread: u16) -> Vec<Key> {
-        let keys = self.history.key_set(thread).unwrap_or_default();
-        keys.into_iter().map(key).collect()
-    }
-
-    /// A segment's key list.
-    fn list(&self, segment: u16) -> Vec<Key> {
-        let segment = self.history.segment(segment);
-        segment.map_or(Vec::new(), |segment| keys(&segment.list))
-    }
-}
-
-fn key(key: reference::Key) -> Key {
-    let number = key.number;
-    match key.kind {
-        reference::Kind::User => Key::User(User(number)),
-        reference::Kind::Thread => Key::Thread(rotundaaloe::Thread(number)),
-        reference::Kind::Segment => Key::Segment(rotundaaloe::Segment(number)),
-        reference::Kind::Defined => Key::Defined(Defined(number)),
-    }
-}
-
-fn keys(list: &[reference::Key]) -> Vec<Key> {
-    list.iter().copied().map(key).collect()
-}
-
-fn for_history(record: &Record) -> reference::journal::Record {
-    reference::journal::Record {
-        letter: record.letter,
-        a: record.a,
-        b: record.b,
-        c: record.c,
-        text: record.text.to_vec(),
     }
 }

@@ -8,19 +8,30 @@
 //! A 0 2 4 -> no 15 0       # with the answer that is expected
 //! ```
 
-mod bytes;
+mod hint;
 mod line;
+mod mistakes;
 mod write;
+mod wrong;
 
 use crate::answer::Answer;
-use crate::figures::grouped;
-use line::{Call, Fault, Found};
-use rotundaaloe::journal::MAX_BYTES;
+use crate::shown;
+pub use hint::NUL;
+use line::{CallLine, Found};
+pub use mistakes::{Mistake, Mistakes};
 use rotundaaloe::refusal::Append;
 use rotundaaloe::{Journal, Record};
 pub use write::{call, disassemble};
+use wrong::{Fault, Wrong};
 
-/// A text journal, read.
+/// The most lines of comment that are kept, those behind calls aside.
+const MOST_COMMENTS: usize = 65_536;
+const LEFT_OUT: &str = "(further comments are left out)";
+/// The most characters of a comment that are kept.
+const LONGEST_COMMENT: usize = 4_096;
+
+/// A text journal, read. Comments are for people: of more than they would read,
+/// the first are kept.
 #[derive(Clone, Debug)]
 pub struct Text {
     /// The comments that the text opens with: up to the first blank line or call.
@@ -48,21 +59,21 @@ impl Text {
         self.lines.iter().zip(self.journal.records())
     }
 
+    /// The same for who reads no comments.
+    pub fn without_comments(mut self) -> Text {
+        self.introduction = Vec::new();
+        for line in &mut self.lines {
+            line.comment = None;
+            line.heading = Vec::new();
+        }
+        self
+    }
+
     /// How many answers are expected.
     pub fn expected(&self) -> usize {
         let lines = self.lines.iter();
         lines.filter(|line| line.expected.is_some()).count()
     }
-}
-
-/// What is wrong at a place of a text.
-#[derive(Clone, Debug, PartialEq, Eq)]
-pub struct Mistake {
-    /// From 1.
-    pub line: usize,
-    /// From 1, in characters.
-    pub column: usize,
-    pub message: String,
 }
 
 const BYTE_ORDER_MARK: &[u8] = b"\xEF\xBB\xBF";
@@ -75,12 +86,12 @@ pub fn lines(text: &[u8]) -> impl Iterator<Item = &[u8]> {
 }
 
 /// Reads a text. All of its mistakes are found, one a line at most.
-pub fn parse(text: &[u8]) -> Result<Text, Vec<Mistake>> {
+pub fn parse(text: &[u8]) -> Result<Text, Mistakes> {
     parse_with(text, |_| ())
 }
 
 /// As [`parse`], and tells how many lines are read.
-pub fn parse_with(text: &[u8], mut at_line: impl FnMut(usize)) -> Result<Text, Vec<Mistake>> {
+pub fn parse_with(text: &[u8], mut at_line: impl FnMut(usize)) -> Result<Text, Mistakes> {
     let mut reader = Reader::new();
     for (place, line) in lines(text).enumerate() {
         reader.take(place + 1, line);
@@ -93,8 +104,10 @@ struct Reader {
     text: Text,
     /// Comments that the next call's heading is made of.
     comments: Vec<String>,
+    /// The lines of comment that were read.
+    commented: usize,
     full: bool,
-    mistakes: Vec<Mistake>,
+    mistakes: Mistakes,
 }
 
 impl Reader {
@@ -106,8 +119,9 @@ impl Reader {
                 journal: Journal::new(),
             },
             comments: Vec::new(),
+            commented: 0,
             full: false,
-            mistakes: Vec::new(),
+            mistakes: Mistakes::default(),
         }
     }
 
@@ -118,18 +132,14 @@ impl Reader {
                 Ok(())
             }
             Ok(Found::Comment(comment)) => {
-                self.comments.push(comment);
+                self.comment(comment);
                 Ok(())
             }
             Ok(Found::Call(call)) => self.add(number, call),
             Err(fault) => Err(fault),
         };
-        if let Err(Fault { at, message }) = taken {
-            self.mistakes.push(Mistake {
-                line: number,
-                column: bytes::characters(&line[..at]) + 1,
-                message,
-            });
+        if let Err(fault) = taken {
+            self.mistakes.add(number, line, &fault);
         }
     }
 
@@ -140,45 +150,57 @@ impl Reader {
         }
     }
 
-    fn add(&mut self, number: usize, call: Call) -> Result<(), Fault> {
+    fn comment(&mut self, comment: &[u8]) {
+        self.commented += 1;
+        if self.commented < MOST_COMMENTS {
+            self.comments.push(kept(comment));
+        } else if self.commented == MOST_COMMENTS {
+            self.comments.push(LEFT_OUT.to_string());
+        }
+    }
+
+    fn add<'a>(&mut self, number: usize, call: CallLine<'a>) -> Result<(), Fault<'a>> {
         self.introduce();
         self.append(&call)?;
-        self.text.lines.push(Line {
-            number,
-            expected: call.expected,
-            comment: call.comment,
-            heading: std::mem::take(&mut self.comments),
-        });
+        self.mistakes.right_calls += 1;
+        // Nobody asks for the lines of a text that is refused.
+        if self.mistakes.count == 0 {
+            self.text.lines.push(Line {
+                number,
+                expected: call.expected,
+                comment: call.comment.map(kept).filter(|comment| !comment.is_empty()),
+                heading: std::mem::take(&mut self.comments),
+            });
+        }
         Ok(())
     }
 
-    fn append(&mut self, call: &Call) -> Result<(), Fault> {
+    fn append<'a>(&mut self, call: &CallLine<'a>) -> Result<(), Fault<'a>> {
         if self.full {
             return Ok(());
         }
-        let message = match self.text.journal.append(&call.record()) {
+        let wrong = match self.text.journal.append(call.record()) {
             Ok(()) => return Ok(()),
             Err(Append::Full) => {
                 self.full = true;
-                let (count, most) = (self.text.lines.len(), grouped(MAX_BYTES));
-                let count = grouped(count);
-                format!(
-                    "the journal is full here: {count} calls, and {most} bytes are the most (10)"
-                )
+                Wrong::Full(self.text.journal.records().count())
             }
-            Err(refusal) => refusal.to_string(),
+            Err(refusal) => Wrong::Refused(refusal),
         };
-        Err(Fault {
-            at: call.at,
-            message,
-        })
+        Err(Fault { at: call.at, wrong })
     }
 
-    fn finish(mut self) -> Result<Text, Vec<Mistake>> {
+    fn finish(mut self) -> Result<Text, Mistakes> {
         self.introduce();
-        match self.mistakes.is_empty() {
-            true => Ok(self.text),
-            false => Err(self.mistakes),
+        match self.mistakes.count {
+            0 => Ok(self.text),
+            _ => Err(self.mistakes),
         }
     }
+}
+
+/// What is kept of a comment.
+fn kept(comment: &[u8]) -> String {
+    let start = shown::start(comment, LONGEST_COMMENT);
+    start.trim().replace('\t', " ")
 }

@@ -1,35 +1,82 @@
 //! Calls and answers in words.
 
-use crate::letters::Letter;
-use rotundaaloe::{Record, Refusal};
+use crate::names::{Names, Thing};
+use rotundaaloe::{Call, Defined, Record, Refusal, Segment, Thread, User};
 
 /// What a call asks for: `thread 0 writes segment 2`.
 pub fn call(record: &Record) -> String {
-    let Record { a, b, c, .. } = *record;
-    let Some(letter) = Letter::of(record.letter) else {
-        return format!("no call has the letter {}", record.letter.escape_ascii());
+    call_by_name(record, &Names::default())
+}
+
+/// The same by the names that are known: `thread 0 writes the totals sheet
+/// (segment 2)`.
+pub fn call_by_name(record: &Record, names: &Names) -> String {
+    let Some(call) = Call::of(record) else {
+        return "no call has this shape".to_string();
     };
-    match letter {
-        Letter::NewUser => "a new user".to_string(),
-        Letter::StartThread => format!("user {a} starts a thread"),
-        Letter::EndThread => format!("thread {a} ends"),
-        Letter::NewSegment => match b {
-            0 => format!("user {a} makes a code segment"),
-            1 => format!("user {a} makes a sheet"),
-            kind => format!("user {a} makes a segment of kind {kind}"),
-        },
-        Letter::NewKey => format!("user {a} makes a key"),
-        Letter::GiveKey => format!("user {a} gives key D{c} to segment {b}"),
-        Letter::TakeKey => format!("user {a} takes key D{c} from segment {b}"),
-        Letter::AddLock => format!("user {a} locks segment {b}: {}", operations(c)),
-        Letter::DropLock => format!("user {a} drops lock {b}"),
-        Letter::CallSegment => format!("thread {a} calls segment {b}"),
-        Letter::ReturnCall => format!("thread {a} returns"),
-        Letter::Access => match c {
-            2 => format!("thread {a} reads segment {b}"),
-            4 => format!("thread {a} writes segment {b}"),
-            operation => format!("thread {a} does operation {operation} on segment {b}"),
-        },
+    let deed = deed(call, names);
+    match actor(call) {
+        Some(actor) => format!("{} {deed}", names.said(actor)),
+        None => deed,
+    }
+}
+
+/// Who calls, if the call says it.
+fn actor(call: Call) -> Option<Thing> {
+    match call {
+        Call::NewUser => None,
+        Call::StartThread { user }
+        | Call::NewSegment { user, .. }
+        | Call::NewKey { user }
+        | Call::GiveKey { user, .. }
+        | Call::TakeKey { user, .. }
+        | Call::AddLock { user, .. }
+        | Call::DropLock { user, .. } => Some(user.into()),
+        Call::EndThread { thread }
+        | Call::CallSegment { thread, .. }
+        | Call::ReturnCall { thread }
+        | Call::Access { thread, .. } => Some(thread.into()),
+    }
+}
+
+fn deed(call: Call, names: &Names) -> String {
+    match call {
+        Call::NewUser => "a new user".to_string(),
+        Call::StartThread { .. } => "starts a thread".to_string(),
+        Call::EndThread { .. } => "ends".to_string(),
+        Call::NewSegment { kind: 0, .. } => "makes a code segment".to_string(),
+        Call::NewSegment { kind: 1, .. } => "makes a sheet".to_string(),
+        Call::NewSegment { kind, .. } => format!("makes a segment of kind {kind}"),
+        Call::NewKey { .. } => "makes a key".to_string(),
+        Call::GiveKey { segment, key, .. } => {
+            format!("gives {} to {}", names.said(key), names.said(segment))
+        }
+        Call::TakeKey { segment, key, .. } => {
+            format!("takes {} from {}", names.said(key), names.said(segment))
+        }
+        Call::AddLock {
+            segment,
+            operations: set,
+            ..
+        } => {
+            format!("locks {}: {}", names.said(segment), operations(set.0))
+        }
+        Call::DropLock { lock, .. } => format!("drops {lock}"),
+        Call::CallSegment { segment, .. } => format!("calls {}", names.said(segment)),
+        Call::ReturnCall { .. } => "returns".to_string(),
+        Call::Access {
+            segment, operation, ..
+        } => {
+            format!("{} {}", access(operation), names.said(segment))
+        }
+    }
+}
+
+fn access(operation: u16) -> String {
+    match operation {
+        2 => "reads".to_string(),
+        4 => "writes".to_string(),
+        operation => format!("does operation {operation} on"),
     }
 }
 
@@ -47,8 +94,9 @@ pub fn operations(set: u16) -> String {
     names.join(" and ") + denied
 }
 
-/// What an answer says: `granted by lock 2`, `refused: no way in (15)`.
-pub fn answer(letter: u8, answer: Result<u16, Refusal>) -> String {
+/// What an answer says: `granted by lock 2`, `refused: no way in (15)`. The
+/// names are those after the call.
+pub fn answer(record: &Record, answer: Result<u16, Refusal>, names: &Names) -> String {
     let number = match answer {
         Ok(number) => number,
         Err(refusal) => return format!("refused: {refusal}"),
@@ -57,20 +105,22 @@ pub fn answer(letter: u8, answer: Result<u16, Refusal>) -> String {
         1 => format!("1 {one}"),
         _ => format!("{number} {more}"),
     };
-    let Some(letter) = Letter::of(letter) else {
+    let Some(call) = Call::of(record) else {
         return number.to_string();
     };
-    match letter {
-        Letter::NewUser => format!("user {number}"),
-        Letter::StartThread => format!("thread {number}"),
-        Letter::EndThread => counted("open call closed", "open calls closed"),
-        Letter::NewSegment => format!("segment {number}"),
-        Letter::NewKey => format!("key D{number}"),
-        Letter::GiveKey | Letter::TakeKey => counted("key in the list now", "keys in the list now"),
-        Letter::AddLock => format!("lock {number}"),
-        Letter::DropLock => counted("product removed", "products removed"),
-        Letter::ReturnCall => format!("segment {number} left"),
-        Letter::CallSegment | Letter::Access => format!("granted by lock {number}"),
+    match call {
+        Call::NewUser => names.said(User(number)),
+        Call::StartThread { .. } => names.said(Thread(number)),
+        Call::EndThread { .. } => counted("open call closed", "open calls closed"),
+        Call::NewSegment { .. } => names.said(Segment(number)),
+        Call::NewKey { .. } => names.said(Defined(number)),
+        Call::GiveKey { .. } | Call::TakeKey { .. } => {
+            counted("key in the list now", "keys in the list now")
+        }
+        Call::AddLock { .. } => format!("lock {number}"),
+        Call::DropLock { .. } => counted("product removed", "products removed"),
+        Call::ReturnCall { .. } => format!("left {}", names.said(Segment(number))),
+        Call::CallSegment { .. } | Call::Access { .. } => format!("granted by lock {number}"),
     }
 }
 
@@ -81,4 +131,11 @@ pub fn listed(words: &[String], joint: &str) -> String {
         [word] => word.clone(),
         [first @ .., last] => format!("{} {joint} {last}", first.join(", ")),
     }
+}
+
+/// The words as a sentence begins: with a capital letter.
+pub fn capital(words: &str) -> String {
+    let mut letters = words.chars();
+    let first = letters.next().map(|first| first.to_ascii_uppercase());
+    first.into_iter().chain(letters).collect()
 }

@@ -2,30 +2,12 @@
 
 mod commands;
 
-use commands::{Directory, OFFICE_LINES, Ran, TRIAL, keylock};
-use reference::letter::Letter;
+use commands::{Directory, OFFICE_LINES, ONE_USER, TRIAL, fine, keylock, refused};
+use rotundaaloe::Letter;
 use std::ffi::OsStr;
 use std::fs::{self, File};
 use std::os::unix::ffi::OsStrExt;
-use std::os::unix::fs::{FileTypeExt, PermissionsExt, symlink};
-use std::process::{Command, Stdio};
-
-const ONE_USER: &[u8] = b"KLD\x01\0\x01\0U\0\0\0\0\0\0\0\0";
-
-/// Nothing on standard output, this status, and this on standard error.
-#[track_caller]
-fn refused(ran: &Ran, status: i32, complaint: &str) {
-    assert_eq!(ran.complaint, complaint);
-    assert_eq!(ran.printed(), "");
-    assert_eq!(ran.status, status);
-}
-
-#[track_caller]
-fn fine(ran: &Ran, printed: &str) {
-    assert_eq!(ran.complaint, "");
-    assert_eq!(ran.printed(), printed);
-    assert_eq!(ran.status, 0);
-}
+use std::process::Command;
 
 #[test]
 fn asm_and_dis_through_pipes() {
@@ -62,23 +44,6 @@ fn asm_and_dis_to_files() {
     fine(&keylock(&["dis", &out, "-o", &text], b""), "");
     assert_eq!(fs::read_to_string(&text).unwrap(), "U  # 0: a new user\n");
     assert_eq!(directory.names(), ["a.kld", "a.txt"]);
-}
-
-/// Not by its other names either.
-#[test]
-fn the_input_is_not_written_over() {
-    let directory = Directory::new("over");
-    let [text, link] = ["a.txt", "link"].map(|name| directory.file(name));
-    fs::write(&text, "U # a comment").unwrap();
-    symlink(&text, &link).unwrap();
-    for command in [&["asm"][..], &["dis"], &["trace"], &["trace", "--html"]] {
-        for [from, to] in [[&text, &text], [&text, &link], [&link, &text]] {
-            let right = format!("keylock: {to} is the input: write to another file\n");
-            let arguments = [command, &[from.as_str(), "-o", to.as_str()]].concat();
-            refused(&keylock(&arguments, b""), 2, &right);
-        }
-    }
-    assert_eq!(fs::read_to_string(&text).unwrap(), "U # a comment");
 }
 
 #[test]
@@ -148,7 +113,8 @@ fn expected_answers() {
 fn trace_explains_both_forms() {
     let text = keylock(&["trace"], TRIAL.as_bytes());
     assert_eq!((text.status, text.complaint.as_str()), (0, ""));
-    let shut = "S0 & S1: shut. S0 is missing: no call of segment 0 is open";
+    let shut = "S0 & S1: shut. S0 is missing: segment 0 hands it over, \
+                and this thread has no open call of it";
     assert!(text.printed().contains(shut), "{}", text.printed());
     let journal = keylock(&["asm"], TRIAL.as_bytes()).output;
     fine(&keylock(&["trace"], &journal), &text.printed());
@@ -162,9 +128,9 @@ fn trace_writes_a_page() {
     fine(&keylock(&["trace", "--html", &text, "-o", &page], b""), "");
     let written = fs::read_to_string(&page).unwrap();
     assert!(written.starts_with("<!DOCTYPE html>"));
-    assert!(written.contains("<title>my lesson</title>"));
+    assert!(written.contains("<title>Two users &amp; a route</title>"));
     assert!(written.contains("<p>Two users &amp; a route</p>"));
-    assert!(written.contains("S0 is missing: no call of segment 0 is open"));
+    assert!(written.contains("S0 is missing: segment\u{a0}0 hands it over"));
     fine(&keylock(&["trace", &text, "--html"], b""), &written);
 }
 
@@ -262,8 +228,16 @@ fn the_wrong_form() {
         assert!(ran.complaint.starts_with(&right), "{}", ran.complaint);
         assert_eq!((ran.printed().as_str(), ran.status), ("", 1));
     }
-    let right = format!("{neither}: line 1, column 1 is no call; it is UTF-16, save it as UTF-8\n");
+    let right = format!("{neither}: it is UTF-16, save it as UTF-8\n");
     refused(&keylock(&["asm"], b"\xFF\xFEU\0\r\0\n\0"), 1, &right);
+    let right = format!("{neither}: line 1, column 4 is a NUL byte: no text has one\n");
+    refused(&keylock(&["asm"], b"S 0\0\n"), 1, &right);
+    let state = "a state file, which 'keylock state' shows";
+    let right = format!("{neither}: it is {state}\n");
+    let saved = rotundaaloe::Guard::new().to_bytes();
+    refused(&keylock(&["run"], &saved), 1, &right);
+    let right = format!("keylock: standard input: byte 2: {state} (16 not a desk file)\n");
+    refused(&keylock(&["dis"], &saved), 1, &right);
     let endless = File::open("/dev/zero").unwrap();
     let ran = commands::run(
         Command::new(env!("CARGO_BIN_EXE_keylock"))
@@ -272,6 +246,18 @@ fn the_wrong_form() {
     );
     let right = "keylock: standard input: over 8 MiB: no journal, nor the text of one\n";
     refused(&ran, 1, right);
+}
+
+/// A control character hides no mistake of a text that has calls.
+#[test]
+fn a_form_feed_in_a_text() {
+    let ran = keylock(&["asm"], b"U\n# page\x0Ctwo\nL 0 0 1 S0 AND S1\n");
+    let right = "keylock: standard input:3:12: AND is written '&', and a formula has no blanks\n  \
+        L 0 0 1 S0 AND S1\n             ^\n1 mistake; nothing was written\n";
+    refused(&ran, 1, right);
+    let ran = keylock(&["asm"], b"U\nN\x000 0\nS 0 ok 0\n");
+    let right = "keylock: standard input:2:2: a NUL byte: no text has one\n";
+    assert!(ran.complaint.starts_with(right), "{}", ran.complaint);
 }
 
 #[test]
@@ -301,7 +287,7 @@ fn help_and_version() {
     fine(&keylock(&["help", "dis"], b""), &seen[2].printed());
     fine(&keylock(&["help"], b""), &seen[0].printed());
     for arguments in [&["--version"][..], &["-V"], &["run", "--version"]] {
-        fine(&keylock(arguments, b""), "keylock 0.1.0\n");
+        fine(&keylock(arguments, b""), "keylock 0.2.0\n");
     }
 }
 
@@ -356,7 +342,7 @@ fn called_wrongly() {
         let right = format!("keylock: {message}\n{}", see(topic));
         refused(&keylock(arguments, b"U"), 2, &right);
     };
-    wrong(&[], "", "what to do? asm, dis, run or trace");
+    wrong(&[], "", "what to do? asm, dis, run, trace or state");
     wrong(
         &["asn"],
         "",
@@ -421,97 +407,4 @@ fn names_of_any_kind() {
     fine(&commands::run(command.arg(out).arg("in")), "");
     let out = directory.path().join(OsStr::from_bytes(b"out\xFE"));
     assert_eq!(fs::read(out).unwrap(), ONE_USER);
-}
-
-#[test]
-fn a_reader_that_goes_away() {
-    let mut child = Command::new(env!("CARGO_BIN_EXE_keylock"))
-        .arg("run")
-        .stdin(Stdio::piped())
-        .stdout(Stdio::piped())
-        .stderr(Stdio::piped())
-        .spawn()
-        .unwrap();
-    drop(child.stdout.take());
-    commands::feed(&mut child, &b"U\n".repeat(7_280));
-    let output = child.wait_with_output().unwrap();
-    assert_eq!(String::from_utf8_lossy(&output.stderr), "");
-    assert_eq!(output.status.code(), Some(0));
-}
-
-#[test]
-fn a_full_disk() {
-    let directory = Directory::new("full");
-    let text = directory.file("a.txt");
-    fs::write(&text, "U").unwrap();
-    for command in ["asm", "run"] {
-        let full = File::options().write(true).open("/dev/full").unwrap();
-        let mut program = Command::new(env!("CARGO_BIN_EXE_keylock"));
-        let output = program
-            .args([command, &text])
-            .stdout(full)
-            .output()
-            .unwrap();
-        let complaint = String::from_utf8_lossy(&output.stderr);
-        assert_eq!(
-            complaint,
-            "keylock: standard output: No space left on device\n"
-        );
-        assert_eq!(output.status.code(), Some(2));
-    }
-    let right = "keylock: /dev/full: No space left on device\n";
-    refused(&keylock(&["asm", &text, "-o", "/dev/full"], b""), 2, right);
-}
-
-/// Where no file may grow, an old one stays and no other is left.
-#[test]
-fn a_file_that_cannot_grow() {
-    let directory = Directory::new("grow");
-    let [text, out] = ["a.txt", "out"].map(|name| directory.file(name));
-    fs::write(&text, "U").unwrap();
-    fs::write(&out, "old").unwrap();
-    let limited = "trap '' XFSZ; ulimit -f 0; exec \"$0\" asm \"$1\" -o \"$2\"";
-    let mut shell = Command::new("sh");
-    let keylock = env!("CARGO_BIN_EXE_keylock");
-    let ran = commands::run(shell.args(["-c", limited, keylock, &text, &out]));
-    refused(&ran, 2, &format!("keylock: {out}: File too large\n"));
-    assert_eq!(fs::read(&out).unwrap(), b"old");
-    assert_eq!(directory.names(), ["a.txt", "out"]);
-}
-
-#[test]
-fn what_cannot_be_read_or_written() {
-    let directory = Directory::new("unwritable");
-    let path = directory.file("");
-    let missing = directory.file("no/such");
-    let right = format!("keylock: {missing}: No such file or directory\n");
-    refused(&keylock(&["run", &missing], b""), 2, &right);
-    refused(&keylock(&["asm", "-o", &missing], b"U"), 2, &right);
-    let right = format!("keylock: {path}: Is a directory\n");
-    refused(&keylock(&["dis", &path], b""), 2, &right);
-    refused(&keylock(&["asm", "-o", &path], b"U"), 2, &right);
-    assert!(directory.names().is_empty());
-}
-
-#[test]
-fn an_old_file_keeps_its_kind() {
-    let directory = Directory::new("kinds");
-    let [real, link] = ["real", "link"].map(|name| directory.file(name));
-    fs::write(&real, "old").unwrap();
-    fs::set_permissions(&real, fs::Permissions::from_mode(0o640)).unwrap();
-    symlink(&real, &link).unwrap();
-    fine(&keylock(&["asm", "-o", &link], b"U"), "");
-    assert_eq!(fs::read(&real).unwrap(), ONE_USER);
-    assert!(fs::symlink_metadata(&link).unwrap().is_symlink());
-    assert_eq!(
-        fs::metadata(&real).unwrap().permissions().mode() & 0o777,
-        0o640
-    );
-    fine(&keylock(&["asm", "-o", "/dev/null"], b"U"), "");
-    let device = fs::symlink_metadata("/dev/null").unwrap().file_type();
-    assert!(device.is_char_device());
-    // Standard output by its other name, which leads to a pipe.
-    let ran = keylock(&["asm", "-o", "/dev/stdout"], b"U");
-    assert_eq!((ran.output.as_slice(), ran.status), (ONE_USER, 0));
-    assert!(fs::symlink_metadata("/dev/stdout").unwrap().is_symlink());
 }

@@ -1,6 +1,6 @@
 //! The lessons: their expected answers are the proved guard's, the reference's
-//! and those of a small guard, and each of five broken guards is caught by its
-//! own lesson and by no other.
+//! and those of a small guard. Each of five broken guards is caught by its own
+//! lesson and by no other, and each of four more by its own trap.
 
 mod faults;
 
@@ -11,7 +11,7 @@ use rotundaaloe::Record;
 use std::fs;
 use std::path::{Path, PathBuf};
 
-/// The lesson for each fault, in the order of [`Fault::ALL`].
+/// The lesson for each fault, in the order of [`Fault::FIVE`].
 const LESSONS: [&str; 5] = [
     "1-way-down.txt",
     "2-off-route.txt",
@@ -20,6 +20,7 @@ const LESSONS: [&str; 5] = [
     "5-dropped-lock.txt",
 ];
 const ALL_FIVE: &str = "6-five-faults.txt";
+const TRAPS: &str = "7-traps.txt";
 const ROUTE: &str = "route.txt";
 
 fn path(name: &str) -> PathBuf {
@@ -60,7 +61,10 @@ fn faulty(text: &Text, fault: Option<Fault>) -> Vec<(usize, Answer)> {
 
 /// The lessons in the folder, all of them.
 fn names() -> Vec<&'static str> {
-    let names: Vec<&str> = LESSONS.into_iter().chain([ALL_FIVE, ROUTE]).collect();
+    let names: Vec<&str> = LESSONS
+        .into_iter()
+        .chain([ALL_FIVE, TRAPS, ROUTE])
+        .collect();
     let folder = fs::read_dir(path("")).expect("the lessons");
     let texts = folder.filter(|entry| {
         let entry = entry.as_ref().expect("an entry").path();
@@ -115,7 +119,7 @@ fn the_small_guard_without_a_fault_answers_as_expected() {
 
 #[test]
 fn each_fault_is_caught_by_its_own_lesson_alone() {
-    for (fault, own) in Fault::ALL.into_iter().zip(LESSONS) {
+    for (fault, own) in Fault::FIVE.into_iter().zip(LESSONS) {
         let mut caught = Vec::new();
         for name in LESSONS {
             if let Some((place, answer)) = faulty(&lesson(name), Some(fault)).first() {
@@ -127,37 +131,43 @@ fn each_fault_is_caught_by_its_own_lesson_alone() {
     }
 }
 
-/// Each broken guard differs at one line, the one that says so, with the answer
-/// that stands there.
+/// The places of the calls whose comment begins with these words, with the rest
+/// of it.
+fn announced(text: &Text, words: &str) -> Vec<(usize, String)> {
+    let places = text.lines.iter().enumerate();
+    places
+        .filter_map(|(place, line)| {
+            let rest = line.comment.as_deref()?.strip_prefix(words)?;
+            Some((place, rest.to_string()))
+        })
+        .collect()
+}
+
+/// A guard with the fault differs at one line, the one that says so, with the
+/// answer that stands there.
+#[track_caller]
+fn gives_itself_away(text: &Text, fault: Fault, words: &str) {
+    let given = faulty(text, Some(fault)).into_iter();
+    let given: Vec<(usize, String)> = given
+        .map(|(place, answer)| (place, answer.to_string()))
+        .collect();
+    assert_eq!(given.len(), 1, "{fault:?}: {given:?}");
+    assert_eq!(given, announced(text, words), "{fault:?}");
+}
+
 #[test]
 fn the_sixth_lesson_shows_all_five() {
-    let text = lesson(ALL_FIVE);
-    for (fault, number) in Fault::ALL.into_iter().zip(1..) {
-        let announced: Vec<(usize, &str)> = text
-            .lines
-            .iter()
-            .enumerate()
-            .filter_map(|(place, line)| {
-                let comment = line.comment.as_deref()?;
-                Some((
-                    place,
-                    comment.strip_prefix(&format!("a guard with fault {number} answers "))?,
-                ))
-            })
-            .collect();
-        let given = faulty(&text, Some(fault));
-        let given: Vec<(usize, String)> = given
-            .into_iter()
-            .map(|(place, answer)| (place, answer.to_string()))
-            .collect();
-        assert_eq!(given.len(), 1, "{fault:?}");
-        assert!(
-            given
-                .iter()
-                .map(|(place, answer)| (*place, answer.as_str()))
-                .eq(announced),
-            "{fault:?}"
-        );
+    for (fault, number) in Fault::FIVE.into_iter().zip(1..) {
+        let words = format!("a guard with fault {number} answers ");
+        gives_itself_away(&lesson(ALL_FIVE), fault, &words);
+    }
+}
+
+#[test]
+fn the_seventh_lesson_shows_all_traps() {
+    for (fault, number) in Fault::TRAPS.into_iter().zip(1..) {
+        let words = format!("a guard in trap {number} answers ");
+        gives_itself_away(&lesson(TRAPS), fault, &words);
     }
 }
 

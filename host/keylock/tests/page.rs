@@ -8,9 +8,10 @@ use keylock::{page, trace};
 use lesson::{ROUTE, explained};
 use rotundaaloe::Record;
 
-fn page(introduction: &[String], steps: &[Step]) -> String {
+fn page<'a>(introduction: &[&str], steps: impl IntoIterator<Item = Step<'a>>) -> String {
+    let introduction: Vec<String> = introduction.iter().map(|line| line.to_string()).collect();
     let mut out = Vec::new();
-    page::write("The <route>", introduction, steps, &mut out).expect("a vector takes it");
+    page::write("The <route>", &introduction, steps, &mut out).expect("a vector takes it");
     String::from_utf8(out).expect("text")
 }
 
@@ -53,18 +54,136 @@ fn check_nesting(page: &str) {
 
 #[test]
 fn one_section_for_each_record() {
-    let steps = explained(ROUTE);
-    let page = page(&["A lesson.".to_string()], &steps);
+    let page = page(&["A lesson.", "More of it."], explained(ROUTE));
     check_nesting(&page);
     assert_eq!(page.matches("<section ").count(), 16);
-    assert_eq!(page.matches("<a ").count(), 16);
-    assert!(page.contains("<html lang=\"en\">") && page.contains("<p>A lesson.</p>"));
-    assert!(page.contains("<title>The &lt;route&gt;</title>"));
+    assert_eq!(page.matches("<a class=\"ok\"").count(), 14);
+    assert_eq!(page.matches("<a class=\"no\"").count(), 2);
+    assert!(page.contains("<html lang=\"en\">"));
+    assert!(page.contains("<p>A lesson.</p>\n<p>More of it.</p>"));
+}
+
+#[test]
+fn the_title_is_the_first_line() {
+    let lesson = page(&["Lesson <2>.", "More."], explained(ROUTE));
+    assert!(lesson.contains("<title>Lesson &lt;2&gt;.</title>"));
+    assert!(lesson.contains(">Lesson &lt;2&gt;.</h1>"));
+    let bare = page(&[], explained(ROUTE));
+    assert!(bare.contains("<title>The &lt;route&gt;</title>"));
+    assert!(bare.contains(">The &lt;route&gt;</h1>"));
+    let long = "a".repeat(1_000);
+    let shortened = format!("<title>{}...</title>", "a".repeat(120));
+    let page = page(&[&long], explained(ROUTE));
+    assert!(page.contains(&shortened) && page.contains(&format!("<p>{long}</p>")));
+}
+
+/// A line without a letter or digit is a rule or a gap, and no title.
+#[test]
+fn the_title_has_words() {
+    for (introduction, title) in [
+        (&["", "Lesson X"][..], "Lesson X"),
+        (&["##########", " - ", "Lesson X", "More."], "Lesson X"),
+        (&["=====", "7"], "7"),
+        (&["***", "\u{9375}"], "\u{9375}"),
+        (&["", "#####"], "The &lt;route&gt;"),
+    ] {
+        let page = page(introduction, explained(ROUTE));
+        let (head, bar) = (format!("<title>{title}</title>"), format!(">{title}</h1>"));
+        assert!(
+            page.contains(&head) && page.contains(&bar),
+            "{introduction:?}"
+        );
+    }
+}
+
+/// Steps count from 0, as a replay prints them, and nothing counts otherwise.
+#[test]
+fn one_counting_of_steps() {
+    let page = page(&[], explained(ROUTE));
+    let body = &page[page.find("<body>").expect("a body")..];
+    let body = &body[..body.find("<script>").expect("a script")];
+    assert!(section(body, 13).contains("<p class=\"where\">Step 13: <code>A 1 2 4</code></p>"));
+    assert!(section(body, 0).contains("Step 0: "));
+    assert!(!body.contains("Place") && !body.contains("Step 16"));
+}
+
+#[test]
+fn the_list_can_be_skipped() {
+    let page = page(&[], explained(ROUTE));
+    let skip = page
+        .find("<a class=\"skip\" href=\"#steps\">")
+        .expect("a link");
+    let list = page.find("<nav ").expect("a list");
+    let main = page
+        .find("<main id=\"steps\" tabindex=\"-1\">")
+        .expect("its target");
+    assert!(skip < list && list < main);
+}
+
+/// The keys of the help line are keys that the script knows.
+#[test]
+fn the_help_line_names_keys() {
+    let page = page(&[], explained(ROUTE));
+    let keys: Vec<&str> = page
+        .split("<kbd>")
+        .skip(1)
+        .filter_map(|rest| Some(rest.split_once("</kbd>")?.0))
+        .collect();
+    assert_eq!(keys, ["n", "p"]);
+    for key in keys
+        .iter()
+        .chain(&["Home", "End", "ArrowLeft", "ArrowRight", " "])
+    {
+        assert!(page.contains(&format!("case \"{key}\":")), "{key}");
+    }
+}
+
+/// A disabled button would lose the focus.
+#[test]
+fn no_button_is_disabled() {
+    let page = page(&[], explained(ROUTE));
+    assert_eq!(page.matches("setAttribute(\"aria-disabled\"").count(), 2);
+    assert!(!page.contains(".disabled") && !page.contains(":disabled"));
+}
+
+/// One sentence, with the missing key, and nothing else is announced.
+#[test]
+fn what_is_announced() {
+    let page = page(&[], steps::explain(lesson::named_route()));
+    assert_eq!(page.matches("role=\"status\"").count(), 1);
+    assert!(!page.contains("aria-live"));
+    let said = "data-said=\"Step 13: the February closing (thread 1) writes the totals sheet \
+                (segment 2), refused: no way in (15), S0 is missing.\"";
+    assert!(section(&page, 13).contains(said), "{}", section(&page, 13));
+}
+
+#[test]
+fn names_stand_in_headline_list_and_box() {
+    let page = page(&[], steps::explain(lesson::named_route()));
+    check_nesting(&page);
+    let writes = "The February closing <small>(thread\u{a0}1)</small> writes \
+                  the totals sheet <small>(segment\u{a0}2)</small>";
+    let listed = format!("<span class=\"at\">13</span><span>{writes}</span>");
+    assert!(page.contains(&listed));
+    let step = section(&page, 13);
+    for part in [
+        &format!("<h2 id=\"call-13\">{writes}</h2>"),
+        "<p class=\"why\">S0 is missing: the rate loader <small>(segment\u{a0}0)</small> \
+         hands it over, and this thread has no open call of it.</p>",
+        "<h3>Locks for write on the totals sheet <small>(segment\u{a0}2)</small></h3>",
+        "<b>the February closing <small>(thread\u{a0}1)</small></b>",
+        "<small>of the office <small>(user\u{a0}0)</small>, always held</small>",
+        "<li><b>segment\u{a0}1</b>",
+    ] {
+        assert!(step.contains(part), "{part}\n{step}");
+    }
+    let fallback = "<h2 id=\"call-10\">Thread\u{a0}0 calls segment\u{a0}1</h2>";
+    assert!(section(&page, 10).contains(fallback));
 }
 
 #[test]
 fn nothing_comes_from_elsewhere() {
-    let page = page(&[], &explained(ROUTE));
+    let page = page(&[], explained(ROUTE));
     assert!(page.contains("default-src 'none'"));
     for outside in [
         "http:", "https:", "//", " src=", "url(", "@import", "<link", "<img", "<iframe",
@@ -75,33 +194,36 @@ fn nothing_comes_from_elsewhere() {
 
 #[test]
 fn the_refused_save_says_what_is_missing() {
-    let page = page(&[], &explained(ROUTE));
+    let page = page(&[], explained(ROUTE));
     let refused = section(&page, 13);
     for part in [
         "Thread\u{a0}1 writes segment\u{a0}2</h2>",
         "Refused: no way in (15)<code>no 15 0</code>",
         "<span class=\"lit off\"><code>S0</code>missing</span>",
         "<span class=\"lit\"><code>S1</code>held</span>",
-        "S0 is missing: no call of segment 0 is open",
+        "<p class=\"why\">S0 is missing: segment\u{a0}0 hands it over, \
+         and this thread has no open call of it.</p>",
+        "<p class=\"against\">S0 is missing: segment\u{a0}0 hands it over, \
+         and this thread has no open call of it</p>",
         "<b>Lock 2 stays shut.</b> It grants write if <code>S0&amp;<wbr>S1</code>",
-        "<li><b>segment 1</b>",
+        "<li><b>segment\u{a0}1</b>",
     ] {
         assert!(refused.contains(part), "{part}\n{refused}");
     }
     let granted = section(&page, 12);
     assert!(granted.contains("<div class=\"lock opens decides\">"));
-    assert!(granted.contains("S0 from segment 0, S1 from segment 1"));
+    assert!(granted.contains("S0 from segment\u{a0}0, S1 from segment\u{a0}1"));
     let left = section(&page, 14);
-    assert!(left.contains("<li class=\"left\"><b>segment 1</b>"));
+    assert!(left.contains("<li class=\"left\"><b>segment\u{a0}1 <em>just left</em></b>"));
 }
 
 /// Both calls handed over S0, and only the second D0.
 #[test]
 fn a_key_that_stays_held_is_not_crossed_out() {
     let calls = "U; N 0 0; K 0; L 0 0 1 U0; S 0; C 0 0; G 0 0 0; C 0 0; R 0; E 0";
-    let page = page(&[], &explained(calls));
+    let page = page(&[], explained(calls));
     check_nesting(&page);
-    let left = "<li class=\"left\"><b>segment 0</b><div class=\"keys\">\
+    let left = "<li class=\"left\"><b>segment\u{a0}0 <em>just left</em></b><div class=\"keys\">\
          <code class=\"gone\">D0</code><code>S0</code><i>still held</i></div>";
     assert!(section(&page, 8).contains(left), "{}", section(&page, 8));
     let closed = "<div class=\"keys\"><code class=\"gone\">S0</code></div>";
@@ -111,10 +233,10 @@ fn a_key_that_stays_held_is_not_crossed_out() {
 
 #[test]
 fn a_granted_call_names_the_keys_before_it() {
-    let page = page(&[], &explained("U; N 0 0; S 0; C 0 0; L 0 0 1 !S0; C 0 0"));
+    let page = page(&[], explained("U; N 0 0; S 0; C 0 0; L 0 0 1 !S0; C 0 0"));
     let granted = section(&page, 5);
     for part in [
-        "Lock 0 opened: thread 0 didn&#39;t hold S0.",
+        "Lock\u{a0}0 opened: thread\u{a0}0 didn&#39;t hold S0.",
         "Tried with the keys before the call: <code>U0 R0</code>",
     ] {
         assert!(granted.contains(part), "{part}\n{granted}");
@@ -128,7 +250,7 @@ fn a_granted_call_names_the_keys_before_it() {
 /// A line may break after an operator of a formula, and not inside a key.
 #[test]
 fn formulas_break_after_operators() {
-    let page = page(&[], &explained("U; N 0 1; K 0; L 0 0 2 U0|!(D0&U0)"));
+    let page = page(&[], explained("U; N 0 1; K 0; L 0 0 2 U0|!(D0&U0)"));
     let formula = "<code>U0|<wbr>!(D0&amp;<wbr>U0)</code>";
     let step = section(&page, 3);
     assert_eq!(step.matches(formula).count(), 2, "{step}");
@@ -143,7 +265,7 @@ fn odd_characters_are_shown_by_number() {
     let mut entries = lesson::entries("U; U; S 0");
     entries[0].note = Some("a\u{202e}b\u{200b}c\u{feff}d\u{2028}e\tf".to_string());
     entries[1].note = Some(plain.to_string());
-    let page = page(&["\u{2066}x\u{9b}".to_string()], &steps::explain(entries));
+    let page = page(&["\u{2066}x\u{9b}"], steps::explain(entries));
     let odd = "<p class=\"note\">a\\u{202e}b\\u{200b}c\\u{feff}d\\u{2028}e\\tf</p>";
     assert!(page.contains(odd), "{}", section(&page, 0));
     assert!(section(&page, 1).contains(&format!("<p class=\"note\">{plain}</p>")));
@@ -169,8 +291,7 @@ fn texts_are_escaped() {
     entries.push(lock(&odd).into());
     entries[0].note = Some("</p><script>\u{1}".to_string());
     entries[1].heading = vec!["<b>".to_string(), "</section>".to_string()];
-    let steps = steps::explain(entries);
-    let page = page(&["<i>".to_string()], &steps);
+    let page = page(&["<i>"], steps::explain(entries));
     check_nesting(&page);
     assert_eq!(page.matches("<script>").count(), 2);
     assert_eq!(page.matches("<section ").count(), 5);
@@ -188,35 +309,181 @@ fn expected_answers_are_marked() {
         refusal: 9,
         second: 0,
     });
-    let page = page(&[], &steps::explain(entries));
+    let page = page(&[], steps::explain(entries));
     check_nesting(&page);
     assert!(section(&page, 12).contains("as expected"));
     assert!(section(&page, 13).contains("Expected ok 2, but the answer is no 15 0"));
     assert!(section(&page, 14).contains("Expected no 9 0, but the answer is ok 1"));
     assert!(!section(&page, 15).contains("xpected"));
-    let loud = "<p class=\"alarm\">2 answers aren&#39;t as expected: places 13, 14</p>";
+    let loud = "<p class=\"alarm\">2 answers aren&#39;t as expected: steps 13, 14</p>";
     assert!(page.contains(loud));
     assert_eq!(page.matches("<strong>not as expected</strong>").count(), 2);
+    assert_eq!(
+        page.matches("<a class=\"no odd\" href=\"#step-13\">")
+            .count(),
+        1
+    );
+    assert_eq!(
+        page.matches("<a class=\"ok odd\" href=\"#step-14\">")
+            .count(),
+        1
+    );
 }
 
 #[test]
 fn a_disagreement_is_shown() {
     let mut steps = explained(ROUTE);
     steps[12].disagreement = Some("one & the other".to_string());
-    let page = page(&[], &steps);
+    let page = page(&[], steps.clone());
     let shown = "<p class=\"alarm\">Explanation and guard differ: one &amp; the other</p>";
     assert!(section(&page, 12).contains(shown));
-    assert!(page.contains("1 explanation differs from the guard: place 12"));
+    assert!(page.contains("1 explanation differs from the guard: step 12"));
     let mut out = Vec::new();
-    trace::write(&[], &steps, false, &mut out).expect("a vector takes it");
+    trace::write(&[], steps, false, &mut out).expect("a vector takes it");
     let out = String::from_utf8(out).expect("text");
     assert!(out.contains("WRONG   explanation and guard differ: one & the other\n"));
-    assert!(out.ends_with("\n\n1 explanation differs from the guard: place 12\n"));
+    assert!(out.ends_with("\n\n1 explanation differs from the guard: step 12\n"));
+}
+
+/// The answer as a journal has it stands in one line.
+#[test]
+fn an_answer_does_not_break() {
+    let page = page(&[], explained(ROUTE));
+    let style = page
+        .lines()
+        .find(|line| line.starts_with(".answer .word code {"));
+    assert!(
+        style.is_some_and(|style| style.contains("white-space: nowrap;")),
+        "{style:?}"
+    );
+}
+
+fn numbered(count: usize) -> Vec<String> {
+    (1..=count)
+        .map(|number| format!("Line {number}."))
+        .collect()
+}
+
+/// Of an introduction, 200 lines are drawn and the others counted.
+#[test]
+fn a_long_introduction_is_cut() {
+    for (count, last) in [
+        (200, "<p>Line 200.</p>\n</div>"),
+        (201, "<p>Line 200.</p>\n<p>and 1 more line</p>\n</div>"),
+        (
+            12_545,
+            "<p>Line 200.</p>\n<p>and 12,345 more lines</p>\n</div>",
+        ),
+    ] {
+        let lines = numbered(count);
+        let lines: Vec<&str> = lines.iter().map(String::as_str).collect();
+        let page = page(&lines, explained(ROUTE));
+        check_nesting(&page);
+        assert_eq!(page.matches("<p>Line ").count(), 200, "{count}");
+        assert_eq!(page.matches("more line").count(), usize::from(count > 200));
+        assert!(page.contains(last), "{count}");
+    }
+}
+
+/// And so of a heading.
+#[test]
+fn a_long_heading_is_cut() {
+    for (count, last) in [
+        (200, "<br>Line 200.</p>"),
+        (201, "<br>Line 200.<br>and 1 more line</p>"),
+        (12_545, "<br>Line 200.<br>and 12,345 more lines</p>"),
+    ] {
+        let mut entries = lesson::entries(ROUTE);
+        entries[3].heading = numbered(count);
+        let page = page(&[], steps::explain(entries));
+        check_nesting(&page);
+        let step = section(&page, 3);
+        assert!(step.contains("<p class=\"chapter\"><b>Line 1.</b><br>Line 2."));
+        assert_eq!(step.matches("<br>Line ").count(), 199, "{count}");
+        assert_eq!(page.matches("more line").count(), usize::from(count > 200));
+        assert!(step.contains(last), "{count}");
+    }
 }
 
 #[test]
 fn an_empty_journal() {
-    let page = page(&[], &[]);
+    let page = page(&[], []);
     check_nesting(&page);
     assert!(page.contains("This journal has no calls."));
+}
+
+/// The lines of a part that the script draws from.
+fn lines<'a>(page: &'a str, part: &str) -> Vec<&'a str> {
+    let start = format!("<script type=\"text/html\" class=\"{part}\">");
+    let start = page.find(&start).expect("the part") + start.len();
+    let length = page[start..].find("</script>").expect("its end");
+    page[start..start + length].split('\n').collect()
+}
+
+/// As the script does it: `<5>` is the sixth piece.
+fn drawn(text: &str, pieces: &[&str]) -> String {
+    let mut parts = text.split('<');
+    let mut whole = parts.next().expect("a first part").to_string();
+    for part in parts {
+        let piece = part.split_once('>').filter(|(place, _)| {
+            !place.is_empty() && place.bytes().all(|byte| byte.is_ascii_digit())
+        });
+        whole += &match piece {
+            Some((place, rest)) => {
+                let place: usize = place.parse().expect("a place");
+                drawn(pieces[place], pieces) + rest
+            }
+            None => format!("<{part}"),
+        };
+    }
+    whole
+}
+
+/// The steps of a long journal are drawn later, and are the same.
+#[test]
+fn a_long_journal_is_drawn_from_pieces() {
+    let calls = format!("{ROUTE}; {}", vec!["A 1 2 4"; 500].join("; "));
+    let plain = page(&[], explained(ROUTE));
+    let long = page(&[], explained(&calls));
+    check_nesting(&long);
+    assert!(!plain.contains("<noscript>") && long.contains("<noscript>"));
+    let (sections, pieces) = (lines(&long, "sections"), lines(&long, "pieces"));
+    assert_eq!(sections.len(), 516);
+    assert_eq!(long.matches("<section ").count(), 516);
+    for (place, shown) in sections[..16].iter().enumerate() {
+        let shown = drawn(shown, &pieces);
+        let expected = section(&plain, place).replace('\n', "");
+        assert!(shown.contains(&expected), "{place}\n{shown}\n{expected}");
+        assert!(shown.starts_with("<section ") && shown.ends_with("</section>"));
+    }
+}
+
+/// What stands for a piece, or ends the part that the script draws from, is
+/// escaped in a text as everything else is.
+#[test]
+fn texts_of_a_long_journal_are_escaped() {
+    let calls = vec!["U"; 501].join("; ");
+    let mut entries = lesson::entries(&calls);
+    entries[0].note = Some("<0> </script><!--\n".to_string());
+    let page = page(&[], steps::explain(entries));
+    check_nesting(&page);
+    let (sections, pieces) = (lines(&page, "sections"), lines(&page, "pieces"));
+    assert_eq!(sections.len(), 501);
+    let note = "<p class=\"note\">&lt;0&gt; &lt;/script&gt;&lt;!--\\n</p>";
+    let shown = drawn(sections[0], &pieces);
+    assert!(shown.contains(note), "{shown}");
+}
+
+/// The most calls that a journal holds, and the fullest state at each: the page
+/// stays small, since nothing stands in it twice.
+#[test]
+fn the_page_of_the_fullest_journal_is_modest() {
+    let calls = lesson::fullest();
+    let page = page(&[], steps::explain(lesson::entries(&calls)));
+    let (sections, pieces) = (lines(&page, "sections"), lines(&page, "pieces"));
+    assert!(sections.len() > 7_000, "{}", sections.len());
+    let last = drawn(sections[sections.len() - 1], &pieces);
+    assert_eq!(last.matches("<li><b>segment").count(), 16);
+    assert_eq!(last.matches("<span class=\"lit off\">").count(), 48);
+    assert!(page.len() < 10_000_000, "{} bytes", page.len());
 }

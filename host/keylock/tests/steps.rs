@@ -7,11 +7,10 @@ use keylock::answer::Answer;
 use keylock::steps::{self, Change, Entry, Holder, Step, Tried, shown_keys};
 use keylock::trace;
 use lesson::{ROUTE, explained};
-use reference::calls::{Caller, WORLDS};
-use reference::letter::Letter;
-use reference::random::Random;
-use rotundaaloe::{Guard, Record};
+use rotundaaloe::{Guard, Letter, Record};
 use std::collections::{BTreeMap, BTreeSet};
+use testing::calls::{Caller, WORLDS};
+use testing::random::Random;
 
 /// A step's lock with this number.
 fn lock<'a>(step: &'a Step, number: u16) -> &'a Tried {
@@ -49,7 +48,7 @@ fn a_save_on_the_route() {
     let step = &explained(ROUTE)[12];
     assert_eq!(step.given().to_string(), "ok 2");
     assert_eq!(step.written(), "A 0 2 4");
-    assert_eq!(step.call_in_words(), "thread 0 writes segment 2");
+    assert_eq!(step.call_in_words, "thread 0 writes segment 2");
     assert_eq!(step.reason, "Lock 2 opens: thread 0 holds S0 and S1.");
     let judgement = step.judgement.as_ref().expect("locks decide it");
     assert_eq!(judgement.decided, Some(2));
@@ -77,7 +76,10 @@ fn a_save_off_the_route() {
         ]
     );
     let against = tried.products[0].against();
-    assert_eq!(against, ["S0 is missing: no call of segment 0 is open"]);
+    assert_eq!(
+        against,
+        ["S0 is missing: segment 0 hands it over, and this thread has no open call of it"]
+    );
     assert_eq!(stack(step), [1]);
     assert_eq!(keys(step), "U0 R1 S1");
 }
@@ -94,7 +96,10 @@ fn a_return() {
         other => panic!("{other:?}"),
     }
     let against = lock(&steps[15], 2).products[0].against();
-    assert_eq!(against, ["S1 is missing: no call of segment 1 is open"]);
+    assert_eq!(
+        against,
+        ["S1 is missing: segment 1 hands it over, and this thread has no open call of it"]
+    );
 }
 
 #[test]
@@ -106,7 +111,7 @@ fn a_call_is_judged_on_the_keys_before_it() {
     assert_eq!(keys(&steps[4]), "U0 R0 S0");
     assert_eq!(steps[5].given().to_string(), "no 15 0");
     let against = lock(&steps[5], 0).products[0].against();
-    let because = "S0 is barred, but held: the open call of segment 0 handed it over";
+    let because = "S0 is barred, but held: this thread's open call of segment 0 handed it over";
     assert_eq!(against, [because]);
 }
 
@@ -115,7 +120,7 @@ fn one_part_called_twice() {
     let calls = "U; N 0 0; L 0 0 1 U0; S 0; C 0 0; C 0 0; R 0; R 0";
     let steps = explained(calls);
     assert_eq!(keys(&steps[6]), "U0 R0 S0");
-    let stays = "S0 stays held: another open call handed it over too.";
+    let stays = "S0 stays held: another open call of this thread handed it over too.";
     assert_eq!(steps[6].reason, stays);
     assert_eq!(keys(&steps[7]), "U0 R0");
 }
@@ -235,7 +240,7 @@ fn a_granted_call_is_explained_with_the_keys_before_it() {
     let opened = "Lock 0 opened: thread 0 held U0 but not S0.";
     assert_eq!(steps[4].reason, opened);
     let mut out = Vec::new();
-    trace::write(&[], &steps, false, &mut out).expect("a vector takes it");
+    trace::write(&[], steps, false, &mut out).expect("a vector takes it");
     let out = String::from_utf8(out).expect("text");
     let shown = "   tried   with the keys before the call: U0 R0\n   lock    0 grants";
     assert!(out.contains(shown), "{out}");
@@ -250,9 +255,9 @@ fn keys_given_back_and_keys_that_stay() {
     assert_eq!(
         reasons,
         [
-            "S0, D1 and D0 stay held: another open call handed them over too.",
-            "It gives back S1. D1 stays held: another open call handed it over too.",
-            "S0 and D1 stay held: another open call handed them over too.",
+            "S0, D1 and D0 stay held: another open call of this thread handed them over too.",
+            "It gives back S1. D1 stays held: another open call of this thread handed it over too.",
+            "S0 and D1 stay held: another open call of this thread handed them over too.",
             "It gives back S0, D1 and D0.",
             "It holds no key any more.",
         ]
@@ -260,7 +265,8 @@ fn keys_given_back_and_keys_that_stay() {
     let calls = "U; N 0 0; N 0 0; N 0 0; K 0; K 0; G 0 0 0; G 0 1 1; G 0 2 0; G 0 2 1; \
          L 0 0 1 U0; L 0 1 1 U0; L 0 2 1 U0; S 0; C 0 0; C 0 1; C 0 2; R 0; R 0; E 0";
     let steps = explained(calls);
-    let back = "It gives back S2. D0 and D1 stay held: other open calls handed them over too.";
+    let back = "It gives back S2. \
+                D0 and D1 stay held: other open calls of this thread handed them over too.";
     assert_eq!(steps[17].reason, back);
     let ended = "Its open call is closed, and it holds no key any more.";
     assert_eq!(steps[19].reason, ended);
@@ -297,13 +303,13 @@ fn why_other_calls_are_refused() {
             "4 There is no key D5: 2 keys were made so far.",
             "6 Segment 0 belongs to user 1.",
             "6 Key D1 was made by user 1: only the maker gives it.",
-            "8 D0 is in segment 1's list already: S1 D0.",
-            "9 D1 isn't in segment 1's list: S1 D0.",
+            "8 D0 is in the list of segment 1 already: S1 D0.",
+            "9 D1 isn't in the list of segment 1: S1 D0.",
             "7 Segment 1 is a sheet, which takes read and write only.",
             "7 A lock has some of execute (1), read (2) and write (4), and maybe deny (8).",
             "11 At the end of the text: a key, '!' or '(' is missing there.",
             "11 The key S9 isn't handed out yet.",
-            "11 At 'u', byte 1 of the text: a key, '!' or '(' should stand there.",
+            "11 At 'u', byte 1 of the text: a key has a capital letter.",
             "13 No key set opens it: every product has a key both plain and barred.",
             "7 An access is a read (2) or a write (4).",
             "7 Segment 0 is code: it is called, and not read or written.",
@@ -314,20 +320,228 @@ fn why_other_calls_are_refused() {
 }
 
 #[test]
-fn notes_name_segments() {
-    let mut entries = lesson::entries(ROUTE);
-    entries[1].note = Some("segment 0, the rate loader".to_string());
-    entries[2].note = Some("should be refused later!".to_string());
-    entries[3].note = Some("segment 2: the totals sheet".to_string());
-    entries[7].note = Some("thread 1, of the wrong number".to_string());
-    entries[8].note = Some("thread 1 on its own".to_string());
-    let steps = steps::explain(entries);
-    let named = |thing: &str, name: &str| (thing.to_string(), name.to_string());
-    assert_eq!(steps[12].names, [named("segment 2", "the totals sheet")]);
-    assert_eq!(steps[11].names, []);
+fn which_limit_would_be_passed() {
+    let many = |count: usize, call: &str| vec![call; count].join("; ");
+    let keys = "G 0 0 0; G 0 0 1; G 0 0 2; G 0 0 3; G 0 0 4; G 0 0 5; G 0 0 6; G 0 0 7";
+    let wide = "D0|D1|D2|D3|D4|D5|D6|D7";
+    for (calls, reason) in [
+        (many(33, "U"), "There are 32 users, and no more fit."),
+        (
+            format!("U; {}", many(65, "N 0 0")),
+            "There are 64 segments, and no more fit.",
+        ),
+        (
+            format!("U; {}", many(1_025, "K 0")),
+            "There are 1,024 keys, and no more fit.",
+        ),
+        (
+            format!("U; {}", many(65, "S 0")),
+            "There are 64 live threads, and no more fit.",
+        ),
+        (
+            format!("U; N 0 0; {}; {keys}", many(8, "K 0")),
+            "The list of segment 0 has 8 keys, and no more fit: S0 D0 D1 D2 D3 D4 D5 D6.",
+        ),
+        (
+            format!("U; N 0 0; {}; L 0 0 1 {wide}; L 0 0 1 U0", many(8, "K 0")),
+            "The locks of segment 0 have 8 products and this one 1: over 8 don't fit.",
+        ),
+        (
+            format!("U; N 0 0; L 0 0 1 U0; S 0; {}", many(17, "C 0 0")),
+            "A lock opens, but thread 0 has 16 open calls, and no more fit.",
+        ),
+    ] {
+        let steps = explained(&calls);
+        let (last, before) = steps.split_last().expect("a step");
+        assert_eq!(last.given().to_string(), "no 10 0", "{reason}");
+        assert_eq!(last.reason, reason);
+        assert!(before.iter().all(|step| step.answer.is_ok()), "{reason}");
+    }
+}
+
+#[test]
+fn names_stand_in_every_sentence() {
+    let steps: Vec<Step> = steps::explain(lesson::named_route()).collect();
+    let calls = [3, 11, 13].map(|place| steps[place].call_in_words.as_str());
+    assert_eq!(
+        calls,
+        [
+            "the office (user 0) makes a sheet",
+            "the February closing (thread 1) calls segment 1",
+            "the February closing (thread 1) writes the totals sheet (segment 2)",
+        ]
+    );
+    let answers = [3, 7, 13, 14].map(|place| steps[place].answer_in_words.as_str());
+    let refused = "refused: no way in (15)";
+    assert_eq!(
+        answers,
+        [
+            "the totals sheet (segment 2)",
+            "thread 0",
+            refused,
+            "left segment 1"
+        ]
+    );
+    let reasons = [11, 12, 13].map(|place| steps[place].reason.as_str());
+    assert_eq!(
+        reasons,
+        [
+            "Lock 1 opened: the February closing (thread 1) held U0.",
+            "Lock 2 opens: thread 0 holds S0 and S1.",
+            "S0 is missing: the rate loader (segment 0) hands it over, \
+             and this thread has no open call of it.",
+        ]
+    );
     let calls = &steps[12].thread.as_ref().expect("a thread").calls;
-    let names: Vec<Option<&str>> = calls.iter().map(|call| call.name.as_deref()).collect();
-    assert_eq!(names, [Some("the rate loader"), None]);
+    let said: Vec<&str> = calls.iter().map(|call| call.said.as_str()).collect();
+    assert_eq!(said, ["the rate loader (segment 0)", "segment 1"]);
+    let sources = lock(&steps[12], 2).products[0].sources();
+    let from = "S0 from the rate loader (segment 0), S1 from segment 1";
+    assert_eq!(sources, from);
+}
+
+#[test]
+fn a_step_in_one_sentence() {
+    let mut entries = lesson::named_route();
+    entries[15].expected = Some(Answer::Ok(2));
+    let steps: Vec<Step> = steps::explain(entries).collect();
+    let sentences = [0, 12, 13, 15].map(|place| steps[place].in_a_sentence());
+    assert_eq!(
+        sentences,
+        [
+            "a new user, the office (user 0).",
+            "thread 0 writes the totals sheet (segment 2), granted by lock 2.",
+            "the February closing (thread 1) writes the totals sheet (segment 2), \
+             refused: no way in (15), S0 is missing.",
+            "thread 0 writes the totals sheet (segment 2), \
+             refused: no way in (15), S1 is missing, not as expected.",
+        ]
+    );
+}
+
+/// The reason of the last call, which is refused with 15.
+fn lacking(calls: &str) -> String {
+    let steps = explained(calls);
+    let step = steps.last().expect("a step");
+    assert_eq!(step.given().to_string(), "no 15 0", "{calls}");
+    step.reason.clone()
+}
+
+/// Segments 0 and 1 are code, 2 is a sheet with a lock that D0 opens.
+const DEFINED: &str = "U; N 0 0; N 0 0; N 0 1; K 0; L 0 0 1 U0; L 0 2 4 D0; S 0";
+
+#[test]
+fn a_missing_key_and_where_it_comes_from() {
+    for (calls, lack) in [
+        ("", "no code segment hands it over"),
+        ("G 0 2 0; ", "no code segment hands it over"),
+        (
+            "G 0 1 0; ",
+            "segment 1 hands it over, and this thread has no open call of it",
+        ),
+        (
+            "G 0 0 0; G 0 1 0; ",
+            "segment 0 and segment 1 hand it over, and this thread has no open call of them",
+        ),
+        (
+            "N 0 0; G 0 0 0; G 0 1 0; G 0 3 0; ",
+            "segment 0 and 2 others hand it over, and this thread has no open call of them",
+        ),
+        (
+            "C 0 0; G 0 0 0; ",
+            "segment 0 hands it over, but this thread's open call of it was made before it did",
+        ),
+        (
+            "G 0 0 0; C 0 0; R 0; ",
+            "segment 0 hands it over, and this thread has no open call of it",
+        ),
+    ] {
+        let reason = lacking(&format!("{DEFINED}; {calls}A 0 2 4"));
+        assert_eq!(reason, format!("D0 is missing: {lack}."), "{calls}");
+    }
+    let own = lacking("U; N 0 1; L 0 0 2 S0; S 0; A 0 0 2");
+    let sheet = "S0 is missing: segment 0 is a sheet, and no sheet is called.";
+    assert_eq!(own, sheet);
+    let user = lacking("U; U; N 0 1; L 0 0 2 U1; S 0; A 0 0 2");
+    assert_eq!(user, "U1 is missing: thread 0 runs for user 0.");
+    let thread = lacking("U; S 0; S 0; N 0 1; L 0 0 2 R1; A 0 0 2");
+    assert_eq!(thread, "R1 is missing: this is thread 0.");
+}
+
+#[test]
+fn a_missing_key_has_its_name() {
+    let calls = "U; N 0 0; N 0 1; K 0; G 0 0 0; L 0 1 4 D0; S 0; A 0 1 4";
+    let mut entries = lesson::entries(calls);
+    entries[1].note = Some("segment 0, the audit".to_string());
+    entries[3].note = Some("key D0, the auditor's".to_string());
+    let last = steps::explain(entries).last().expect("a step");
+    let missing = "D0, the auditor's, is missing: \
+                   the audit (segment 0) hands it over, and this thread has no open call of it.";
+    assert_eq!(last.reason, missing);
+}
+
+#[test]
+fn several_missing_keys_and_barred_ones() {
+    let two = lacking("U; N 0 0; N 0 0; N 0 1; K 0; L 0 2 4 S0&S1&D0; S 0; A 0 2 4");
+    let missing = "S0 of segment 0, S1 of segment 1 and D0 are missing: \
+                   no open call of this thread hands them over.";
+    assert_eq!(two, missing);
+    let barred = lacking("U; N 0 0; N 0 1; L 0 1 2 S0&!U0; S 0; A 0 1 2");
+    let both = "S0 is missing: segment 0 hands it over, and this thread has no open call of it; \
+                U0 is barred, but held: it is an identity key of the thread.";
+    assert_eq!(barred, both);
+}
+
+/// Thread 1 has open calls of segments 0 and 1, and they bring thread 0 nothing.
+#[test]
+fn open_calls_of_another_thread() {
+    let world = "U; N 0 0; N 0 0; N 0 1; L 0 0 1 U0; L 0 1 1 U0; S 0; S 0; C 1 0; C 1 1";
+    for (calls, reason) in [
+        (
+            "L 0 2 2 S0",
+            "S0 is missing: segment 0 hands it over, and this thread has no open call of it.",
+        ),
+        (
+            "K 0; G 0 0 0; G 0 1 0; L 0 2 2 D0",
+            "D0 is missing: segment 0 and segment 1 hand it over, \
+             and this thread has no open call of them.",
+        ),
+        (
+            "L 0 2 2 S0&S1",
+            "S0 of segment 0 and S1 of segment 1 are missing: \
+             no open call of this thread hands them over.",
+        ),
+        (
+            "L 0 2 2 !S0; C 0 0; C 0 0",
+            "S0 is barred, but held: 2 open calls of this thread handed it over, \
+             the newest of segment 0.",
+        ),
+    ] {
+        let given = lacking(&format!("{world}; {calls}; A 0 2 2"));
+        assert_eq!(given, reason, "{calls}");
+    }
+}
+
+/// Of several products the one is named that the fewest keys hold shut.
+#[test]
+fn the_nearest_of_several() {
+    let products = lacking("U; N 0 0; N 0 0; N 0 1; L 0 2 4 S0&S1|S1; S 0; A 0 2 4");
+    let nearest = "Lock 0 has 2 products, and none opens. \
+                   Nearest: S1 is missing: segment 1 hands it over, \
+                   and this thread has no open call of it.";
+    assert_eq!(products, nearest);
+    let locks = lacking("U; U; N 0 1; L 0 0 2 U1&!U0; L 0 0 2 U1; L 0 0 10 U1; S 0; A 0 0 2");
+    let nearest = "None of the 2 locks that grant read on segment 0 opens. \
+                   Nearest is lock 1: U1 is missing: thread 0 runs for user 0.";
+    assert_eq!(locks, nearest);
+}
+
+#[test]
+fn a_deny_lock_says_what_opened_it() {
+    let steps = explained("U; N 0 0; N 0 1; L 0 1 2 U0; L 0 1 10 U0&!S0; S 0; A 0 1 2");
+    let denied =
+        "Lock 1 opens: thread 0 holds U0 but not S0. It denies, and a deny beats every grant.";
+    assert_eq!(steps[6].reason, denied);
 }
 
 #[test]
@@ -335,18 +549,21 @@ fn the_terminal_shows_it() {
     let mut entries = lesson::entries(ROUTE);
     entries[15].expected = Some(Answer::Ok(2));
     entries[15].note = Some("\x1b[2J".to_string());
-    let steps = steps::explain(entries);
+    let steps: Vec<Step> = steps::explain(entries).collect();
     let introduction = ["A route.".to_string(), "\x1b[2J".to_string()];
     let text = |colour| {
         let mut out = Vec::new();
-        trace::write(&introduction, &steps, colour, &mut out).expect("a vector takes it");
+        trace::write(&introduction, steps.clone(), colour, &mut out).expect("a vector takes it");
         String::from_utf8(out).expect("text")
     };
     let plain = text(false);
     for line in [
         "13  A 1 2 4        thread 1 writes segment 2        no 15 0  refused: no way in (15)",
         "    lock    2 grants write if S0&S1: stays shut",
-        "              S0 & S1: shut. S0 is missing: no call of segment 0 is open",
+        "    why     S0 is missing: segment 0 hands it over, \
+         and this thread has no open call of it.",
+        "              S0 & S1: shut. \
+         S0 is missing: segment 0 hands it over, and this thread has no open call of it",
         "    stack   thread 1 [U0 R1] > segment 1 [S1]",
         "    keys    U0 R1 S1",
         "    WRONG   expected ok 2",
@@ -359,6 +576,25 @@ fn the_terminal_shows_it() {
     );
     assert!(!plain.contains('\x1b') && text(true).contains("\x1b[31m"));
     assert!(plain.contains("    note    \\u{1b}[2J\n"), "{plain}");
+}
+
+#[test]
+fn the_fullest_journal() {
+    let calls = lesson::fullest();
+    let last = steps::explain(lesson::entries(&calls)).last();
+    let last = last.expect("a step");
+    assert_eq!(last.disagreement, None);
+    assert_eq!(stack(&last), (0..16).collect::<Vec<u16>>());
+    let keys = &last.thread.as_ref().expect("a thread").keys;
+    assert_eq!(keys.len(), 2 + 16 * 8);
+    let keys = "D112, D113, D114, D115, D116 and D117";
+    assert_eq!(
+        last.reason,
+        format!(
+            "None of the 8 locks that grant write on segment 16 opens. \
+             Nearest is lock 16: {keys} are missing: no open call of this thread hands them over."
+        )
+    );
 }
 
 /// Every answer has an explanation that leads to it, and the locks decide in
@@ -396,14 +632,14 @@ fn random_lists() {
 
 fn random_list(
     random: &mut Random,
-    world: &reference::calls::World,
+    world: &testing::calls::World,
 ) -> Vec<reference::journal::Record> {
     let mut guard = Guard::new();
     let mut caller = Caller::new(random, world);
     let mut records = Vec::new();
     for _ in 0..caller.length() {
         let record = caller.next_call();
-        if let Ok(answer) = guard.call(&borrowed(&record)) {
+        if let Ok(answer) = guard.call(borrowed(&record)) {
             caller.learn(&record, answer);
         }
         records.push(record);

@@ -6,17 +6,9 @@
 //! finds [`Refusal::Malformed`], making the products of every node finds
 //! [`Refusal::TooWide`], and the finished sum is or isn't empty.
 
+use crate::limits::{MAX_DEPTH, MAX_LITERALS, MAX_PRODUCTS, MAX_TEXT_BYTES};
 use crate::{Issued, Key, Kind, Refusal};
 use std::collections::BTreeSet;
-
-/// The longest text, in bytes.
-pub const MAX_BYTES: usize = 96;
-/// The most brackets that may be open at one place of a text.
-pub const MAX_DEPTH: usize = 8;
-/// The most products of a node.
-pub const MAX_PRODUCTS: usize = 8;
-/// The most literals of a product.
-pub const MAX_LITERALS: usize = 6;
 
 /// A key that must be in the key set, or, barred, one that must not (document
 /// 01: signed key). Literals are ordered by their keys, so the two literals of
@@ -150,6 +142,26 @@ pub fn compile(text: &[u8], issued: &Issued) -> Result<Vec<Product>, Refusal> {
     Ok(products)
 }
 
+/// Reads a whole text by operator precedence. The only refusal is
+/// [`Refusal::Malformed`].
+pub fn parse(text: &[u8], issued: &Issued) -> Result<Formula, Refusal> {
+    if text.len() > MAX_TEXT_BYTES {
+        return Err(Refusal::Malformed);
+    }
+    let mut reader = Reader::new(issued);
+    let mut rest = text;
+    loop {
+        rest = reader.operand(rest)?;
+        rest = reader.closing_brackets(rest)?;
+        rest = match rest {
+            [] => return reader.whole(),
+            [b'&', after @ ..] => reader.operator(Waiting::And, after),
+            [b'|', after @ ..] => reader.operator(Waiting::Or, after),
+            _ => return Err(Refusal::Malformed),
+        };
+    }
+}
+
 /// What has been read and waits for its right side, or for its closing
 /// bracket. From the loosest to the tightest.
 #[derive(Clone, Copy, PartialEq, Eq, PartialOrd, Ord)]
@@ -160,89 +172,100 @@ enum Waiting {
     Not,
 }
 
-/// Reads a whole text by operator precedence, with a stack of finished
-/// formulas and one of what waits. The only refusal is [`Refusal::Malformed`].
-pub fn parse(text: &[u8], issued: &Issued) -> Result<Formula, Refusal> {
-    if text.is_empty() || text.len() > MAX_BYTES {
-        return Err(Refusal::Malformed);
-    }
-    let mut finished: Vec<Formula> = Vec::new();
-    let mut waiting: Vec<Waiting> = Vec::new();
-    let mut depth = 0;
-    // The text alternates: an operand, then an operator, then an operand.
-    let mut operand_next = true;
-    let mut rest = text;
-    while let Some((&byte, after)) = rest.split_first() {
-        rest = after;
-        match (operand_next, byte) {
-            (true, b'!') => waiting.push(Waiting::Not),
-            (true, b'(') => {
-                depth += 1;
-                if depth > MAX_DEPTH {
-                    return Err(Refusal::Malformed);
-                }
-                waiting.push(Waiting::Bracket);
-            }
-            (true, letter) => {
-                let digits = rest.iter().take_while(|b| b.is_ascii_digit()).count();
-                let (number, after) = rest.split_at(digits);
-                let key = key(letter, number).ok_or(Refusal::Malformed)?;
-                if !issued.contains(key) {
-                    return Err(Refusal::Malformed);
-                }
-                finished.push(Formula::Key(key));
-                operand_next = false;
-                rest = after;
-            }
-            (false, b'&') => {
-                settle(&mut finished, &mut waiting, Waiting::And);
-                waiting.push(Waiting::And);
-                operand_next = true;
-            }
-            (false, b'|') => {
-                settle(&mut finished, &mut waiting, Waiting::Or);
-                waiting.push(Waiting::Or);
-                operand_next = true;
-            }
-            (false, b')') => {
-                settle(&mut finished, &mut waiting, Waiting::Or);
-                if waiting.pop() != Some(Waiting::Bracket) {
-                    return Err(Refusal::Malformed);
-                }
-                depth -= 1;
-            }
-            (false, _) => return Err(Refusal::Malformed),
+/// A text that has been read up to some place. Each function reads on from there
+/// and answers what is left.
+struct Reader<'a> {
+    issued: &'a Issued,
+    finished: Vec<Formula>,
+    waiting: Vec<Waiting>,
+    /// The brackets among what waits.
+    depth: usize,
+}
+
+impl<'a> Reader<'a> {
+    fn new(issued: &'a Issued) -> Reader<'a> {
+        Reader {
+            issued,
+            finished: Vec::new(),
+            waiting: Vec::new(),
+            depth: 0,
         }
     }
-    if operand_next {
-        return Err(Refusal::Malformed);
-    }
-    settle(&mut finished, &mut waiting, Waiting::Or);
-    if !waiting.is_empty() {
-        // A bracket is still open.
-        return Err(Refusal::Malformed);
-    }
-    Ok(take(&mut finished))
-}
 
-/// Builds the nodes of all that waits on top and binds at least as tight as
-/// `bound`. What binds just as tight is built first, so AND and OR group to the
-/// left.
-fn settle(finished: &mut Vec<Formula>, waiting: &mut Vec<Waiting>, bound: Waiting) {
-    while let Some(operator) = waiting.pop_if(|operator| *operator >= bound) {
-        let right = Box::new(take(finished));
-        let node = match operator {
-            Waiting::Not => Formula::Not(right),
-            Waiting::And => Formula::And(Box::new(take(finished)), right),
-            Waiting::Or => Formula::Or(Box::new(take(finished)), right),
-            Waiting::Bracket => unreachable!("a bracket is looser than every bound"),
-        };
-        finished.push(node);
+    /// A key, after any number of NOTs and opening brackets.
+    fn operand<'t>(&mut self, mut rest: &'t [u8]) -> Result<&'t [u8], Refusal> {
+        while let Some((&byte, after)) = rest.split_first() {
+            rest = after;
+            match byte {
+                b'!' => self.waiting.push(Waiting::Not),
+                b'(' if self.depth < MAX_DEPTH => {
+                    self.depth += 1;
+                    self.waiting.push(Waiting::Bracket);
+                }
+                letter => return self.key(letter, rest),
+            }
+        }
+        Err(Refusal::Malformed)
     }
-}
 
-fn take(finished: &mut Vec<Formula>) -> Formula {
-    finished.pop().expect("every operator has its operands")
+    /// The number of a key with this letter.
+    fn key<'t>(&mut self, letter: u8, rest: &'t [u8]) -> Result<&'t [u8], Refusal> {
+        let digits = rest.iter().take_while(|b| b.is_ascii_digit()).count();
+        let (number, after) = rest.split_at(digits);
+        let key = key(letter, number).filter(|key| self.issued.contains(*key));
+        let key = key.ok_or(Refusal::Malformed)?;
+        self.finished.push(Formula::Key(key));
+        Ok(after)
+    }
+
+    fn closing_brackets<'t>(&mut self, mut rest: &'t [u8]) -> Result<&'t [u8], Refusal> {
+        while let Some(after) = rest.strip_prefix(b")") {
+            self.settle(Waiting::Or);
+            if self.waiting.pop() != Some(Waiting::Bracket) {
+                return Err(Refusal::Malformed);
+            }
+            self.depth -= 1;
+            rest = after;
+        }
+        Ok(rest)
+    }
+
+    fn operator<'t>(&mut self, operator: Waiting, rest: &'t [u8]) -> &'t [u8] {
+        self.settle(operator);
+        self.waiting.push(operator);
+        rest
+    }
+
+    /// The formula of a text that is read to its end. No bracket may be open.
+    fn whole(mut self) -> Result<Formula, Refusal> {
+        self.settle(Waiting::Or);
+        match self.waiting.is_empty() {
+            true => Ok(self.take()),
+            false => Err(Refusal::Malformed),
+        }
+    }
+
+    /// Builds the nodes of all that waits on top and binds at least as tight as
+    /// `bound`. What binds just as tight is built first, so AND and OR group to
+    /// the left.
+    fn settle(&mut self, bound: Waiting) {
+        while let Some(operator) = self.waiting.pop_if(|operator| *operator >= bound) {
+            let right = Box::new(self.take());
+            let node = match operator {
+                Waiting::Not => Formula::Not(right),
+                Waiting::And => Formula::And(Box::new(self.take()), right),
+                Waiting::Or => Formula::Or(Box::new(self.take()), right),
+                Waiting::Bracket => unreachable!("a bracket is looser than every bound"),
+            };
+            self.finished.push(node);
+        }
+    }
+
+    fn take(&mut self) -> Formula {
+        self.finished
+            .pop()
+            .expect("every operator has its operands")
+    }
 }
 
 /// The key with this letter and these digits, if they spell one.

@@ -9,32 +9,14 @@ mod refusal;
 
 pub use refusal::Refusal;
 
+use crate::call::Call;
 use crate::formula::{self, Product};
-use crate::letter::Letter;
+use crate::limits::{
+    LOCK_NUMBERS, MAX_DEFINED_KEYS, MAX_FRAMES, MAX_LIST_KEYS, MAX_LIVE_THREADS,
+    MAX_SEGMENT_PRODUCTS, MAX_SEGMENTS, MAX_USERS, THREAD_NUMBERS,
+};
+use crate::operations::{DENY, EXECUTE, READ, WRITE};
 use crate::{Issued, Key, Kind};
-
-/// The most users.
-pub const MAX_USERS: usize = 32;
-/// The most live threads at a time.
-pub const MAX_LIVE_THREADS: usize = 64;
-/// The most segments.
-pub const MAX_SEGMENTS: usize = 64;
-/// The most defined keys.
-pub const MAX_DEFINED_KEYS: usize = 1_024;
-/// The most keys in an object key list, the segment's own included.
-pub const MAX_LIST_KEYS: usize = 8;
-/// The most products in all standing locks of a segment.
-pub const MAX_SEGMENT_PRODUCTS: usize = 8;
-/// The most frames of a thread.
-pub const MAX_FRAMES: usize = 16;
-/// The thread numbers, and as many lock numbers, that are ever handed out.
-pub const NUMBERS: u32 = 65_536;
-
-pub const EXECUTE: u16 = 1;
-pub const READ: u16 = 2;
-pub const WRITE: u16 = 4;
-/// Stands among a lock's operations where it is a deny lock.
-pub const DENY: u16 = 8;
 
 /// A call's answer, or why it is refused.
 pub type Answer = Result<u16, Refusal>;
@@ -82,7 +64,7 @@ pub enum SegmentKind {
 pub struct Segment {
     owner: u16,
     kind: SegmentKind,
-    /// The object key list without the segment's own key, in the order of
+    /// The key list without the segment's own key, in the order of
     /// giving.
     defined: Vec<u16>,
     /// The standing locks, by rising number.
@@ -98,7 +80,7 @@ impl Segment {
         }
     }
 
-    /// The length of the object key list.
+    /// The length of the key list.
     fn list_length(&self) -> usize {
         1 + self.defined.len()
     }
@@ -171,19 +153,28 @@ impl Guard {
     /// One call by its letter. What the call doesn't name must be 0, and a call
     /// without a text has none.
     pub fn call(&mut self, letter: u8, a: u16, b: u16, c: u16, text: &[u8]) -> Answer {
-        match Letter::of_call(letter, [a, b, c], text.len()).ok_or(Refusal::Corrupt)? {
-            Letter::NewUser => self.new_user(),
-            Letter::StartThread => self.start_thread(a),
-            Letter::EndThread => self.end_thread(a),
-            Letter::NewSegment => self.new_segment(a, b),
-            Letter::NewKey => self.new_key(a),
-            Letter::GiveKey => self.give_key(a, b, c),
-            Letter::TakeKey => self.take_key(a, b, c),
-            Letter::AddLock => self.make_lock(a, b, c, text),
-            Letter::DropLock => self.drop_lock(a, b),
-            Letter::CallSegment => self.call_segment(a, b),
-            Letter::ReturnCall => self.return_call(a),
-            Letter::Access => self.access(a, b, c),
+        match Call::of_parts(letter, [a, b, c], text).ok_or(Refusal::Corrupt)? {
+            Call::NewUser => self.new_user(),
+            Call::StartThread { user } => self.start_thread(user),
+            Call::EndThread { thread } => self.end_thread(thread),
+            Call::NewSegment { user, kind } => self.new_segment(user, kind),
+            Call::NewKey { user } => self.new_key(user),
+            Call::GiveKey { user, segment, key } => self.give_key(user, segment, key),
+            Call::TakeKey { user, segment, key } => self.take_key(user, segment, key),
+            Call::AddLock {
+                user,
+                segment,
+                operations,
+                text,
+            } => self.add_lock(user, segment, operations, text),
+            Call::DropLock { user, lock } => self.drop_lock(user, lock),
+            Call::CallSegment { thread, segment } => self.call_segment(thread, segment),
+            Call::ReturnCall { thread } => self.return_call(thread),
+            Call::Access {
+                thread,
+                segment,
+                operation,
+            } => self.access(thread, segment, operation),
         }
     }
 
@@ -199,7 +190,7 @@ impl Guard {
     pub fn start_thread(&mut self, user: u16) -> Answer {
         self.known_user(user)?;
         below_limit(self.threads.len(), MAX_LIVE_THREADS)?;
-        let number = next_number(self.threads_started)?;
+        let number = next_number(self.threads_started, THREAD_NUMBERS)?;
         self.threads_started += 1;
         self.threads.push(Thread {
             number,
@@ -274,11 +265,11 @@ impl Guard {
     }
 
     /// L. Answers the lock.
-    pub fn make_lock(&mut self, user: u16, segment: u16, operations: u16, text: &[u8]) -> Answer {
+    pub fn add_lock(&mut self, user: u16, segment: u16, operations: u16, text: &[u8]) -> Answer {
         self.known_user(user)?;
         self.known_segment(segment)?;
         let issued = self.issued();
-        let number = next_number(self.locks_made);
+        let number = next_number(self.locks_made, LOCK_NUMBERS);
         let segment = self.owned_segment(user, segment)?;
         let taken = segment.operations();
         if operations & !(taken | DENY) != 0 || operations & taken == 0 {
@@ -408,9 +399,9 @@ fn below_limit(count: usize, limit: usize) -> Result<(), Refusal> {
     }
 }
 
-/// The number that follows this many.
-fn next_number(count: u32) -> Result<u16, Refusal> {
-    if count < NUMBERS {
+/// The number that follows this many, of so many in all.
+fn next_number(count: u32, numbers: u32) -> Result<u16, Refusal> {
+    if count < numbers {
         Ok(count as u16)
     } else {
         Err(Refusal::Full)

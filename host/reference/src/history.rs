@@ -3,9 +3,12 @@
 //! call. It sees no guard. A lock is its formula here, asked of a whole key set;
 //! no products are made to judge it.
 
+use crate::call::Call;
 use crate::formula::{self, Formula};
 use crate::journal::Record;
 use crate::letter::Letter;
+use crate::limits::MAX_FRAMES;
+use crate::operations::{DENY, EXECUTE, READ, WRITE};
 use crate::{Issued, Key, Kind};
 use std::collections::{BTreeMap, BTreeSet};
 
@@ -44,8 +47,15 @@ impl Lock {
     }
 
     pub fn denies(&self) -> bool {
-        self.operations & 8 == 8
+        self.operations & DENY == DENY
     }
+}
+
+/// What a C or an A asks for.
+struct Operation {
+    thread: u16,
+    segment: u16,
+    number: u16,
 }
 
 /// What the history says of a live thread's fitting C or A.
@@ -56,7 +66,7 @@ pub enum Verdict {
     /// By the lowest deny lock that opens.
     Denied(u16),
     NotGranted,
-    /// A grant lock and no deny lock opens, but sixteen calls are open.
+    /// A grant lock and no deny lock opens, but the most calls are open.
     Full,
 }
 
@@ -75,114 +85,145 @@ impl History {
     }
 
     /// Takes in a call with its answer, or with `None` if it was refused.
-    pub fn feed(&mut self, call: &Record, answer: Option<u16>) {
-        let (Some(letter), Some(answer)) = (Letter::of(call.letter), answer) else {
+    pub fn feed(&mut self, record: &Record, answer: Option<u16>) {
+        let (Some(call), Some(answer)) = (Call::of(record), answer) else {
             return;
         };
-        let (a, b, c) = (call.a, call.b, call.c);
-        let key = |kind, number| Key { kind, number };
-        match letter {
-            Letter::StartThread => {
-                let thread = Thread {
-                    user: a,
-                    open_calls: Vec::new(),
-                };
-                self.live.insert(answer, thread);
+        self.accept(call, answer);
+        *self.accepted.entry(call.letter()).or_default() += 1;
+    }
+
+    fn accept(&mut self, call: Call, answer: u16) {
+        match call {
+            Call::NewUser | Call::NewKey { .. } | Call::Access { .. } => {}
+            Call::StartThread { user } => self.start(answer, user),
+            Call::EndThread { thread } => {
+                self.live.remove(&thread);
             }
-            Letter::EndThread => {
-                self.live.remove(&a);
+            Call::NewSegment { user, kind } => self.hand_out(answer, user, kind),
+            Call::GiveKey { segment, key, .. } => self.segment_mut(segment).list.push(defined(key)),
+            Call::TakeKey { segment, key, .. } => {
+                let list = &mut self.segment_mut(segment).list;
+                list.retain(|given| *given != defined(key));
             }
-            Letter::NewSegment => {
-                let segment = Segment {
-                    owner: a,
-                    sheet: b == 1,
-                    list: vec![key(Kind::Segment, answer)],
-                };
-                self.segments.insert(answer, segment);
+            Call::AddLock {
+                segment,
+                operations,
+                text,
+                ..
+            } => self.stand(answer, segment, operations, text),
+            Call::DropLock { lock, .. } => {
+                self.standing.remove(&lock);
             }
-            Letter::GiveKey => self.segment_mut(b).list.push(key(Kind::Defined, c)),
-            Letter::TakeKey => {
-                let taken = key(Kind::Defined, c);
-                self.segment_mut(b).list.retain(|given| *given != taken);
+            Call::CallSegment { thread, segment } => {
+                let list = self.segment_mut(segment).list.clone();
+                let call = OpenCall { segment, list };
+                self.thread_mut(thread).open_calls.push(call);
             }
-            Letter::AddLock => {
-                let formula = formula::parse(&call.text, &self.issued());
-                let lock = Lock {
-                    segment: b,
-                    operations: c,
-                    formula: formula.expect("an accepted text is in the grammar"),
-                };
-                self.standing.insert(answer, lock);
+            Call::ReturnCall { thread } => {
+                self.thread_mut(thread).open_calls.pop();
             }
-            Letter::DropLock => {
-                self.standing.remove(&b);
-            }
-            Letter::CallSegment => {
-                let list = self.segment_mut(b).list.clone();
-                let call = OpenCall { segment: b, list };
-                self.thread_mut(a).open_calls.push(call);
-            }
-            Letter::ReturnCall => {
-                self.thread_mut(a).open_calls.pop();
-            }
-            Letter::NewUser | Letter::NewKey | Letter::Access => {}
         }
-        *self.accepted.entry(letter).or_default() += 1;
+    }
+
+    fn start(&mut self, thread: u16, user: u16) {
+        let open_calls = Vec::new();
+        self.live.insert(thread, Thread { user, open_calls });
+    }
+
+    fn hand_out(&mut self, number: u16, owner: u16, kind: u16) {
+        let own = Key {
+            kind: Kind::Segment,
+            number,
+        };
+        let segment = Segment {
+            owner,
+            sheet: kind == 1,
+            list: vec![own],
+        };
+        self.segments.insert(number, segment);
+    }
+
+    fn stand(&mut self, lock: u16, segment: u16, operations: u16, text: &[u8]) {
+        let formula = formula::parse(text, &self.issued());
+        let standing = Lock {
+            segment,
+            operations,
+            formula: formula.expect("an accepted text is in the grammar"),
+        };
+        self.standing.insert(lock, standing);
     }
 
     /// The answer of a call, if it is accepted now. `None` where a field
     /// names what isn't there, so that it can't be.
-    pub fn answer(&self, call: &Record) -> Option<u32> {
-        let letter = Letter::of(call.letter)?;
-        match letter {
-            Letter::NewUser
-            | Letter::StartThread
-            | Letter::NewSegment
-            | Letter::NewKey
-            | Letter::AddLock => Some(self.count(letter)),
-            Letter::EndThread => Some(self.live.get(&call.a)?.open_calls.len() as u32),
-            Letter::GiveKey => Some(self.segments.get(&call.b)?.list.len() as u32 + 1),
-            Letter::TakeKey => Some(self.segments.get(&call.b)?.list.len() as u32 - 1),
-            Letter::DropLock => {
-                let sum = self.standing.get(&call.b)?.formula.sum_of_products();
+    pub fn answer(&self, record: &Record) -> Option<u32> {
+        let call = Call::of(record)?;
+        let keys = |segment| Some(self.segments.get(&segment)?.list.len() as u32);
+        let open_calls = |thread| Some(&self.live.get(&thread)?.open_calls);
+        match call {
+            Call::NewUser
+            | Call::StartThread { .. }
+            | Call::NewSegment { .. }
+            | Call::NewKey { .. }
+            | Call::AddLock { .. } => Some(self.count(call.letter())),
+            Call::EndThread { thread } => Some(open_calls(thread)?.len() as u32),
+            Call::GiveKey { segment, .. } => Some(keys(segment)? + 1),
+            Call::TakeKey { segment, .. } => Some(keys(segment)? - 1),
+            Call::DropLock { lock, .. } => {
+                let sum = self.standing.get(&lock)?.formula.sum_of_products();
                 Some(sum.expect("an accepted text fits").len() as u32)
             }
-            Letter::ReturnCall => Some(u32::from(
-                self.live.get(&call.a)?.open_calls.last()?.segment,
-            )),
-            Letter::CallSegment | Letter::Access => match self.verdict(call)? {
+            Call::ReturnCall { thread } => Some(u32::from(open_calls(thread)?.last()?.segment)),
+            Call::CallSegment { .. } | Call::Access { .. } => match self.verdict(record)? {
                 Verdict::Granted(lock) => Some(u32::from(lock)),
                 Verdict::Denied(_) | Verdict::NotGranted | Verdict::Full => None,
             },
         }
     }
 
-    /// The operation of a call that the locks decide, a live thread's fitting C
-    /// or A; `None` for other calls.
-    pub fn operation(&self, call: &Record) -> Option<u16> {
-        let letter = Letter::of(call.letter)?;
-        self.live.get(&call.a)?;
-        let segment = self.segments.get(&call.b)?;
-        let (operation, fits) = match letter {
-            Letter::CallSegment => (1, call.c == 0 && !segment.sheet),
-            Letter::Access => (call.c, matches!(call.c, 2 | 4) && segment.sheet),
-            Letter::NewUser | Letter::NewSegment | Letter::NewKey => return None,
-            Letter::StartThread | Letter::EndThread | Letter::ReturnCall => return None,
-            Letter::GiveKey | Letter::TakeKey => return None,
-            Letter::AddLock | Letter::DropLock => return None,
+    /// The number of the operation that a call asks for; `None` where the locks
+    /// don't decide it.
+    pub fn operation(&self, record: &Record) -> Option<u16> {
+        Some(self.asked(record)?.number)
+    }
+
+    /// What a live thread's fitting C or A asks for; `None` for other calls.
+    fn asked(&self, record: &Record) -> Option<Operation> {
+        let (thread, segment, number, sheet) = match Call::of(record)? {
+            Call::CallSegment { thread, segment } => (thread, segment, EXECUTE, false),
+            Call::Access {
+                thread,
+                segment,
+                operation: number @ (READ | WRITE),
+            } => (thread, segment, number, true),
+            Call::Access { .. } => return None,
+            Call::NewUser | Call::NewSegment { .. } | Call::NewKey { .. } => return None,
+            Call::StartThread { .. } | Call::EndThread { .. } => return None,
+            Call::GiveKey { .. } | Call::TakeKey { .. } => return None,
+            Call::AddLock { .. } | Call::DropLock { .. } => return None,
+            Call::ReturnCall { .. } => return None,
         };
-        (fits && call.text.is_empty()).then_some(operation)
+        let fits = self.live.contains_key(&thread) && self.segments.get(&segment)?.sheet == sheet;
+        fits.then_some(Operation {
+            thread,
+            segment,
+            number,
+        })
     }
 
     /// The verdict on a live thread's fitting C or A; `None` for other calls.
-    pub fn verdict(&self, call: &Record) -> Option<Verdict> {
-        let operation = self.operation(call)?;
-        let thread = self.live.get(&call.a)?;
-        let keys = key_set(call.a, thread);
+    pub fn verdict(&self, record: &Record) -> Option<Verdict> {
+        let Operation {
+            thread,
+            segment,
+            number,
+        } = self.asked(record)?;
+        let keys = self.key_set(thread)?;
+        let full = number == EXECUTE && self.live[&thread].open_calls.len() >= MAX_FRAMES;
         // Locks come by rising number.
         let opening = |deny: bool| {
             self.standing.iter().find(|(_, lock)| {
-                lock.stands_for(call.b, operation)
+                lock.stands_for(segment, number)
                     && lock.denies() == deny
                     && lock.formula.holds(&keys)
             })
@@ -190,7 +231,7 @@ impl History {
         Some(match (opening(true), opening(false)) {
             (Some((deny, _)), _) => Verdict::Denied(*deny),
             (None, None) => Verdict::NotGranted,
-            (None, Some(_)) if operation == 1 && thread.open_calls.len() >= 16 => Verdict::Full,
+            (None, Some(_)) if full => Verdict::Full,
             (None, Some((grant, _))) => Verdict::Granted(*grant),
         })
     }
@@ -257,4 +298,9 @@ fn key_set(number: u16, thread: &Thread) -> BTreeSet<Key> {
     let mut keys = BTreeSet::from([key(Kind::User, thread.user), key(Kind::Thread, number)]);
     keys.extend(thread.open_calls.iter().flat_map(|call| &call.list));
     keys
+}
+
+fn defined(number: u16) -> Key {
+    let kind = Kind::Defined;
+    Key { kind, number }
 }

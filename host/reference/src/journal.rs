@@ -6,12 +6,9 @@
 //! Numbers have 16 bits, low byte first.
 
 use crate::letter::Letter;
+use crate::limits::{MAX_JOURNAL_BYTES, MAX_TEXT_BYTES};
 use std::ops::Range;
 
-/// The most bytes of a file.
-pub const MAX_FILE_BYTES: usize = 65_535;
-/// The most bytes of a record's text.
-pub const MAX_TEXT_BYTES: usize = 96;
 /// The bytes before the first record: mark, version and count. The first
 /// record's cursor is this.
 pub const HEAD_BYTES: usize = 7;
@@ -147,7 +144,7 @@ pub fn record_at(file: &[u8], cursor: usize) -> Step {
 /// Whether a file is readable. Builds nothing.
 pub fn check(file: &[u8]) -> Result<(), Refusal> {
     let count = count(file)?;
-    if file.len() > MAX_FILE_BYTES {
+    if file.len() > MAX_JOURNAL_BYTES {
         return Err(Refusal::Corrupt);
     }
     let mut cursor = HEAD_BYTES;
@@ -248,7 +245,7 @@ pub fn append(buffer: &mut [u8], length: usize, record: &Record) -> Result<usize
         return Err(Refusal::Corrupt);
     }
     let end = length + record.size();
-    if end > buffer.len() || end > MAX_FILE_BYTES {
+    if end > buffer.len() || end > MAX_JOURNAL_BYTES {
         return Err(Refusal::Full);
     }
     // A readable file has fewer than 65,535 records: each has 9 bytes or more.

@@ -1,6 +1,7 @@
-//! The calls' letters and the fields that each names, in one table (document 01,
-//! the table of calls). A journal keeps a letter as its byte, which may be any;
-//! whoever asks which call it is matches on a [`Letter`].
+//! The calls' letters, and what the fields of each call name. A journal keeps a
+//! letter as its byte, which may be any.
+
+pub use crate::table::Letter;
 
 /// What a field of a call names.
 #[derive(Clone, Copy, Debug, PartialEq, Eq, PartialOrd, Ord)]
@@ -29,76 +30,6 @@ impl Field {
     }
 }
 
-macro_rules! letters {
-    ($($name:ident = $byte:literal [$($field:ident),*] $($text:ident)?;)*) => {
-        /// A call's letter.
-        #[derive(Clone, Copy, Debug, PartialEq, Eq, PartialOrd, Ord)]
-        #[repr(u8)]
-        pub enum Letter {
-            $($name = $byte,)*
-        }
-
-        impl Letter {
-            /// All of them, in document 01's order.
-            pub const ALL: [Letter; [$($byte),*].len()] = [$(Letter::$name),*];
-
-            /// The letter that this byte is, if it is one.
-            pub const fn of(byte: u8) -> Option<Letter> {
-                match byte {
-                    $($byte => Some(Letter::$name),)*
-                    _ => None,
-                }
-            }
-
-            /// The letter of a call of a known shape: 0 in every field that it
-            /// doesn't name, and a text only where it has one. Inlined, so that
-            /// a `match` on it goes from the byte to its arm at once.
-            #[inline(always)]
-            pub fn of_call(byte: u8, fields: [u16; 3], text_length: usize) -> Option<Letter> {
-                match byte {
-                    $($byte => {
-                        let text_fits = text_length == 0 || Letter::$name.has_text();
-                        let fits = text_fits && Letter::$name.unnamed_are_0(fields);
-                        fits.then_some(Letter::$name)
-                    })*
-                    _ => None,
-                }
-            }
-
-            /// What its call's fields name, from a on. The others are 0.
-            pub const fn fields(self) -> &'static [Field] {
-                match self {
-                    $(Letter::$name => &[$(Field::$field),*],)*
-                }
-            }
-
-            /// Whether its call has a text.
-            pub const fn has_text(self) -> bool {
-                match self {
-                    $(Letter::$name => letters!(@is $($text)?),)*
-                }
-            }
-        }
-    };
-    (@is text) => { true };
-    (@is) => { false };
-}
-
-letters! {
-    NewUser = b'U' [];
-    StartThread = b'S' [User];
-    EndThread = b'E' [Thread];
-    NewSegment = b'N' [User, Kind];
-    NewKey = b'K' [User];
-    GiveKey = b'G' [User, Segment, Key];
-    TakeKey = b'T' [User, Segment, Key];
-    AddLock = b'L' [User, Segment, Operations] text;
-    DropLock = b'D' [User, Lock];
-    CallSegment = b'C' [Thread, Segment];
-    ReturnCall = b'R' [Thread];
-    Access = b'A' [Thread, Segment, Operation];
-}
-
 impl Letter {
     pub const fn byte(self) -> u8 {
         self as u8
@@ -108,11 +39,13 @@ impl Letter {
         self as u8 as char
     }
 
-    /// Whether every field that its call doesn't name is 0.
+    /// Whether a call with this letter is well formed: 0 in every field that it
+    /// doesn't name, and a text only where it has one.
     #[inline(always)]
-    const fn unnamed_are_0(self, [a, b, c]: [u16; 3]) -> bool {
+    pub const fn is_well_formed(self, [a, b, c]: [u16; 3], text_length: usize) -> bool {
         let named = self.fields().len();
-        (named > 0 || a == 0) && (named > 1 || b == 0) && (named > 2 || c == 0)
+        let unnamed_are_0 = (named > 0 || a == 0) && (named > 1 || b == 0) && (named > 2 || c == 0);
+        unnamed_are_0 && (text_length == 0 || self.has_text())
     }
 }
 

@@ -6,21 +6,22 @@
 //!
 //! Two layers know nothing of each other: [`formula`], from a formula text to a
 //! sum of products, and [`journal`], the file of call records. Over the first
-//! stands the [`guard`], and [`replay`] joins the two; all three know a call by
-//! its [`letter`]. The [`history`] is a second opinion on what a guard grants,
-//! read from calls and answers alone.
-//! [`random`], [`calls`], [`trials`] and [`written`] are input for tests.
+//! stands the [`guard`], and [`replay`] joins the two. The [`history`] is a second
+//! opinion on what a guard grants, read from calls and answers alone.
+//!
+//! All of them know a [`call`] by its [`letter`], the [`operations`] by their
+//! numbers, and the same [`limits`].
 
-pub mod calls;
+pub mod call;
 pub mod formula;
 pub mod guard;
 pub mod history;
 pub mod journal;
 pub mod letter;
-pub mod random;
+pub mod limits;
+pub mod operations;
 mod replay;
-pub mod trials;
-pub mod written;
+mod table;
 
 pub use replay::replay;
 

@@ -13,7 +13,7 @@ fn replay(file: &[u8]) -> Result<(), Refusal> {
     let mut guard = Guard::new();
     for (place, record) in journal.records().enumerate() {
         let letter = char::from(record.letter);
-        match guard.call(&record) {
+        match guard.call(record) {
             Ok(answer) => println!("{place} {letter} ok {answer}"),
             Err(refusal) => {
                 println!(

@@ -102,6 +102,13 @@ pub struct Product {
 }
 
 impl Product {
+    /// That of some cells with a literal in each.
+    pub(crate) fn of(cells: &[u32], literal: fn(u32) -> Literal) -> Product {
+        Product {
+            literals: cells.iter().copied().map(literal).collect(),
+        }
+    }
+
     /// In order, and no key twice.
     pub fn literals(&self) -> &[Literal] {
         &self.literals
@@ -119,6 +126,17 @@ impl Product {
     }
 }
 
+/// As a formula text: `S0&!D1`.
+impl fmt::Display for Product {
+    fn fmt(&self, f: &mut fmt::Formatter) -> fmt::Result {
+        for (place, literal) in self.literals.iter().enumerate() {
+            let joint = if place == 0 { "" } else { "&" };
+            write!(f, "{joint}{literal}")?;
+        }
+        Ok(())
+    }
+}
+
 /// The products of a formula text, 1 to 8 of them.
 pub fn compile(text: &[u8], issued: Issued) -> Result<Vec<Product>, refusal::Compile> {
     let mut rows = raw::Rows::default();
@@ -132,11 +150,6 @@ pub fn compile(text: &[u8], issued: Issued) -> Result<Vec<Product>, refusal::Com
         products @ 1..=8 => products as usize,
         number => return Err(refusal::Compile::of(Refusal::of(number, 0))),
     };
-    let product = |row: &[u32; 8]| Product {
-        literals: row[..row[7] as usize]
-            .iter()
-            .map(|cell| Literal::of(*cell))
-            .collect(),
-    };
+    let product = |row: &[u32; 8]| Product::of(&row[..row[7] as usize], Literal::of);
     Ok(rows[..products].iter().map(product).collect())
 }

@@ -4,7 +4,9 @@ use crate::journal::Record;
 use crate::numbers::{Access, Defined, Kind, Lock, Operations, Segment, Thread, User};
 use crate::raw::{self, Cells};
 use crate::refusal::{self, Refusal};
+use crate::scope::{self, Enter};
 use std::fmt;
+use std::sync::RwLock;
 
 /// An answer as the proved functions give it, below 65,536, or a refusal.
 fn answered(answer: u32) -> Result<u16, Refusal> {
@@ -31,6 +33,17 @@ impl fmt::Debug for Guard {
     }
 }
 
+/// How many numbers of each kind can still be handed out. Users, segments and
+/// defined keys never come back; nor do the numbers of threads and locks.
+#[derive(Clone, Copy, Debug, PartialEq, Eq)]
+pub struct Left {
+    pub users: u32,
+    pub threads: u32,
+    pub segments: u32,
+    pub keys: u32,
+    pub locks: u32,
+}
+
 impl Guard {
     /// A guard in the empty state.
     pub fn new() -> Guard {
@@ -39,44 +52,57 @@ impl Guard {
         Guard { cells }
     }
 
-    /// A guard in a state that was kept. Any numbers are some state; but what is
-    /// promised of lists of calls is promised of those from an empty state.
+    /// A guard with these cells. Any numbers are some state; but what is promised
+    /// of lists of calls is promised of those from an empty state. A host that
+    /// keeps a state [saves](Guard::save) and [loads](Guard::load) it.
     pub fn from_cells(cells: Box<Cells>) -> Guard {
         Guard { cells }
     }
 
-    /// The state, to be kept.
+    /// The state as numbers.
     pub fn cells(&self) -> &Cells {
         &self.cells
     }
 
+    /// What is left to hand out.
+    pub fn left(&self) -> Left {
+        let [users, threads, segments, keys, locks] = raw::left(&self.cells);
+        Left {
+            users,
+            threads,
+            segments,
+            keys,
+            locks,
+        }
+    }
+
     /// U: a new user.
     pub fn new_user(&mut self) -> Result<User, refusal::NewUser> {
-        let answer = self.call(&Record::new_user());
+        let answer = self.call(Record::new_user());
         answer.map(User).map_err(refusal::NewUser::of)
     }
 
     /// S: the user's new thread.
     pub fn start_thread(&mut self, user: User) -> Result<Thread, refusal::StartThread> {
-        let answer = self.call(&Record::start_thread(user));
+        let answer = self.call(Record::start_thread(user));
         answer.map(Thread).map_err(refusal::StartThread::of)
     }
 
     /// E: ends the thread. Answers how many open calls that closes.
     pub fn end_thread(&mut self, thread: Thread) -> Result<u16, refusal::EndThread> {
-        let answer = self.call(&Record::end_thread(thread));
+        let answer = self.call(Record::end_thread(thread));
         answer.map_err(refusal::EndThread::of)
     }
 
     /// N: the owner's new segment.
     pub fn new_segment(&mut self, owner: User, kind: Kind) -> Result<Segment, refusal::NewSegment> {
-        let answer = self.call(&Record::new_segment(owner, kind));
+        let answer = self.call(Record::new_segment(owner, kind));
         answer.map(Segment).map_err(refusal::NewSegment::of)
     }
 
     /// K: a new key that the user defines.
     pub fn new_key(&mut self, maker: User) -> Result<Defined, refusal::NewKey> {
-        let answer = self.call(&Record::new_key(maker));
+        let answer = self.call(Record::new_key(maker));
         answer.map(Defined).map_err(refusal::NewKey::of)
     }
 
@@ -87,7 +113,7 @@ impl Guard {
         segment: Segment,
         key: Defined,
     ) -> Result<u16, refusal::GiveKey> {
-        let answer = self.call(&Record::give_key(user, segment, key));
+        let answer = self.call(Record::give_key(user, segment, key));
         answer.map_err(refusal::GiveKey::of)
     }
 
@@ -98,7 +124,7 @@ impl Guard {
         segment: Segment,
         key: Defined,
     ) -> Result<u16, refusal::TakeKey> {
-        let answer = self.call(&Record::take_key(user, segment, key));
+        let answer = self.call(Record::take_key(user, segment, key));
         answer.map_err(refusal::TakeKey::of)
     }
 
@@ -110,13 +136,13 @@ impl Guard {
         operations: Operations,
         text: &str,
     ) -> Result<Lock, refusal::AddLock> {
-        let answer = self.call(&Record::add_lock(user, segment, operations, text));
+        let answer = self.call(Record::add_lock(user, segment, operations, text));
         answer.map(Lock).map_err(refusal::AddLock::of)
     }
 
     /// D: drops the lock. Answers how many products that removes.
     pub fn drop_lock(&mut self, user: User, lock: Lock) -> Result<u16, refusal::DropLock> {
-        let answer = self.call(&Record::drop_lock(user, lock));
+        let answer = self.call(Record::drop_lock(user, lock));
         answer.map_err(refusal::DropLock::of)
     }
 
@@ -152,17 +178,79 @@ impl Guard {
         answer.map(Lock).map_err(refusal::Access::of)
     }
 
-    /// Any call, as a journal records it. What the number in the answer is
-    /// depends on the letter: a user, a lock, a count.
-    pub fn call(&mut self, record: &Record) -> Result<u16, Refusal> {
+    /// Calls the segment, runs the body with the guard, and returns: also where
+    /// the body gives an error, and on a panic. A C that is refused runs nothing.
+    ///
+    /// The thread is left with the open calls that it had before: inner calls
+    /// that the body left open are returned from, none is where the body returned
+    /// more often than it called, nor where it ended the thread.
+    ///
+    /// What the body gives is the answer, so a body that can fail is asked with
+    /// two question marks:
+    ///
+    /// ```
+    /// # use rotundaaloe::{Access, Guard, Kind, Operations, Refusal};
+    /// # fn main() -> Result<(), Refusal> {
+    /// # let mut guard = Guard::new();
+    /// # let user = guard.new_user()?;
+    /// # let loader = guard.new_segment(user, Kind::Code)?;
+    /// # let totals = guard.new_segment(user, Kind::Sheet)?;
+    /// # guard.add_lock(user, loader, Operations::EXECUTE, "U0")?;
+    /// # guard.add_lock(user, totals, Operations::WRITE, "S0")?;
+    /// # let thread = guard.start_thread(user)?;
+    /// guard.within(thread, loader, |guard| {
+    ///     guard.access(thread, totals, Access::Write)
+    /// })??;
+    /// assert_eq!(guard.depth(thread), Some(0));
+    /// # Ok(())
+    /// # }
+    /// ```
+    pub fn within<T>(
+        &mut self,
+        thread: Thread,
+        segment: Segment,
+        body: impl FnOnce(&mut Guard) -> T,
+    ) -> Result<T, refusal::CallSegment> {
+        scope::within(self, thread, segment, body)
+    }
+
+    /// As [`within`](Guard::within), for a guard that several threads of the
+    /// operating system share: it is locked for the C and for the R, and not while
+    /// the body runs.
+    pub fn within_shared<T>(
+        mut guard: &RwLock<Guard>,
+        thread: Thread,
+        segment: Segment,
+        body: impl FnOnce() -> T,
+    ) -> Result<T, refusal::CallSegment> {
+        scope::within(&mut guard, thread, segment, |_| body())
+    }
+
+    /// Any call: a [`Call`](crate::Call), or a record as a journal has it. What
+    /// the number in the answer is depends on the letter: a user, a lock, a count.
+    pub fn call<'a>(&mut self, call: impl Into<Record<'a>>) -> Result<u16, Refusal> {
         let Record {
             letter,
             a,
             b,
             c,
             text,
-        } = *record;
+        } = call.into();
         answered(raw::call(&mut self.cells, letter, a, b, c, text))
+    }
+}
+
+impl Enter for Guard {
+    fn depth(&self, thread: Thread) -> Option<usize> {
+        Guard::depth(self, thread)
+    }
+
+    fn enter(&mut self, thread: Thread, segment: Segment) -> Result<(), refusal::CallSegment> {
+        self.call_segment(thread, segment).map(drop)
+    }
+
+    fn leave(&mut self, thread: Thread) -> Result<(), refusal::ReturnCall> {
+        self.return_call(thread).map(drop)
     }
 }
 

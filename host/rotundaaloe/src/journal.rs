@@ -1,5 +1,6 @@
 //! Journals (document 01: desk files): files of call records, to be replayed.
 
+use crate::limits::{JOURNAL_BYTES, JOURNAL_HEAD};
 use crate::numbers::{Access, Defined, Kind, Lock, Operations, Segment, Thread, User};
 use crate::raw;
 use crate::refusal::{self, Refusal};
@@ -8,12 +9,8 @@ use std::iter::FusedIterator;
 
 /// What a journal begins with.
 pub const MARK: &[u8; 3] = b"KLD";
-/// The bytes before the first record: the mark, the version and the count.
-pub const HEAD_BYTES: usize = 7;
-/// The most bytes of a journal.
-pub const MAX_BYTES: usize = 65_535;
-/// The most bytes of an L's text.
-pub const MAX_TEXT_BYTES: usize = 96;
+/// The bytes of a record before its text.
+const RECORD_HEAD: usize = 9;
 
 /// A call as a journal records it: its letter, fields and text. Fields that the
 /// letter doesn't name are 0, and only L has a text.
@@ -24,6 +21,13 @@ pub struct Record<'a> {
     pub b: u16,
     pub c: u16,
     pub text: &'a [u8],
+}
+
+/// So that what takes a call takes a record too, by reference or not.
+impl<'a> From<&Record<'a>> for Record<'a> {
+    fn from(record: &Record<'a>) -> Record<'a> {
+        *record
+    }
 }
 
 /// A call without a text.
@@ -100,41 +104,51 @@ impl<'a> Record<'a> {
 /// A readable journal.
 #[derive(Clone)]
 pub struct Journal {
-    /// As long as a journal may be.
-    buffer: Box<[u8]>,
+    /// The file, and room for records to come.
+    buffer: Vec<u8>,
     size: usize,
 }
 
 impl Journal {
     /// The journal without records.
     pub fn new() -> Journal {
-        let mut buffer = vec![0; MAX_BYTES].into_boxed_slice();
+        let mut buffer = vec![0; JOURNAL_HEAD];
         let answer = raw::journal_empty(&mut buffer);
         assert_eq!(answer, 0, "the buffer holds the head");
         Journal {
             buffer,
-            size: HEAD_BYTES,
+            size: JOURNAL_HEAD,
         }
     }
 
     /// The journal of these bytes, if they are readable.
     pub fn from_bytes(bytes: &[u8]) -> Result<Journal, refusal::Read> {
         Records::open(bytes)?;
-        let mut buffer = vec![0; MAX_BYTES].into_boxed_slice();
-        buffer[..bytes.len()].copy_from_slice(bytes);
         Ok(Journal {
-            buffer,
+            buffer: bytes.to_vec(),
             size: bytes.len(),
         })
     }
 
-    /// Appends a record. A refusal changes nothing.
-    pub fn append(&mut self, record: &Record) -> Result<(), refusal::Append> {
+    /// Appends a record, or a [`Call`](crate::Call) as one. A refusal changes
+    /// nothing.
+    pub fn append<'a>(&mut self, record: impl Into<Record<'a>>) -> Result<(), refusal::Append> {
+        let record = record.into();
+        self.make_room(RECORD_HEAD + record.text.len());
         let fields = [record.a, record.b, record.c];
         let (buffer, size) = (&mut self.buffer, &mut self.size);
         match raw::journal_append(buffer, size, record.letter, fields, record.text) {
             0 => Ok(()),
             number => Err(refusal::Append::of(Refusal::of(number, 0))),
+        }
+    }
+
+    /// For so many more bytes, unless the file would pass its limit. The room is
+    /// doubled, so that it is seldom made.
+    fn make_room(&mut self, bytes: usize) {
+        let needed = JOURNAL_BYTES.min(self.size + bytes);
+        if self.buffer.len() < needed {
+            self.buffer.resize(JOURNAL_BYTES.min(2 * needed), 0);
         }
     }
 

@@ -3,9 +3,11 @@
 //! A [`Guard`] owns the protection state, so no array can have the wrong length
 //! and nobody else can write to it during a call. Numbers have a type for each
 //! kind, and each call has an enum of the refusals that it can give
-//! ([`refusal`]). [`Journal`]s are the files that an office replays, and
-//! [`formula`] shows what a lock's text compiles to. [`raw`] has the proved
-//! functions as they are.
+//! ([`refusal`]). [`Journal`]s are the files that an office replays, and a
+//! [`Recorder`] is a guard that keeps one. A guard's state is saved to a file and
+//! loaded again ([`state`]), and [`view`] tells what stands in it. [`formula`]
+//! shows what a lock's text compiles to; [`limits`] are the numbers that a host
+//! can run into. [`raw`] has the proved functions as they are.
 //!
 //! ```
 //! use rotundaaloe::{Access, Guard, Kind, Operations, refusal};
@@ -39,17 +41,29 @@
 //! # }
 //! ```
 
+pub mod call;
 pub mod formula;
 mod guard;
 pub mod journal;
+pub mod limits;
 mod numbers;
 pub mod raw;
+pub mod recorder;
 pub mod refusal;
+mod scope;
+pub mod state;
+pub mod view;
 
-pub use guard::Guard;
+pub use call::{Call, Field, Letter};
+pub use guard::{Guard, Left};
 pub use journal::{Journal, Record};
 pub use numbers::{Access, Defined, Kind, Lock, Operations, Segment, Thread, User};
+pub use recorder::Recorder;
 pub use refusal::Refusal;
+
+/// The version of this library, and of the proved functions that it is linked
+/// with: [`raw::version`] has it as a number.
+pub const VERSION: &str = env!("CARGO_PKG_VERSION");
 
 /// The programs of the page for hosts are tried too.
 #[cfg(doctest)]

@@ -15,7 +15,26 @@ macro_rules! numbers {
                 write!(f, concat!($prefix, "{}"), self.0)
             }
         }
+
+        numbered!($name);
     )*};
+}
+
+/// Into a field of a record and back.
+macro_rules! numbered {
+    ($name:ident) => {
+        impl From<u16> for $name {
+            fn from(number: u16) -> $name {
+                $name(number)
+            }
+        }
+
+        impl From<$name> for u16 {
+            fn from(name: $name) -> u16 {
+                name.0
+            }
+        }
+    };
 }
 
 numbers! {
@@ -50,6 +69,8 @@ pub enum Access {
 /// A lock's operations, and whether it grants or denies them.
 #[derive(Clone, Copy, Debug, PartialEq, Eq)]
 pub struct Operations(pub u16);
+
+numbered!(Operations);
 
 impl Operations {
     pub const EXECUTE: Operations = Operations(1);

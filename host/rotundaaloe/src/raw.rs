@@ -1,47 +1,60 @@
 //! The proved functions as they are: numbers in, numbers out, on arrays whose
 //! lengths the types carry. What the numbers mean is told in
-//! `host/include/rotundaaloe.h`. Everything unsafe is in this file; a host takes
+//! `host/include/rotundaaloe_raw.h`. Everything unsafe is in this file; a host takes
 //! the types above it.
 
-/// The five arrays of a protection state. Every cell 0 is the empty state; what
-/// a cell means is the guard's own matter, and any numbers at all are some state.
+use crate::limits::{
+    MOST_KEYS, MOST_LISTED, MOST_OPEN_CALLS, MOST_PRODUCTS, MOST_SEGMENTS, MOST_THREADS,
+};
+
+/// The cells of a row, and of the registry: a key list fills one.
+const ROW: usize = MOST_LISTED;
+/// A segment's rows: what it is, and its key list.
+const SEGMENT_ROWS: usize = 2;
+/// A thread's rows: what it is, and its open calls.
+const THREAD_ROWS: usize = 1 + MOST_OPEN_CALLS;
+
+/// A table for each segment.
+pub type Segments = [[[u16; ROW]; SEGMENT_ROWS]; MOST_SEGMENTS];
+/// The products of each segment's standing locks.
+pub type Locks = [[[u32; ROW]; MOST_PRODUCTS]; MOST_SEGMENTS];
+/// A table for each live thread.
+pub type Threads = [[[u16; ROW]; THREAD_ROWS]; MOST_THREADS];
+
+/// The five arrays of a protection state. Every cell 0 is the empty state, and
+/// any numbers at all are some state; [`view`](crate::view) tells which.
 #[derive(Clone, Debug)]
 #[repr(C)]
 pub struct Cells {
-    pub registry: [u32; 8],
-    pub makers: [u16; 1_024],
-    pub segments: [[[u16; 8]; 2]; 64],
-    pub locks: [[[u32; 8]; 8]; 64],
-    pub threads: [[[u16; 8]; 17]; 64],
+    pub registry: [u32; ROW],
+    pub makers: [u16; MOST_KEYS],
+    pub segments: Segments,
+    pub locks: Locks,
+    pub threads: Threads,
 }
 
 impl Cells {
     /// The empty state.
     pub const EMPTY: Cells = Cells {
-        registry: [0; 8],
-        makers: [0; 1_024],
-        segments: [[[0; 8]; 2]; 64],
-        locks: [[[0; 8]; 8]; 64],
-        threads: [[[0; 8]; 17]; 64],
+        registry: [0; ROW],
+        makers: [0; MOST_KEYS],
+        segments: [[[0; ROW]; SEGMENT_ROWS]; MOST_SEGMENTS],
+        locks: [[[0; ROW]; MOST_PRODUCTS]; MOST_SEGMENTS],
+        threads: [[[0; ROW]; THREAD_ROWS]; MOST_THREADS],
     };
 
     /// The bytes of all cells.
-    pub const SIZE: usize = 4 * 8 + 2 * 1_024 + 64 * (2 * 16 + 8 * 32 + 17 * 16);
+    pub const SIZE: usize = size_of::<[u32; ROW]>()
+        + size_of::<[u16; MOST_KEYS]>()
+        + size_of::<Segments>()
+        + size_of::<Locks>()
+        + size_of::<Threads>();
 
-    /// All cells as they are in memory, to be kept or compared at once.
-    pub fn bytes(&self) -> &[u8; Cells::SIZE] {
+    /// All cells as they are in memory, to be compared at once.
+    fn bytes(&self) -> &[u8; Cells::SIZE] {
         // SAFETY: the cells are numbers without padding between them, and
         // borrowed for as long as the bytes are.
         unsafe { &*(&raw const *self).cast() }
-    }
-
-    /// The cells of bytes that were kept.
-    pub fn from_bytes(bytes: &[u8; Cells::SIZE]) -> Box<Cells> {
-        let mut cells = Box::new(Cells::EMPTY);
-        // SAFETY: the cells are numbers without padding between them, so that
-        // any bytes are some of them, and as many bytes are copied.
-        unsafe { *(&raw mut *cells).cast() = *bytes };
-        cells
     }
 }
 
@@ -66,7 +79,11 @@ pub type Values = [u64; 6];
 
 mod c {
     unsafe extern "C" {
-        pub fn rotundaaloe_compile(
+        pub fn rotundaaloe_raw_version() -> u32;
+
+        pub fn rotundaaloe_raw_left(registry: *const u32, left: *mut [u32; 5]);
+
+        pub fn rotundaaloe_raw_compile(
             text: *const u8,
             length: usize,
             users: u32,
@@ -76,25 +93,29 @@ mod c {
             rows: *mut [u32; 8],
         ) -> u32;
 
-        pub fn rotundaaloe_opens(
+        pub fn rotundaaloe_raw_opens(
             rows: *const [u32; 8],
             count: usize,
             keys: *const u32,
             keys_count: usize,
         ) -> u32;
 
-        pub fn rotundaaloe_journal_open(file: *const u8, length: usize, cursor: *mut usize) -> u32;
+        pub fn rotundaaloe_raw_journal_open(
+            file: *const u8,
+            length: usize,
+            cursor: *mut usize,
+        ) -> u32;
 
-        pub fn rotundaaloe_journal_next(
+        pub fn rotundaaloe_raw_journal_next(
             file: *const u8,
             length: usize,
             cursor: *mut usize,
             values: *mut u64,
         ) -> u32;
 
-        pub fn rotundaaloe_journal_empty(buffer: *mut u8, capacity: usize) -> u32;
+        pub fn rotundaaloe_raw_journal_empty(buffer: *mut u8, capacity: usize) -> u32;
 
-        pub fn rotundaaloe_journal_append(
+        pub fn rotundaaloe_raw_journal_append(
             buffer: *mut u8,
             capacity: usize,
             size: *mut usize,
@@ -106,7 +127,7 @@ mod c {
             text_length: usize,
         ) -> u32;
 
-        pub fn rotundaaloe_empty(
+        pub fn rotundaaloe_raw_empty(
             registry: *mut u32,
             makers: *mut u16,
             segments: *mut [[u16; 8]; 2],
@@ -114,7 +135,7 @@ mod c {
             threads: *mut [[u16; 8]; 17],
         );
 
-        pub fn rotundaaloe_call(
+        pub fn rotundaaloe_raw_call(
             registry: *mut u32,
             makers: *mut u16,
             segments: *mut [[u16; 8]; 2],
@@ -128,7 +149,7 @@ mod c {
             length: usize,
         ) -> u32;
 
-        pub fn rotundaaloe_call_segment(
+        pub fn rotundaaloe_raw_call_segment(
             registry: *const u32,
             segments: *const [[u16; 8]; 2],
             locks: *const [[u32; 8]; 8],
@@ -137,9 +158,9 @@ mod c {
             b: u16,
         ) -> u32;
 
-        pub fn rotundaaloe_return_call(threads: *mut [[u16; 8]; 17], a: u16) -> u32;
+        pub fn rotundaaloe_raw_return_call(threads: *mut [[u16; 8]; 17], a: u16) -> u32;
 
-        pub fn rotundaaloe_access(
+        pub fn rotundaaloe_raw_access(
             registry: *const u32,
             segments: *const [[u16; 8]; 2],
             locks: *const [[u32; 8]; 8],
@@ -156,10 +177,23 @@ mod c {
 // has, and what is written to is borrowed mutably, so that nobody else sees it
 // meanwhile. No function keeps a pointer.
 
+/// The library's version: two digits for each of its three parts.
+pub fn version() -> u32 {
+    unsafe { c::rotundaaloe_raw_version() }
+}
+
+/// How many users, threads, segments, defined keys and locks are left to hand
+/// out.
+pub fn left(cells: &Cells) -> [u32; 5] {
+    let mut left = [0; 5];
+    unsafe { c::rotundaaloe_raw_left(cells.registry.as_ptr(), &raw mut left) };
+    left
+}
+
 /// Writes the empty state.
 pub fn empty(cells: &mut Cells) {
     unsafe {
-        c::rotundaaloe_empty(
+        c::rotundaaloe_raw_empty(
             cells.registry.as_mut_ptr(),
             cells.makers.as_mut_ptr(),
             cells.segments.as_mut_ptr(),
@@ -173,7 +207,7 @@ pub fn empty(cells: &mut Cells) {
 #[inline]
 pub fn call(cells: &mut Cells, letter: u8, a: u16, b: u16, c: u16, text: &[u8]) -> u32 {
     unsafe {
-        c::rotundaaloe_call(
+        c::rotundaaloe_raw_call(
             cells.registry.as_mut_ptr(),
             cells.makers.as_mut_ptr(),
             cells.segments.as_mut_ptr(),
@@ -193,7 +227,7 @@ pub fn call(cells: &mut Cells, letter: u8, a: u16, b: u16, c: u16, text: &[u8]) 
 #[inline]
 pub fn call_segment(cells: &mut Cells, a: u16, b: u16) -> u32 {
     unsafe {
-        c::rotundaaloe_call_segment(
+        c::rotundaaloe_raw_call_segment(
             cells.registry.as_ptr(),
             cells.segments.as_ptr(),
             cells.locks.as_ptr(),
@@ -207,14 +241,14 @@ pub fn call_segment(cells: &mut Cells, a: u16, b: u16) -> u32 {
 /// R without the entry.
 #[inline]
 pub fn return_call(cells: &mut Cells, a: u16) -> u32 {
-    unsafe { c::rotundaaloe_return_call(cells.threads.as_mut_ptr(), a) }
+    unsafe { c::rotundaaloe_raw_return_call(cells.threads.as_mut_ptr(), a) }
 }
 
 /// A without the entry.
 #[inline]
 pub fn access(cells: &Cells, a: u16, b: u16, c: u16) -> u32 {
     unsafe {
-        c::rotundaaloe_access(
+        c::rotundaaloe_raw_access(
             cells.registry.as_ptr(),
             cells.segments.as_ptr(),
             cells.locks.as_ptr(),
@@ -233,30 +267,30 @@ pub fn compile(text: &[u8], issued: [u32; 4], rows: &mut Rows) -> u32 {
     let [users, threads, segments, defined] = issued;
     let (start, length) = (text.as_ptr(), text.len());
     let rows = rows.as_mut_ptr();
-    unsafe { c::rotundaaloe_compile(start, length, users, threads, segments, defined, rows) }
+    unsafe { c::rotundaaloe_raw_compile(start, length, users, threads, segments, defined, rows) }
 }
 
 /// Whether a key set, given by its keys' numbers, opens one of the first `count`
 /// products.
 pub fn opens(rows: &Rows, count: usize, keys: &[u32]) -> u32 {
-    unsafe { c::rotundaaloe_opens(rows.as_ptr(), count, keys.as_ptr(), keys.len()) }
+    unsafe { c::rotundaaloe_raw_opens(rows.as_ptr(), count, keys.as_ptr(), keys.len()) }
 }
 
 /// Checks a whole file, and sets the cursor to its first record.
 pub fn journal_open(file: &[u8], cursor: &mut usize) -> u32 {
-    unsafe { c::rotundaaloe_journal_open(file.as_ptr(), file.len(), cursor) }
+    unsafe { c::rotundaaloe_raw_journal_open(file.as_ptr(), file.len(), cursor) }
 }
 
 /// The record at a cursor, which is then set after it.
 #[inline]
 pub fn journal_next(file: &[u8], cursor: &mut usize, values: &mut Values) -> u32 {
     let (start, length) = (file.as_ptr(), file.len());
-    unsafe { c::rotundaaloe_journal_next(start, length, cursor, values.as_mut_ptr()) }
+    unsafe { c::rotundaaloe_raw_journal_next(start, length, cursor, values.as_mut_ptr()) }
 }
 
 /// Writes the file without records.
 pub fn journal_empty(buffer: &mut [u8]) -> u32 {
-    unsafe { c::rotundaaloe_journal_empty(buffer.as_mut_ptr(), buffer.len()) }
+    unsafe { c::rotundaaloe_raw_journal_empty(buffer.as_mut_ptr(), buffer.len()) }
 }
 
 /// Appends a record to the file in the buffer's first `size` bytes.
@@ -269,7 +303,7 @@ pub fn journal_append(
     text: &[u8],
 ) -> u32 {
     unsafe {
-        c::rotundaaloe_journal_append(
+        c::rotundaaloe_raw_journal_append(
             buffer.as_mut_ptr(),
             buffer.len(),
             size,

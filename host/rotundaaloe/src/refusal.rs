@@ -8,7 +8,10 @@ use std::error::Error;
 use std::fmt;
 
 macro_rules! refusals {
-    ($($(#[$attribute:meta])* $name:ident $(($field:ident))? = $number:literal $word:literal;)*) => {
+    ($(
+        $(#[$attribute:meta])*
+        $name:ident $(($field:ident))? = $number:literal $word:literal;
+    )*) => {
         /// Why something is refused, in the order of document 01's table.
         #[derive(Clone, Copy, Debug, PartialEq, Eq)]
         pub enum Refusal {
@@ -174,3 +177,38 @@ some_of_them! {
     /// Why [`Journal::append`](crate::Journal::append) is refused.
     Append { Full, Corrupt }
 }
+
+/// Why [`Guard::from_bytes`](crate::Guard::from_bytes) is refused. The numbers
+/// are those of the refusals of a journal, the words a state file's own.
+#[derive(Clone, Copy, Debug, PartialEq, Eq)]
+pub enum Load {
+    /// The file doesn't begin with the mark.
+    NotState = 16,
+    /// Its cells are laid out in another way, as by another version.
+    OtherLayout = 17,
+    /// It is cut short, goes on, or some of its bits have changed.
+    Broken = 18,
+}
+
+impl Load {
+    /// The number in document 01's table.
+    pub const fn number(self) -> u32 {
+        self as u32
+    }
+
+    pub const fn word(self) -> &'static str {
+        match self {
+            Load::NotState => "not a state file",
+            Load::OtherLayout => "another layout",
+            Load::Broken => "broken state file",
+        }
+    }
+}
+
+impl fmt::Display for Load {
+    fn fmt(&self, f: &mut fmt::Formatter) -> fmt::Result {
+        write!(f, "{} ({})", self.word(), self.number())
+    }
+}
+
+impl Error for Load {}

@@ -1,8 +1,11 @@
-//! The C header's names and numbers are those of the Rust library.
+//! The names and numbers of the C headers are those of the Rust library and of
+//! document 01.
 
-use rotundaaloe::{Lock, Operations, Refusal};
+use rotundaaloe::{Lock, Operations, Refusal, VERSION, raw};
+use std::collections::BTreeMap;
 
 const HEADER: &str = include_str!("../../include/rotundaaloe.h");
+const RAW: &str = include_str!("../../include/rotundaaloe_raw.h");
 
 const REFUSALS: [Refusal; 18] = [
     Refusal::UnknownUser,
@@ -25,24 +28,30 @@ const REFUSALS: [Refusal; 18] = [
     Refusal::Corrupt,
 ];
 
-/// `NoThread` as C spells it: `NO_THREAD`.
-fn spelt_for_c(name: &str) -> String {
+/// `NoThread` in lower case: `no_thread`.
+fn snake(name: &str) -> String {
     let mut spelt = String::new();
     for letter in name.chars() {
         if letter.is_uppercase() && !spelt.is_empty() {
             spelt.push('_');
         }
-        spelt.extend(letter.to_uppercase());
+        spelt.extend(letter.to_lowercase());
     }
     spelt
 }
 
+/// A refusal's name in Rust, without its lock.
+fn name(refusal: Refusal) -> String {
+    let shown = format!("{refusal:?}");
+    shown.split('(').next().expect("a name").to_owned()
+}
+
 #[test]
 fn refusals() {
+    assert!(HEADER.contains("    ROTUNDAALOE_ACCEPTED = 0,"));
     for (refusal, number) in REFUSALS.into_iter().zip(1..) {
         assert_eq!(refusal.number(), number, "{refusal:?}");
-        let shown = format!("{refusal:?}");
-        let name = spelt_for_c(shown.split('(').next().expect("a name"));
+        let name = snake(&name(refusal)).to_uppercase();
         let line = HEADER
             .lines()
             .map(str::trim_start)
@@ -51,10 +60,8 @@ fn refusals() {
         let (_, rest) = line.split_once("= ").expect("a number");
         let given: String = rest.chars().take_while(char::is_ascii_digit).collect();
         assert_eq!(given, number.to_string(), "{name}");
-        assert!(
-            line.ends_with(&format!("/* {} */", refusal.word())),
-            "{line}"
-        );
+        let word = format!("/* {} */", refusal.word());
+        assert!(line.ends_with(&word), "{line}");
     }
 }
 
@@ -72,23 +79,163 @@ fn operations() {
     assert_eq!(Operations::READ.and(Operations::WRITE), Operations(6));
 }
 
-/// The functions that a text declares, by their names in order.
-fn functions<'a>(text: &'a str, start: &str) -> Vec<&'a str> {
-    let mut names: Vec<&str> = text
-        .lines()
-        .filter_map(|line| line.trim_start().strip_prefix(start))
-        .filter_map(|rest| rest.split_once('(').map(|(name, _)| name))
+/// The text that a macro stands for.
+fn defined<'a>(header: &'a str, name: &str) -> &'a str {
+    let start = format!("#define ROTUNDAALOE_{name} ");
+    let line = header.lines().find_map(|line| line.strip_prefix(&start));
+    let line = line.unwrap_or_else(|| panic!("{name} is not defined"));
+    line.split("/*").next().expect("a text").trim()
+}
+
+/// Those of both are the same.
+#[test]
+fn limits() {
+    let number = |text: &str| text.replace('_', "").parse().expect("a number");
+    let library = include_str!("../src/limits.rs").lines();
+    let library =
+        library.filter_map(|line| line.strip_prefix("pub const ")?.split_once(": usize = "));
+    let library: BTreeMap<&str, u32> = library
+        .map(|(name, value)| (name, number(value.trim_end_matches(';'))))
         .collect();
-    names.sort_unstable();
-    names
+    let names = RAW
+        .lines()
+        .filter_map(|line| line.strip_prefix("#define ROTUNDAALOE_"));
+    let names = names.filter_map(|rest| rest.split(' ').next());
+    let header: BTreeMap<&str, u32> = names
+        .filter(|name| name.starts_with("MOST_") || name.starts_with("JOURNAL_"))
+        .map(|name| (name, number(defined(RAW, name))))
+        .collect();
+    assert_eq!(header, library);
+    assert_eq!(header.len(), 13);
 }
 
 #[test]
-fn functions_are_the_same() {
-    let raw = functions(include_str!("../src/raw.rs"), "pub fn rotundaaloe_");
-    let mut header = functions(HEADER, "uint32_t rotundaaloe_");
-    header.extend(functions(HEADER, "void rotundaaloe_"));
-    header.sort_unstable();
-    assert_eq!(header, raw);
-    assert_eq!(header.len(), 11, "as the page for hosts says");
+fn version() {
+    let part = |name| defined(HEADER, name).parse().expect("a number");
+    let parts = ["VERSION_MAJOR", "VERSION_MINOR", "VERSION_PATCH"].map(part);
+    let number = parts
+        .iter()
+        .fold(0, |number, part: &u32| number * 100 + part);
+    assert_eq!(number, raw::version());
+    let text = parts.map(|part| part.to_string()).join(".");
+    assert_eq!(text, VERSION);
+    assert_eq!(defined(HEADER, "VERSION_TEXT"), format!("\"{text}\""));
+}
+
+/// What a text declares: each function's parameters, by name, with whether it is
+/// a pointer and to what is not written to.
+type Functions = BTreeMap<String, Vec<(String, &'static str)>>;
+
+/// The functions that `raw.rs` imports.
+fn imported() -> Functions {
+    let source = include_str!("../src/raw.rs");
+    let (_, block) = source.split_once("unsafe extern \"C\" {").expect("a block");
+    let (block, _) = block.split_once("\n    }\n").expect("its end");
+    let parameter = |text: &str| {
+        let (name, kind) = text.split_once(": ").expect("a type");
+        let pointer = match kind {
+            _ if kind.starts_with("*const ") => "const",
+            _ if kind.starts_with("*mut ") => "written",
+            _ => "value",
+        };
+        (name.to_owned(), pointer)
+    };
+    let function = |text: &str| {
+        let (name, rest) = text.split_once('(').expect("parameters");
+        let (parameters, _) = rest.split_once(')').expect("their end");
+        let parameters = parameters.split(',').map(str::trim);
+        let parameters = parameters.filter(|text| !text.is_empty()).map(parameter);
+        (name.to_owned(), parameters.collect())
+    };
+    block.split("pub fn ").skip(1).map(function).collect()
+}
+
+/// The functions that the header of the layer below declares.
+fn declared() -> Functions {
+    let comments = RAW.split("/*").skip(1).map(|rest| rest.split_once("*/"));
+    let code: String = comments.map(|pair| pair.expect("its end").1).collect();
+    let parameter = |text: &str| {
+        let start = text.split('[').next().expect("a name");
+        let (kind, name) = start.rsplit_once([' ', '*']).expect("a type");
+        let pointer = match text.contains(['*', '[']) {
+            true if kind.starts_with("const ") => "const",
+            true => "written",
+            false => "value",
+        };
+        (name.to_owned(), pointer)
+    };
+    let function = |text: &str| {
+        let (start, rest) = text.split_once('(')?;
+        let (_, name) = start.rsplit_once(' ')?;
+        let parameters = rest.strip_suffix(')')?.split(',').map(str::trim);
+        let parameters = parameters.filter(|text| *text != "void").map(parameter);
+        Some((name.to_owned(), parameters.collect()))
+    };
+    let declarations = code.split(';').filter_map(function);
+    declarations
+        .filter(|(name, _)| name.starts_with("rotundaaloe_"))
+        .collect()
+}
+
+#[test]
+fn exported_functions() {
+    let imported = imported();
+    assert_eq!(declared(), imported);
+    assert_eq!(imported.len(), 13, "as the page for hosts says");
+}
+
+/// The numbers in a comment's `Refused: 1, 10.`, for each function after one.
+fn refused_by_comment() -> BTreeMap<String, Vec<u32>> {
+    let mut refused = BTreeMap::new();
+    for part in HEADER.split("Refused:").skip(1) {
+        let (numbers, rest) = part.split_once("*/").expect("a comment's end");
+        let number = |word: &str| word.trim_matches([' ', '.', '*', '\n']).parse();
+        let numbers = numbers.split(',').filter_map(|word| number(word).ok());
+        let (_, rest) = rest
+            .split_once("unsigned rotundaaloe_")
+            .expect("a function");
+        let (name, _) = rest.split_once('(').expect("parameters");
+        refused.insert(name.to_owned(), numbers.collect());
+    }
+    refused
+}
+
+/// A call's refusals in C are those that its enum has in Rust, where a segment's
+/// kind can't be unfit.
+#[test]
+fn refusals_of_each_call() {
+    let source = include_str!("../src/refusal.rs");
+    let by_comment = refused_by_comment();
+    for call in [
+        "NewUser",
+        "StartThread",
+        "EndThread",
+        "NewSegment",
+        "NewKey",
+        "GiveKey",
+        "TakeKey",
+        "AddLock",
+        "DropLock",
+        "CallSegment",
+        "ReturnCall",
+        "Access",
+        "Compile",
+    ] {
+        let start = format!("\n    {call} {{");
+        let (_, rest) = source.split_once(&start).expect("an enum");
+        let (cases, _) = rest.split_once('}').expect("its end");
+        let is_there = |refusal: &Refusal| {
+            let mut cases = cases
+                .split(',')
+                .filter_map(|case| case.trim().split('(').next());
+            cases.any(|case| case == name(*refusal))
+                || (call == "NewSegment" && *refusal == Refusal::Unfit)
+        };
+        let numbers: Vec<u32> = REFUSALS
+            .into_iter()
+            .filter(is_there)
+            .map(Refusal::number)
+            .collect();
+        assert_eq!(by_comment[&snake(call)], numbers, "{call}");
+    }
 }

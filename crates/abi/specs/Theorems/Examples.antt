@@ -15,6 +15,8 @@ use Rattle.model.specs.Answers.{answerNumber, answerValue}
 use Rattle.abi.specs.Answers.{issuedWith, numberIn, rowsIn, bit}
 use Rattle.abi.specs.Calls.{answerCode}
 use Rattle.abi.specs.Files.{presentNumber, valuesIn}
+use Rattle.abi.specs.Left.{leftIn}
+use Rattle.abi.specs.Version.{version}
 
 -- an answer's number and value, of its code: a value has 16 bits
 abbrev pub CodeTakenApart : Type 0
@@ -53,3 +55,9 @@ pub record Examples : Type 0 where
   pub end-values : valuesIn End (9 ∷ []) ≡ 9 ∷ []
   pub damaged-number : presentNumber Damaged ≡ 18
   pub damaged-values : valuesIn Damaged (9 ∷ []) ≡ 9 ∷ []
+  -- what is left: of the empty state, of a used one, and of counts beyond every limit
+  pub left-all : leftIn (0 ∷ 0 ∷ 0 ∷ 0 ∷ 0 ∷ 0 ∷ 0 ∷ 0 ∷ []) ≡ 32 ∷ 65536 ∷ 64 ∷ 1024 ∷ 65536 ∷ []
+  pub left-some : leftIn (1 ∷ 200 ∷ 3 ∷ 24 ∷ 5 ∷ 0 ∷ 0 ∷ 0 ∷ []) ≡ 31 ∷ 65336 ∷ 61 ∷ 1000 ∷ 65531 ∷ []
+  pub left-none : leftIn (33 ∷ 65537 ∷ 65 ∷ 1025 ∷ 65537 ∷ 9 ∷ 9 ∷ 9 ∷ []) ≡ 0 ∷ 0 ∷ 0 ∷ 0 ∷ 0 ∷ []
+  -- version 0.2.0
+  pub version-number : version ≡ 200

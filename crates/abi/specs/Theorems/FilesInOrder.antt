@@ -1,7 +1,7 @@
 -- 'Reading checks the whole file first and answers its records in order, then their end' (document 01: 'Desk file'),
--- for a caller in C. After `rotundaaloe_journal_open` answered 0, calls of `rotundaaloe_journal_next`, each lent the
--- cursor and the values that the one before left, answer 1 with the file's records in order, and then 0 with the values
--- left alone, again and again. Proved in `proofs/FilesInOrder.antt`.
+-- for a caller in C. After `rotundaaloe_raw_journal_open` answered 0, calls of `rotundaaloe_raw_journal_next`, each
+-- lent the cursor and the values that the one before left, answer 1 with the file's records in order, and then 0 with
+-- the values left alone, again and again. Proved in `proofs/FilesInOrder.antt`.
 use mathlib.Core.Path.{_≡_}
 use mathlib.Core.List.{List, [], _∷_}
 use Prim.Native.Nat.{ℕ, zero, suc, _+_}

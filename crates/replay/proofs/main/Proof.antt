@@ -13,6 +13,7 @@ pub main-spec : {M : Type 1} → statement M
 main-spec =
     tie.close
     (tie.spec
+    (λ c κs. search needs)  -- tell-ignored-requires
     (λ c. search needs)  -- slice-aggregate-read-full
     (λ c κs. search needs)  -- read-full-requires
     (λ c κs. search needs)  -- is-ended-requires

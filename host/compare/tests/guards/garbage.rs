@@ -9,10 +9,12 @@
 use super::ACCESSES;
 use super::tally::Tally;
 use compare::guard::{Cells, Guard, Own, outcome};
-use reference::calls::{Caller, WORLDS};
+use reference::call::Call;
 use reference::journal::Record;
 use reference::letter::{Field, Letter};
-use reference::random::Random;
+use reference::limits::{MAX_LIVE_THREADS, MAX_SEGMENT_PRODUCTS, MAX_SEGMENTS};
+use testing::calls::{Caller, WORLDS};
+use testing::random::Random;
 
 const ARRAYS: usize = 12_000;
 const CALLS_EACH: usize = 100;
@@ -124,9 +126,12 @@ fn aim(random: &mut Random, record: &mut Record, cells: &Cells) {
         return;
     };
     let mut number = |right: u16| match random.below(6) {
-        0 => cells.threads[random.below(64)][0][random.below(3)],
-        1 => (cells.locks[random.below(64)][random.below(8)][0] / 65_536) as u16,
-        2 => random.below(64) as u16,
+        0 => cells.threads[random.below(MAX_LIVE_THREADS)][0][random.below(3)],
+        1 => {
+            let locks = cells.locks[random.below(MAX_SEGMENTS)];
+            (locks[random.below(MAX_SEGMENT_PRODUCTS)][0] / 65_536) as u16
+        }
+        2 => random.below(MAX_SEGMENTS) as u16,
         3 => random.pick(&EDGES) as u16,
         _ => right,
     };
@@ -138,7 +143,7 @@ fn aim(random: &mut Random, record: &mut Record, cells: &Cells) {
     }
     if letter.fields().starts_with(&[Field::User, Field::Segment]) && !random.one_in(4) {
         // A segment has one owner among 65,536 numbers.
-        record.b %= 64;
+        record.b %= MAX_SEGMENTS as u16;
         record.a = cells.segments[usize::from(record.b)][0][0];
     }
 }
@@ -190,48 +195,48 @@ const REGISTRY: Confines = Confines {
     ..NOTHING
 };
 
-fn confines(letter: Letter, record: &Record, answer: u16) -> Confines {
-    let new = Places::Only(usize::from(answer));
-    let segment = Places::Only(usize::from(record.b));
-    match letter {
-        Letter::NewUser => REGISTRY,
-        Letter::StartThread => Confines {
+fn confines(call: Call, answer: u16) -> Confines {
+    let at = |number| Places::Only(usize::from(number));
+    let new = at(answer);
+    match call {
+        Call::NewUser => REGISTRY,
+        Call::StartThread { .. } => Confines {
             threads: Places::Anywhere,
             ..REGISTRY
         },
-        Letter::EndThread | Letter::CallSegment | Letter::ReturnCall => Confines {
+        Call::EndThread { .. } | Call::CallSegment { .. } | Call::ReturnCall { .. } => Confines {
             threads: Places::Anywhere,
             ..NOTHING
         },
-        Letter::NewSegment => Confines {
+        Call::NewSegment { .. } => Confines {
             segments: new,
             locks: new,
             ..REGISTRY
         },
-        Letter::NewKey => Confines {
+        Call::NewKey { .. } => Confines {
             makers: new,
             ..REGISTRY
         },
-        Letter::GiveKey | Letter::TakeKey => Confines {
-            segments: segment,
+        Call::GiveKey { segment, .. } | Call::TakeKey { segment, .. } => Confines {
+            segments: at(segment),
             ..NOTHING
         },
-        Letter::AddLock => Confines {
-            locks: segment,
+        Call::AddLock { segment, .. } => Confines {
+            locks: at(segment),
             ..REGISTRY
         },
-        Letter::DropLock => Confines {
+        Call::DropLock { .. } => Confines {
             locks: Places::Anywhere,
             ..NOTHING
         },
-        Letter::Access => NOTHING,
+        Call::Access { .. } => NOTHING,
     }
 }
 
 /// An accepted call may change this much and no more.
 fn assert_confined(record: &Record, answer: u16, before: &Cells, after: &Cells) {
-    let letter = Letter::of(record.letter).expect("an accepted call has a letter");
-    let may = confines(letter, record, answer);
+    let call = Call::of(record).expect("an accepted call is well formed");
+    let may = confines(call, answer);
     let confined = (may.registry || before.registry == after.registry)
         && may
             .makers
@@ -259,10 +264,10 @@ fn tried(guard: &mut Guard, record: &Record) -> u32 {
         }
     }
     let mut direct = before;
-    let Some(own) = Own::of_call(record) else {
+    let Some(own) = Own::of_record(record) else {
         return outcome(answer);
     };
-    let directly = direct.call_own(own, record.a, record.b, record.c);
+    let directly = direct.call_own(own);
     assert_eq!(directly, answer, "{record:?} by its own function");
     assert!(
         direct.cells() == guard.cells(),
@@ -301,8 +306,8 @@ fn any_numbers_in_the_arrays() {
         }
         let before = guard.clone();
         for _ in 0..CALLS_EACH / 10 {
-            let thread = guard.cells().threads[random.below(64)][0][0];
-            let segment = random.below(64) as u16;
+            let thread = guard.cells().threads[random.below(MAX_LIVE_THREADS)][0][0];
+            let segment = random.below(MAX_SEGMENTS) as u16;
             for operation in ACCESSES {
                 let outcome = outcome(guard.access(thread, segment, operation));
                 let possible = [0, 2, 3, 7, 14, 15].contains(&outcome);

@@ -4,5 +4,7 @@ mod garbage;
 pub mod pair;
 pub mod tally;
 
-/// What an access can be: read and write.
-pub const ACCESSES: [u16; 2] = [2, 4];
+use reference::operations::{READ, WRITE};
+
+/// What an access can be.
+pub const ACCESSES: [u16; 2] = [READ, WRITE];

@@ -6,11 +6,11 @@
 use super::ACCESSES;
 use super::tally::Tally;
 use compare::guard::{Cells, Guard, Own, coded, filled_with, outcome};
+use reference::call::Call;
 use reference::guard::Answer;
 use reference::journal::Record;
-use reference::letter::Letter;
-use reference::trials;
 use std::collections::BTreeMap;
+use testing::trials;
 
 pub struct Pair {
     reference: reference::guard::Guard,
@@ -48,8 +48,8 @@ impl Pair {
         } = *record;
         let text = &record.text[..];
         let answer = self.reference.call(letter, a, b, c, text);
-        let given = match Own::of_call(record) {
-            Some(own) if direct => self.proved.call_own(own, a, b, c),
+        let given = match Own::of_record(record) {
+            Some(own) if direct => self.proved.call_own(own),
             _ => self.proved.call(letter, a, b, c, text),
         };
         if given != coded(answer) {
@@ -57,7 +57,8 @@ impl Pair {
             panic!("{record:?}: {answer:?} expected, {numbers:?} given");
         }
         if let Ok(answer) = answer {
-            self.expect_change(record, answer);
+            let call = Call::of(record).expect("an accepted call is well formed");
+            self.expect_change(call, answer);
         }
         let same = *self.proved.cells() == *self.expected;
         assert!(same, "a cell has changed that {record:?} is not about");
@@ -66,51 +67,66 @@ impl Pair {
     }
 
     /// Takes over what an accepted call may change.
-    fn expect_change(&mut self, record: &Record, answer: u16) {
-        let (a, b) = (record.a, usize::from(record.b));
+    fn expect_change(&mut self, call: Call, answer: u16) {
         let (new, cells) = (usize::from(answer), self.proved.cells());
-        match Letter::of(record.letter).expect("an accepted call has a letter") {
-            Letter::NewUser => self.expected.registry = cells.registry,
-            Letter::StartThread => {
+        match call {
+            Call::NewUser => self.expected.registry = cells.registry,
+            Call::StartThread { .. } => {
                 self.expected.registry = cells.registry;
-                let place =
-                    (0..64).find(|place| cells.threads[*place] != self.expected.threads[*place]);
-                let place = place.expect("a started thread is written");
-                let taken = self.places.values().any(|other| *other == place);
-                assert!(!taken, "thread {answer} takes another's place");
-                self.expected.threads[place] = cells.threads[place];
-                self.places.insert(answer, place);
+                self.expect_started(answer);
             }
-            Letter::EndThread => {
-                let place = self.places.remove(&a).expect("a live thread has a place");
-                self.expected.threads[place] = cells.threads[place];
+            Call::EndThread { thread } => {
+                self.expect_thread(thread);
+                self.places.remove(&thread);
             }
-            Letter::NewSegment => {
+            Call::NewSegment { .. } => {
                 self.expected.registry = cells.registry;
                 self.expected.segments[new] = cells.segments[new];
                 self.expected.locks[new] = cells.locks[new];
             }
-            Letter::NewKey => {
+            Call::NewKey { .. } => {
                 self.expected.registry = cells.registry;
                 self.expected.makers[new] = cells.makers[new];
             }
-            Letter::GiveKey | Letter::TakeKey => self.expected.segments[b] = cells.segments[b],
-            Letter::AddLock => {
+            Call::GiveKey { segment, .. } | Call::TakeKey { segment, .. } => {
+                let segment = usize::from(segment);
+                self.expected.segments[segment] = cells.segments[segment];
+            }
+            Call::AddLock { segment, .. } => {
                 self.expected.registry = cells.registry;
-                self.expected.locks[b] = cells.locks[b];
-                self.locked.insert(answer, record.b);
+                self.locked.insert(answer, segment);
+                self.expect_locks(segment);
             }
-            Letter::DropLock => {
-                let segment = self.locked.remove(&record.b);
-                let segment = usize::from(segment.expect("a standing lock has a segment"));
-                self.expected.locks[segment] = cells.locks[segment];
+            Call::DropLock { lock, .. } => {
+                let segment = self.locked.remove(&lock);
+                self.expect_locks(segment.expect("a standing lock has a segment"));
             }
-            Letter::CallSegment | Letter::ReturnCall => {
-                let place = self.places[&a];
-                self.expected.threads[place] = cells.threads[place];
+            Call::CallSegment { thread, .. } | Call::ReturnCall { thread } => {
+                self.expect_thread(thread);
             }
-            Letter::Access => {}
+            Call::Access { .. } => {}
         }
+    }
+
+    /// Finds the place of a thread that was started, which no other has.
+    fn expect_started(&mut self, thread: u16) {
+        let (given, expected) = (&self.proved.cells().threads, &self.expected.threads);
+        let place = (0..given.len()).find(|place| given[*place] != expected[*place]);
+        let place = place.expect("a started thread is written");
+        let taken = self.places.values().any(|other| *other == place);
+        assert!(!taken, "thread {thread} takes another's place");
+        self.places.insert(thread, place);
+        self.expect_thread(thread);
+    }
+
+    fn expect_thread(&mut self, thread: u16) {
+        let place = self.places[&thread];
+        self.expected.threads[place] = self.proved.cells().threads[place];
+    }
+
+    fn expect_locks(&mut self, segment: u16) {
+        let segment = usize::from(segment);
+        self.expected.locks[segment] = self.proved.cells().locks[segment];
     }
 
     /// Every C and every A of every live thread on every segment, each by its own

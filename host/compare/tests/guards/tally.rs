@@ -1,8 +1,8 @@
 //! How often each letter of a call came to each outcome.
 
-use reference::calls::outcomes;
 use reference::letter::Letter;
 use std::fmt;
+use testing::calls::outcomes;
 
 /// How often each letter came to each outcome: a refusal's number, or 0. The
 /// last row is for what is no call's letter.

@@ -1,8 +1,8 @@
 //! What the command is asked for.
 
 use super::failure::Failure;
-use super::input::Source;
 use super::output::Target;
+use super::source::Source;
 use keylock::shown::escaped;
 use std::ffi::{OsStr, OsString};
 use std::os::unix::ffi::OsStrExt;
@@ -13,10 +13,17 @@ pub enum Topic {
     Dis,
     Run,
     Trace,
+    State,
 }
 
 impl Topic {
-    pub const ALL: [Topic; 4] = [Topic::Asm, Topic::Dis, Topic::Run, Topic::Trace];
+    pub const ALL: [Topic; 5] = [
+        Topic::Asm,
+        Topic::Dis,
+        Topic::Run,
+        Topic::Trace,
+        Topic::State,
+    ];
 
     pub fn name(self) -> &'static str {
         match self {
@@ -24,6 +31,7 @@ impl Topic {
             Topic::Dis => "dis",
             Topic::Run => "run",
             Topic::Trace => "trace",
+            Topic::State => "state",
         }
     }
 
@@ -51,11 +59,18 @@ pub enum Command {
         source: Source,
         target: Target,
     },
+    State {
+        source: Source,
+        target: Target,
+    },
 }
 
 pub fn parse(mut arguments: impl Iterator<Item = OsString>) -> Result<Command, Failure> {
     let Some(first) = arguments.next() else {
-        return Err(Failure::usage(None, "what to do? asm, dis, run or trace"));
+        return Err(Failure::usage(
+            None,
+            "what to do? asm, dis, run, trace or state",
+        ));
     };
     match first.as_bytes() {
         b"-h" | b"--help" => Ok(Command::Help(None)),
@@ -155,6 +170,7 @@ impl Rest {
         Ok(match self.topic {
             Topic::Asm => Command::Asm { source, target },
             Topic::Dis => Command::Dis { source, target },
+            Topic::State => Command::State { source, target },
             _ => Command::Trace {
                 html: self.html,
                 source,

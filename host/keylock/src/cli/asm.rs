@@ -1,8 +1,9 @@
 //! `keylock asm`: a text journal to a journal.
 
 use super::failure::{Failure, Status};
-use super::input::{self, Source};
+use super::input;
 use super::output::Target;
+use super::source::Source;
 use std::io::{self, IsTerminal};
 
 pub fn asm(source: &Source, target: &Target) -> Result<Status, Failure> {
@@ -13,7 +14,7 @@ pub fn asm(source: &Source, target: &Target) -> Result<Status, Failure> {
         });
     }
     let name = source.name();
-    let bytes = source.read()?;
+    let bytes = source.read(target)?;
     if input::is_journal(&bytes) {
         let message = "no text, it begins with KLD: 'keylock dis' makes a journal a text";
         return Err(Failure::input(&name, message));

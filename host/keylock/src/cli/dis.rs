@@ -1,13 +1,14 @@
 //! `keylock dis`: a journal to a text journal.
 
 use super::failure::{Failure, Status};
-use super::input::{self, Name, Source};
+use super::input;
 use super::output::Target;
+use super::source::{Name, Source};
 use keylock::text;
 use rotundaaloe::Journal;
 
 pub fn dis(source: &Source, target: &Target) -> Result<Status, Failure> {
-    let bytes = source.read()?;
+    let bytes = source.read(target)?;
     let journal = read(&source.name(), &bytes)?;
     target.write(text::disassemble(&journal).as_bytes())?;
     Ok(Status::Success)

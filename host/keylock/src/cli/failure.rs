@@ -1,7 +1,7 @@
 //! How the command ends.
 
 use super::arguments::Topic;
-use super::input::Name;
+use super::source::Name;
 use std::fmt::Display;
 use std::io;
 

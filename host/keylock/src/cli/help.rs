@@ -10,6 +10,7 @@ pub fn text(topic: Option<Topic>) -> String {
         Some(Topic::Dis) => DIS,
         Some(Topic::Run) => RUN,
         Some(Topic::Trace) => TRACE,
+        Some(Topic::State) => STATE,
     };
     text.replace("{LETTERS}", &letters::table())
         .replace("{OPTIONS}", OPTIONS)
@@ -25,14 +26,15 @@ const OPTIONS: &str = "  \
 const COMMAND: &str = "\
 Usage: keylock SUBCOMMAND [OPTION]... [FILE]...
 
-Writes, reads, replays and explains the guard's journals. Every answer is the
-proved guard's.
+Writes, reads, replays and explains the guard's journals, and shows its state
+files. Every answer is the proved guard's.
 
 Subcommands:
   asm    a text journal to a journal
   dis    a journal to a text journal
   run    the guard's answer to each call
   trace  each call explained, as text or as a page
+  state  what stands in a state file
 
 Options:
   -h, --help     show this; 'keylock SUBCOMMAND --help' tells more
@@ -126,7 +128,11 @@ Usage: keylock trace [--html] [FILE] [-o OUT]
 Explains a journal or a text journal step by step: what each call asks for, the
 guard's answer and why, the thread's open calls and keys after it and, for a C
 or an A, each lock with the key that opened it or kept it shut. The text's
-comments and expected answers stand beside the steps.
+comments and expected answers stand beside the steps. A comment that begins with
+what its call makes gives it a name, of up to 40 characters:
+
+  S 0    # thread 0, the May closing
+  N 0 1  # segment 2, the totals sheet
 
 Options:
       --html        a page for a browser, in one file, to step through
@@ -136,4 +142,21 @@ expected answer isn't given, 2 called wrongly, or couldn't read or write.
 
 Example:
   keylock trace --html office.txt -o office.html
+";
+
+const STATE: &str = "\
+Usage: keylock state [FILE] [-o OUT]
+
+Shows what stands in a state file, which a host saves: the live threads with
+their open calls and keys, the segments with their key lists, the standing locks
+with their formulas as products, and how many numbers of each kind are left.
+Where the file is refused, it tells why.
+
+Options:
+{OPTIONS}
+Exit status: 0 fine, 1 the file is refused, 2 called wrongly, or couldn't read
+or write.
+
+Example:
+  keylock state office.kls
 ";

@@ -1,20 +1,18 @@
 //! A text's mistakes, each with its line and a caret under the place.
 
 use super::failure::{Failure, Status};
-use super::input::Name;
-use keylock::figures::counted;
-use keylock::shown::is_plain;
-use keylock::text::{self, Mistake};
+use super::source::Name;
+use keylock::figures::{counted, grouped};
+use keylock::shown::{characters, is_plain};
+use keylock::text::{self, Mistake, Mistakes};
 
-/// The most mistakes that are shown.
-const MOST: usize = 20;
-/// The most columns of a line that are shown.
+/// The most characters of a line that are shown.
 const WIDEST: usize = 76;
 
-pub fn failure(name: &Name, text: &[u8], mistakes: &[Mistake]) -> Failure {
+pub fn failure(name: &Name, text: &[u8], mistakes: &Mistakes) -> Failure {
     let mut lines = text::lines(text).enumerate();
     let mut report = String::new();
-    for mistake in mistakes.iter().take(MOST) {
+    for mistake in &mistakes.first {
         let Mistake {
             line,
             column,
@@ -26,11 +24,14 @@ pub fn failure(name: &Name, text: &[u8], mistakes: &[Mistake]) -> Failure {
             report += &excerpt(source, column - 1);
         }
     }
-    let many = mistakes.len();
-    if many > MOST {
-        report += &format!("and {} more\n", many - MOST);
+    let more = mistakes.count - mistakes.first.len();
+    if more > 0 {
+        report += &format!("and {} more\n", grouped(more));
     }
-    report += &format!("{}; nothing was written\n", counted(many, "mistake"));
+    report += &format!(
+        "{}; nothing was written\n",
+        counted(mistakes.count, "mistake")
+    );
     Failure {
         status: Status::Input,
         report,
@@ -39,19 +40,18 @@ pub fn failure(name: &Name, text: &[u8], mistakes: &[Mistake]) -> Failure {
 
 /// The part of a line around a character, and a caret under it.
 fn excerpt(line: &[u8], character: usize) -> String {
-    let line = String::from_utf8_lossy(line);
-    let characters: Vec<char> = line.chars().map(shown).collect();
-    let character = character.min(characters.len());
     let start = match character < WIDEST {
         true => 0,
         false => character - WIDEST / 2,
     };
-    let end = characters.len().min(start + WIDEST);
+    let mut rest = characters(line).skip(start);
+    let part: Vec<char> = rest.by_ref().take(WIDEST).map(shown).collect();
     let before = if start > 0 { "..." } else { "" };
-    let after = if end < characters.len() { "..." } else { "" };
-    let part: String = characters[start..end].iter().collect();
-    let columns: usize = characters[start..character].iter().map(|c| width(*c)).sum();
+    let after = if rest.next().is_some() { "..." } else { "" };
+    let left = part.iter().take(character - start);
+    let columns: usize = left.map(|character| width(*character)).sum();
     let caret = " ".repeat(before.len() + columns);
+    let part: String = part.iter().collect();
     format!("  {before}{part}{after}\n  {caret}^\n")
 }
 

@@ -1,10 +1,11 @@
 //! Writing: all or nothing.
 
 use super::failure::{Failure, Status};
-use super::input::{Name, Source};
+use super::source::Name;
+use super::standard;
 use std::ffi::OsString;
-use std::fs::{self, File, OpenOptions, Permissions};
-use std::io::{self, ErrorKind, Write};
+use std::fs::{self, File, Metadata, OpenOptions, Permissions};
+use std::io::{self, BufWriter, ErrorKind, Write};
 use std::os::unix::fs::MetadataExt;
 use std::path::{Path, PathBuf};
 use std::process;
@@ -23,12 +24,10 @@ impl Target {
         }
     }
 
-    /// A file that is read isn't written over: a text's comments would be lost.
-    pub fn must_differ_from(&self, source: &Source) -> Result<(), Failure> {
-        let (Target::File(target), Source::File(source)) = (self, source) else {
-            return Ok(());
-        };
-        let (Ok(old), Ok(read)) = (fs::metadata(target), fs::metadata(source)) else {
+    /// The input isn't written over, by whatever name it came: a text's comments
+    /// would be lost.
+    pub fn must_differ_from(&self, input: &File) -> Result<(), Failure> {
+        let (Ok(old), Ok(read)) = (self.metadata(), input.metadata()) else {
             return Ok(());
         };
         match old.is_file() && (old.dev(), old.ino()) == (read.dev(), read.ino()) {
@@ -36,7 +35,7 @@ impl Target {
                 status: Status::Use,
                 report: format!(
                     "keylock: {} is the input: write to another file\n",
-                    Name(target.to_string_lossy().into_owned())
+                    self.name()
                 ),
             }),
             false => Ok(()),
@@ -44,13 +43,37 @@ impl Target {
     }
 
     pub fn write(&self, bytes: &[u8]) -> Result<(), Failure> {
-        let (name, written) = match self {
-            Target::StandardOutput => ("standard output".to_string(), to_stdout(bytes)),
-            Target::File(path) => (path.to_string_lossy().into_owned(), to_file(path, bytes)),
+        self.write_by(|out| out.write_all(bytes))
+    }
+
+    /// What a function writes, as it comes.
+    pub fn write_by(&self, writing: impl Writing) -> Result<(), Failure> {
+        let written = match self {
+            Target::StandardOutput => to_stdout(writing),
+            Target::File(path) => to_file(path, writing),
         };
-        written.map_err(|error| Failure::device(&Name(name), &error))
+        written.map_err(|error| Failure::device(&self.name(), &error))
+    }
+
+    fn name(&self) -> Name {
+        Name(match self {
+            Target::StandardOutput => "standard output".to_string(),
+            Target::File(path) => path.to_string_lossy().into_owned(),
+        })
+    }
+
+    fn metadata(&self) -> io::Result<Metadata> {
+        match self {
+            Target::StandardOutput => standard::output()?.metadata(),
+            Target::File(path) => fs::metadata(path),
+        }
     }
 }
+
+/// A function that writes.
+pub trait Writing: FnOnce(&mut dyn Write) -> io::Result<()> {}
+
+impl<F: FnOnce(&mut dyn Write) -> io::Result<()>> Writing for F {}
 
 /// To standard error. Where that fails there is nobody left to tell.
 pub fn complain(report: &str) {
@@ -58,38 +81,61 @@ pub fn complain(report: &str) {
 }
 
 /// A reader that has gone away has read enough.
-fn to_stdout(bytes: &[u8]) -> io::Result<()> {
-    let mut stdout = io::stdout().lock();
-    let written = stdout.write_all(bytes).and_then(|()| stdout.flush());
-    match written {
+fn to_stdout(writing: impl Writing) -> io::Result<()> {
+    match through_buffer(&standard::output()?, writing) {
         Err(error) if error.kind() == ErrorKind::BrokenPipe => Ok(()),
         other => other,
     }
 }
 
+fn through_buffer(file: &File, writing: impl Writing) -> io::Result<()> {
+    let mut buffer = BufWriter::new(file);
+    writing(&mut buffer)?;
+    buffer.flush()
+}
+
 /// Files are replaced whole; devices and pipes are written to.
-fn to_file(path: &Path, bytes: &[u8]) -> io::Result<()> {
+fn to_file(path: &Path, writing: impl Writing) -> io::Result<()> {
     let old = match fs::metadata(path) {
-        Err(error) if error.kind() == ErrorKind::NotFound => return replace(path, None, bytes),
+        Err(error) if error.kind() == ErrorKind::NotFound => {
+            return replace(&destination(path)?, None, writing);
+        }
         old => old?,
     };
     // A file that may not be written to isn't replaced either.
-    let mut file = OpenOptions::new().write(true).open(path)?;
+    let file = OpenOptions::new().write(true).open(path)?;
     match old.is_file() {
-        true => replace(&fs::canonicalize(path)?, Some(old.permissions()), bytes),
-        false => file.write_all(bytes),
+        true => replace(&fs::canonicalize(path)?, Some(old.permissions()), writing),
+        false => through_buffer(&file, writing),
+    }
+}
+
+/// Where links lead to that isn't there yet.
+fn destination(path: &Path) -> io::Result<PathBuf> {
+    /// As many as the system follows.
+    const MOST_LINKS: usize = 40;
+    let mut path = path.to_path_buf();
+    for _ in 0..MOST_LINKS {
+        match fs::read_link(&path) {
+            Ok(link) => path = directory(&path).join(link),
+            Err(_) => return Ok(path),
+        }
+    }
+    Err(io::Error::other("too many links"))
+}
+
+fn directory(path: &Path) -> &Path {
+    match path.parent() {
+        Some(parent) if parent != Path::new("") => parent,
+        _ => Path::new("."),
     }
 }
 
 /// By a new file beside it and a rename, so that an old one stays whole if
 /// something fails.
-fn replace(path: &Path, permissions: Option<Permissions>, bytes: &[u8]) -> io::Result<()> {
-    let directory = match path.parent() {
-        Some(parent) if parent != Path::new("") => parent,
-        _ => Path::new("."),
-    };
-    let (temporary, file) = new_file(directory)?;
-    let written = fill(file, permissions, bytes).and_then(|()| fs::rename(&temporary, path));
+fn replace(path: &Path, permissions: Option<Permissions>, writing: impl Writing) -> io::Result<()> {
+    let (temporary, file) = new_file(directory(path))?;
+    let written = fill(&file, permissions, writing).and_then(|()| fs::rename(&temporary, path));
     if written.is_err() {
         // The first error is the one to tell.
         let _ = fs::remove_file(&temporary);
@@ -108,10 +154,10 @@ fn new_file(directory: &Path) -> io::Result<(PathBuf, File)> {
     }
 }
 
-fn fill(mut file: File, permissions: Option<Permissions>, bytes: &[u8]) -> io::Result<()> {
+fn fill(file: &File, permissions: Option<Permissions>, writing: impl Writing) -> io::Result<()> {
     if let Some(permissions) = permissions {
         file.set_permissions(permissions)?;
     }
-    file.write_all(bytes)?;
+    through_buffer(file, writing)?;
     file.sync_all()
 }

@@ -3,10 +3,12 @@
 use super::colour;
 use super::expected;
 use super::failure::{Failure, Status};
-use super::input::{Input, Source};
+use super::input::Input;
 use super::output::Target;
+use super::source::Source;
 use keylock::answer::Answer;
 use keylock::progress::Progress;
+use keylock::text::Text;
 use rotundaaloe::{Guard, Journal};
 
 pub fn run(sources: &[Source]) -> Result<Status, Failure> {
@@ -26,14 +28,18 @@ pub fn run(sources: &[Source]) -> Result<Status, Failure> {
     Ok(status)
 }
 
-/// Nothing is run where one of the inputs is at fault.
+/// Nothing is run where one of the inputs is at fault. Until then what is printed
+/// of each is kept, and no more.
 fn read_all(sources: &[Source]) -> Result<Vec<Input>, Failure> {
     let mut inputs = Vec::new();
     let mut status = Status::Success;
     let mut report = String::new();
     for source in sources {
-        match Input::read(source) {
-            Ok(input) => inputs.push(input),
+        match Input::read(source, &Target::StandardOutput) {
+            Ok(input) => inputs.push(Input {
+                text: input.text.map(Text::without_comments),
+                ..input
+            }),
             Err(failure) => {
                 status = status.max(failure.status);
                 report += &failure.report;
@@ -51,7 +57,7 @@ fn answers(journal: &Journal) -> Vec<Answer> {
     let mut progress = Progress::new(journal.records().count(), "records");
     let mut answers = Vec::new();
     for record in journal.records() {
-        answers.push(guard.call(&record).into());
+        answers.push(guard.call(record).into());
         progress.at(answers.len());
     }
     answers

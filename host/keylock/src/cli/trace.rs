@@ -3,32 +3,31 @@
 use super::colour;
 use super::expected;
 use super::failure::{Failure, Status};
-use super::input::{Input, Source};
+use super::input::Input;
 use super::output::Target;
-use keylock::answer::Answer;
+use super::source::Source;
 use keylock::figures::counted;
 use keylock::progress::Progress;
 use keylock::steps::{self, Entry, Step};
 use keylock::{page, trace};
 
 pub fn trace(html: bool, source: &Source, target: &Target) -> Result<Status, Failure> {
-    let input = Input::read(source)?;
-    let steps = explained(&input);
+    let input = Input::read(source, target)?;
+    let (mut answers, mut differing) = (Vec::new(), 0);
+    let steps = explained(&input).inspect(|step| {
+        answers.push(step.given());
+        differing += usize::from(step.disagreement.is_some());
+    });
     let introduction = match &input.text {
         Some(text) => &text.introduction[..],
         None => &[],
     };
-    let mut shown = Vec::new();
-    let written = match html {
-        true => page::write(&source.title(), introduction, &steps, &mut shown),
-        false => trace::write(introduction, &steps, colour::wanted(target), &mut shown),
-    };
-    written.expect("a vector takes everything");
-    target.write(&shown)?;
-    let answers: Vec<Answer> = steps.iter().map(Step::given).collect();
+    target.write_by(|mut out| match html {
+        true => page::write(&source.title(), introduction, steps, &mut out),
+        false => trace::write(introduction, steps, colour::wanted(target), &mut out),
+    })?;
     let status = expected::compare(&input, &answers);
-    let differing = steps.iter().filter(|step| step.disagreement.is_some());
-    match differing.count() {
+    match differing {
         0 => Ok(status),
         count => Err(Failure::input(
             &input.name,
@@ -40,24 +39,14 @@ pub fn trace(html: bool, source: &Source, target: &Target) -> Result<Status, Fai
     }
 }
 
-fn explained(input: &Input) -> Vec<Step<'_>> {
+fn explained(input: &Input) -> Box<dyn Iterator<Item = Step<'_>> + '_> {
     let mut progress = Progress::new(input.journal.records().count(), "records");
-    let step = |(place, entry)| {
-        progress.at(place);
-        entry
-    };
-    match &input.text {
+    let steps: Box<dyn Iterator<Item = Step>> = match &input.text {
         Some(text) => {
             let entries = text.calls().map(|(line, call)| Entry::of_text(line, call));
-            steps::explain(entries.enumerate().map(step))
+            Box::new(steps::explain(entries))
         }
-        None => steps::explain(
-            input
-                .journal
-                .records()
-                .map(Entry::from)
-                .enumerate()
-                .map(step),
-        ),
-    }
+        None => Box::new(steps::explain(input.journal.records().map(Entry::from))),
+    };
+    Box::new(steps.inspect(move |step| progress.at(step.place)))
 }

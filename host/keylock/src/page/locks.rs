@@ -1,38 +1,45 @@
 //! Locks on the page: whether they open, and which keys hold them shut.
 
-use super::html::{escaped, formula};
-use crate::steps::{Judgement, Literal, Lock, Product, Tried, shown_keys};
+use super::html::{formula, said};
+use super::pieces::Pieces;
+use crate::steps::{Judgement, Literal, Lock, Product, Tried};
 use crate::{shown, words};
 
 /// The locks that a call was tried on: the one that decided, then the others.
-pub fn tried_on(judgement: &Judgement) -> String {
+pub fn tried_on(judgement: &Judgement, pieces: &mut Pieces) -> String {
     let operation = words::operations(judgement.operation);
-    let segment = judgement.segment;
+    let segment = said(&judgement.segment_said);
     let decides = |lock: &&Tried| judgement.decided == Some(lock.lock.number);
     let (deciding, others): (Vec<_>, Vec<_>) = judgement.locks.iter().partition(decides);
     let part = match judgement.decided {
         Some(_) => Part::Stands,
         None => Part::Lacks,
     };
-    let deciding = deciding.into_iter().map(|lock| tried(lock, Part::Decides));
-    let others = others.into_iter().map(|lock| tried(lock, part));
-    let locks: String = deciding.chain(others).collect();
+    let deciding = deciding.into_iter().map(|lock| (lock, Part::Decides));
+    let others = others.into_iter().map(|lock| (lock, part));
+    let locks = deciding.chain(others);
+    let locks: String = locks
+        .map(|(lock, part)| tried(lock, part, pieces))
+        .collect();
     let none = match judgement.locks.is_empty() {
         true => "<p class=\"lock\">There is none.</p>\n",
         false => "",
     };
-    let before = match judgement.operation {
-        1 if !judgement.locks.is_empty() => {
-            let keys = shown_keys(&judgement.keys);
-            format!(
-                "<p class=\"after\">Tried with the keys before the call: <code>{keys}</code></p>\n"
-            )
-        }
-        _ => String::new(),
-    };
-    format!(
-        "<div>\n<h3>Locks for {operation} on segment {segment}</h3>\n{locks}{none}{before}</div>\n"
-    )
+    let before = before(judgement, pieces);
+    pieces.share(format!(
+        "<div>\n<h3>Locks for {operation} on {segment}</h3>\n{locks}{none}{before}</div>\n"
+    ))
+}
+
+/// The keys that a call was tried with, since it hands over others.
+fn before(judgement: &Judgement, pieces: &mut Pieces) -> String {
+    if judgement.operation != 1 || judgement.locks.is_empty() {
+        return String::new();
+    }
+    let keys = judgement.keys.iter();
+    let keys: Vec<String> = keys.map(|key| pieces.share(key.to_string())).collect();
+    let keys = keys.join(" ");
+    format!("<p class=\"after\">Tried with the keys before the call: <code>{keys}</code></p>\n")
 }
 
 /// What a lock has to do with the answer.
@@ -45,7 +52,7 @@ enum Part {
     Lacks,
 }
 
-fn tried(tried: &Tried, part: Part) -> String {
+fn tried(tried: &Tried, part: Part, pieces: &mut Pieces) -> String {
     let number = tried.lock.number;
     let decides = part == Part::Decides;
     let verb = verb(&tried.lock);
@@ -67,14 +74,13 @@ fn tried(tried: &Tried, part: Part) -> String {
     }
     let first = tried.products.iter().position(|product| product.opens);
     let products = tried.products.iter().enumerate();
-    let products: Vec<String> = products
-        .map(|(place, tried)| product(tried, decides && first == Some(place)))
+    let products: String = products
+        .map(|(place, tried)| product(tried, decides && first == Some(place), pieces))
         .collect();
-    format!(
-        "<div class=\"{class}\">{}<ul>{}</ul></div>\n",
-        lock_line(&tried.lock, &state),
-        products.concat()
-    )
+    let line = lock_line(&tried.lock, &state);
+    pieces.share(format!(
+        "<div class=\"{class}\">{line}<ul>{products}</ul></div>\n"
+    ))
 }
 
 fn verb(lock: &Lock) -> &'static str {
@@ -88,29 +94,33 @@ fn lock_line(lock: &Lock, said: &str) -> String {
     format!("<p>{said} {operations} if <code>{text}</code></p>")
 }
 
-fn product(product: &Product, decides: bool) -> String {
-    let literals: Vec<String> = product.literals.iter().map(literal).collect();
+fn product(product: &Product, decides: bool, pieces: &mut Pieces) -> String {
+    let literals = product.literals.iter();
+    let literals: Vec<String> = literals.map(|tried| literal(tried, pieces)).collect();
     let against = product.against().into_iter();
     let mut reasons: String = against
-        .map(|reason| format!("<p class=\"against\">{}</p>", escaped(&reason)))
+        .map(|reason| pieces.share(format!("<p class=\"against\">{}</p>", said(&reason))))
         .collect();
     if decides && !product.sources().is_empty() {
-        reasons = format!("<p class=\"from\">{}</p>", product.sources());
+        reasons = format!("<p class=\"from\">{}</p>", said(&product.sources()));
     }
-    format!(
+    pieces.share(format!(
         "<li class=\"product\"><div class=\"keys\">{}</div>{reasons}</li>",
         literals.join("<i>and</i>")
-    )
+    ))
 }
 
-fn literal(literal: &Literal) -> String {
+fn literal(literal: &Literal, pieces: &mut Pieces) -> String {
     let class = if literal.agrees() { "lit" } else { "lit off" };
     let (key, word) = (literal.literal, literal.in_short());
-    format!("<span class=\"{class}\"><code>{key}</code>{word}</span>")
+    pieces.share(format!(
+        "<span class=\"{class}\"><code>{key}</code>{word}</span>"
+    ))
 }
 
 /// A lock that no call is tried on now.
-pub fn standing(lock: &Lock) -> String {
+pub fn standing(lock: &Lock, pieces: &mut Pieces) -> String {
     let said = format!("<b>Lock {}</b> {}", lock.number, verb(lock));
-    format!("<div class=\"lock\">{}</div>\n", lock_line(lock, &said))
+    let line = lock_line(lock, &said);
+    pieces.share(format!("<div class=\"lock\">{line}</div>\n"))
 }

@@ -1,65 +1,54 @@
 //! What an accepted call means for those after it, in a sentence or two.
 
-use super::{Judgement, State};
-use crate::letters::Letter;
+use super::judgement::Judgement;
+use super::product::wanted;
+use super::state::{State, for_reference, key};
 use crate::words;
-use reference::history::OpenCall;
-use rotundaaloe::Record;
-use rotundaaloe::formula::{self, Product};
+use rotundaaloe::formula::{self, Key};
+use rotundaaloe::{Call, Defined, Lock, Operations, Record, Segment, Thread, User};
 
-/// Asked before the call is taken in.
+/// Asked before the call is taken in, when the name of what it makes is known.
 pub fn reason(
     state: &State,
     record: &Record,
     answer: u16,
     judgement: Option<&Judgement>,
 ) -> String {
-    let Record { a, b, c, .. } = *record;
-    let Some(letter) = Letter::of(record.letter) else {
+    let Some(call) = Call::of(record) else {
         return String::new();
     };
-    match letter {
-        Letter::NewUser => format!("Every thread of user {answer} holds U{answer}."),
-        Letter::StartThread => {
-            format!("It holds U{a}, its user's key, and R{answer}, its own, until it ends.")
+    match call {
+        Call::NewUser => {
+            let user = state.said(User(answer));
+            format!("Every thread of {user} holds U{answer}.")
         }
-        Letter::EndThread => ended(state, a),
-        Letter::NewSegment if b == 1 => "Without a lock nobody may read or write it.".to_string(),
-        Letter::NewSegment => {
+        Call::StartThread { user } => {
+            format!("It holds {user}, its user's key, and R{answer}, its own, until it ends.")
+        }
+        Call::EndThread { thread } => ended(state, thread),
+        Call::NewSegment { kind: 1, .. } => {
+            "Without a lock nobody may read or write it.".to_string()
+        }
+        Call::NewSegment { .. } => {
             format!("A call of it hands over S{answer}. Without a lock nobody may call it.")
         }
-        Letter::NewKey => {
-            format!("Only user {a} can give D{answer}, and only to segments of his own.")
+        Call::NewKey { user } => {
+            let user = state.said(user);
+            format!("Only {user} can give D{answer}, and only to segments of his own.")
         }
-        Letter::GiveKey | Letter::TakeKey if is_sheet(state, b) => {
-            format!("A sheet isn't called, so nobody gets D{c} from it.")
-        }
-        Letter::GiveKey => format!(
-            "New calls of segment {b} hand over D{c}. Open ones keep the keys that they handed over."
-        ),
-        Letter::TakeKey => taken(state, b, c),
-        Letter::AddLock => locked(state, record),
-        Letter::DropLock => dropped(state, b),
-        Letter::ReturnCall => returned(state, a),
-        Letter::CallSegment | Letter::Access => {
-            judgement.map_or(String::new(), |judgement| granted(judgement, a))
-        }
+        Call::GiveKey { segment, key, .. } => given(state, segment, key),
+        Call::TakeKey { segment, key, .. } => taken(state, segment, key),
+        Call::AddLock {
+            operations, text, ..
+        } => locked(state, operations, text),
+        Call::DropLock { lock, .. } => dropped(state, lock),
+        Call::ReturnCall { thread } => returned(state, thread),
+        Call::CallSegment { .. } | Call::Access { .. } => judgement.map_or(String::new(), granted),
     }
 }
 
-fn is_sheet(state: &State, segment: u16) -> bool {
-    let segment = state.history.segment(segment);
-    segment.is_some_and(|segment| segment.sheet)
-}
-
-/// A thread's open calls, the newest last.
-fn open_calls(state: &State, thread: u16) -> &[OpenCall] {
-    let thread = state.history.thread(thread);
-    thread.map_or(&[], |thread| &thread.open_calls)
-}
-
-fn ended(state: &State, thread: u16) -> String {
-    match open_calls(state, thread).len() {
+fn ended(state: &State, thread: Thread) -> String {
+    match state.open_calls(thread).len() {
         0 => "It holds no key any more.",
         1 => "Its open call is closed, and it holds no key any more.",
         _ => "Its open calls are closed, and it holds no key any more.",
@@ -67,72 +56,66 @@ fn ended(state: &State, thread: u16) -> String {
     .to_string()
 }
 
-fn taken(state: &State, segment: u16, number: u16) -> String {
-    let key = reference::Key {
-        kind: reference::Kind::Defined,
-        number,
-    };
+fn given(state: &State, segment: Segment, key: Defined) -> String {
+    if state.is_sheet(segment) {
+        return uncalled(key);
+    }
+    let segment = state.said(segment);
+    format!(
+        "New calls of {segment} hand over {key}. Open ones keep the keys that they handed over."
+    )
+}
+
+fn uncalled(key: Defined) -> String {
+    format!("A sheet isn't called, so nobody gets {key} from it.")
+}
+
+fn taken(state: &State, segment: Segment, key: Defined) -> String {
+    if state.is_sheet(segment) {
+        return uncalled(key);
+    }
+    let wanted = for_reference(Key::Defined(key));
     let mut threads = state.history.live_threads();
     let kept = threads.any(|thread| {
-        let mut calls = open_calls(state, thread).iter();
-        calls.any(|call| call.segment == segment && call.list.contains(&key))
+        let mut calls = state.open_calls(Thread(thread)).iter();
+        calls.any(|call| call.segment == segment.0 && call.list.contains(&wanted))
     });
     let keep = match kept {
         true => " Open ones that handed it over keep it until they return.",
         false => "",
     };
-    format!("New calls of segment {segment} don't hand over D{number}.{keep}")
+    let segment = state.said(segment);
+    format!("New calls of {segment} don't hand over {key}.{keep}")
 }
 
-fn dropped(state: &State, number: u16) -> String {
-    let mut standing = state.history.standing();
-    match standing.any(|(lock, kept)| lock == number && kept.denies()) {
+fn dropped(state: &State, lock: Lock) -> String {
+    match state.standing(lock).is_some_and(|lock| lock.denies()) {
         true => "It keeps nobody out any more, threads in mid-run included.",
         false => "It opens for nobody any more, threads in mid-run included.",
     }
     .to_string()
 }
 
-fn locked(state: &State, record: &Record) -> String {
-    let products = formula::compile(record.text, state.issued()).unwrap_or_default();
+fn locked(state: &State, operations: Operations, text: &[u8]) -> String {
+    let products = formula::compile(text, state.issued()).unwrap_or_default();
     let wanted = products
         .iter()
         .map(|product| wanted(product, "holds", "doesn't hold"));
     let wanted: Vec<String> = wanted.collect();
-    let verb = match record.c & 8 {
+    let verb = match operations.0 & 8 {
         8 => "It denies",
         _ => "It grants",
     };
-    let operations = words::operations(record.c & 7);
+    let operations = words::operations(operations.0 & 7);
     format!(
         "{verb} {operations} to a thread that {}.",
         wanted.join(", or ")
     )
 }
 
-/// What a product asks of a thread: `holds S0 and S1 but not D0`. The two verbs
-/// give the tense.
-fn wanted(product: &Product, holds: &str, lacks: &str) -> String {
-    let (mut plain, mut barred) = (Vec::new(), Vec::new());
-    for literal in product.literals() {
-        match literal {
-            formula::Literal::Plain(key) => plain.push(key.to_string()),
-            formula::Literal::Barred(key) => barred.push(key.to_string()),
-        }
-    }
-    match (plain.is_empty(), barred.is_empty()) {
-        (_, true) => format!("{holds} {}", words::listed(&plain, "and")),
-        (true, _) => format!("{lacks} {}", words::listed(&barred, "or")),
-        _ => {
-            let (plain, barred) = (words::listed(&plain, "and"), words::listed(&barred, "or"));
-            format!("{holds} {plain} but not {barred}")
-        }
-    }
-}
-
 /// Which keys go back with the newest open call, and which are still held.
-fn returned(state: &State, thread: u16) -> String {
-    let Some((left, open)) = open_calls(state, thread).split_last() else {
+fn returned(state: &State, thread: Thread) -> String {
+    let Some((left, open)) = state.open_calls(thread).split_last() else {
         return String::new();
     };
     let (still, gone): (Vec<_>, Vec<_>) = left
@@ -150,13 +133,13 @@ fn returned(state: &State, thread: u16) -> String {
     let stays = match (still.len(), one_has_all) {
         (0, _) => None,
         (1, _) => Some(format!(
-            "{shown} stays held: another open call handed it over too."
+            "{shown} stays held: another open call of this thread handed it over too."
         )),
         (_, true) => Some(format!(
-            "{shown} stay held: another open call handed them over too."
+            "{shown} stay held: another open call of this thread handed them over too."
         )),
         (_, false) => Some(format!(
-            "{shown} stay held: other open calls handed them over too."
+            "{shown} stay held: other open calls of this thread handed them over too."
         )),
     };
     let sentences: Vec<String> = gives_back.into_iter().chain(stays).collect();
@@ -164,27 +147,14 @@ fn returned(state: &State, thread: u16) -> String {
 }
 
 fn listed(keys: &[&reference::Key]) -> String {
-    let keys = keys.iter().map(|key| super::key(**key).to_string());
+    let keys = keys.iter().map(|listed| key(**listed).to_string());
     words::listed(&keys.collect::<Vec<_>>(), "and")
 }
 
-fn granted(judgement: &Judgement, thread: u16) -> String {
-    let Some(lock) = judgement.decided else {
-        return String::new();
-    };
-    let locks = judgement.locks.iter();
-    let mut decided = locks.filter(|tried| tried.lock.number == lock);
-    let Some(tried) = decided.next() else {
-        return String::new();
-    };
+fn granted(judgement: &Judgement) -> String {
     // A call hands over keys, so what it was tried with is past.
-    let (opens, holds, lacks) = match judgement.operation {
-        1 => ("opened", "held", "didn't hold"),
-        _ => ("opens", "holds", "doesn't hold"),
-    };
-    let product = tried.products.iter().position(|product| product.opens);
-    let wanted = product.map_or(String::new(), |place| {
-        wanted(&tried.lock.products[place], holds, lacks)
-    });
-    format!("Lock {lock} {opens}: thread {thread} {wanted}.")
+    match judgement.operation {
+        1 => judgement.opening("opened", "held", "didn't hold"),
+        _ => judgement.opening("opens", "holds", "doesn't hold"),
+    }
 }

@@ -1,7 +1,11 @@
 //! Whether an explanation leads to the proved guard's answer. It always does,
 //! unless this library is wrong.
 
-use super::{Judgement, Literal, State, for_history, shown_keys};
+use super::judgement::Judgement;
+use super::product::Literal;
+use super::shown_keys;
+use super::state::{State, for_history};
+use rotundaaloe::limits::MOST_OPEN_CALLS;
 use rotundaaloe::{Lock, Record, Refusal};
 
 /// What the explanation of an answered call and the answer differ in. Asked
@@ -24,23 +28,24 @@ pub fn disagreement(
             }
         }
     }
-    let drawn = drawn(state, record, judgement);
+    let drawn = drawn(state, judgement);
     (drawn != answer).then(|| format!("the locks say {drawn:?}, the guard says {answer:?}"))
 }
 
 /// The answer that follows from the locks.
-fn drawn(state: &State, record: &Record, judgement: &Judgement) -> Result<u16, Refusal> {
+fn drawn(state: &State, judgement: &Judgement) -> Result<u16, Refusal> {
     let opening = |denies: bool| {
         let mut locks = judgement.locks.iter();
         let lock = locks.find(|tried| tried.lock.denies() == denies && tried.opens());
         lock.map(|tried| tried.lock.number)
     };
-    let open_calls = state.history.thread(record.a);
-    let open_calls = open_calls.map_or(0, |thread| thread.open_calls.len());
+    let open_calls = state.open_calls(judgement.thread).len();
     match (opening(true), opening(false)) {
         (Some(lock), _) => Err(Refusal::Denied(Lock(lock))),
         (None, None) => Err(Refusal::NotGranted),
-        (None, Some(_)) if judgement.operation == 1 && open_calls >= 16 => Err(Refusal::Full),
+        (None, Some(_)) if judgement.operation == 1 && open_calls >= MOST_OPEN_CALLS => {
+            Err(Refusal::Full)
+        }
         (None, Some(lock)) => Ok(lock),
     }
 }

@@ -1,10 +1,14 @@
 //! Why a call is refused, in a sentence or two about what stands.
 
-use super::{Judgement, State, shown_keys};
-use crate::letters::{Field, Letter};
-use crate::{shown, spelling, words};
-use rotundaaloe::formula;
-use rotundaaloe::{Record, Refusal};
+use super::judgement::Judgement;
+use super::shown_keys;
+use super::state::State;
+use crate::figures::grouped;
+use crate::names::Thing;
+use crate::words::{self, capital};
+use crate::{shown, spelling};
+use rotundaaloe::{Call, Defined, Field, Lock, Operations, Record, Refusal, Segment, Thread, User};
+use rotundaaloe::{formula, limits};
 
 /// Asked before the call is taken in.
 pub fn reason(
@@ -13,72 +17,59 @@ pub fn reason(
     refusal: Refusal,
     judgement: Option<&Judgement>,
 ) -> String {
-    let Some(letter) = Letter::of(record.letter) else {
+    let Some(call) = Call::of(record) else {
         return NO_SHAPE.to_string();
     };
+    let issued = state.issued();
+    let named = |field: Field| named(record, call, field);
     match refusal {
-        Refusal::NotOwner
-        | Refusal::Unfit
-        | Refusal::AlreadyPresent
-        | Refusal::NotPresent
-        | Refusal::Full => of_letter(state, letter, record, refusal),
+        Refusal::UnknownUser => none(User(named(Field::User)), issued.users, "user"),
+        Refusal::NoThread => no_thread(state, Thread(named(Field::Thread))),
+        Refusal::NoSegment => none(Segment(named(Field::Segment)), issued.segments, "segment"),
+        Refusal::NoKey => none(Defined(named(Field::Key)), issued.defined, "key"),
+        Refusal::NoLock => no_lock(state, named(Field::Lock)),
+        Refusal::NotOwner => not_owner(state, call),
+        Refusal::Unfit => unfit(state, call),
+        Refusal::AlreadyPresent | Refusal::NotPresent => present(state, call),
+        Refusal::Full => full(state, call),
         Refusal::Malformed => malformed(state, record.text),
-        Refusal::TooWide => {
-            "Some part of the formula needs more than 8 products, or more than 6 keys in one."
-                .into()
-        }
+        Refusal::TooWide => too_wide(),
         Refusal::Unsatisfiable => {
             "No key set opens it: every product has a key both plain and barred.".into()
         }
-        Refusal::Denied(lock) => {
-            format!("Deny lock {} opens, and a deny beats every grant.", lock.0)
-        }
-        Refusal::NotGranted => {
-            judgement.map_or(String::new(), |found| not_granted(found, record.a))
-        }
-        other => missing(state, letter, record, other),
+        Refusal::Denied(_) => judgement.map_or(String::new(), denied),
+        Refusal::NotGranted => judgement.map_or(String::new(), not_granted),
+        Refusal::NotJournal | Refusal::OtherVersion | Refusal::Corrupt => NO_SHAPE.to_string(),
     }
 }
 
 const NO_SHAPE: &str = "No call has this shape: an unknown letter, a field that should be 0, \
                         or a text where none belongs.";
 
-/// Refusals 1 to 5, and calls of no known shape.
-fn missing(state: &State, letter: Letter, record: &Record, refusal: Refusal) -> String {
-    let issued = state.issued();
-    let named = |wanted: Field| {
-        let fields = letter.fields().iter();
-        let mut values = fields.zip([record.a, record.b, record.c]);
-        let value = values.find(|(field, _)| **field == wanted);
-        value.map_or(0, |(_, value)| value)
-    };
-    let (thread, lock) = (named(Field::Thread), named(Field::Lock));
-    let none = |thing: &str, made: u32, noun: &str| {
-        let so_far = so_far(made, noun);
-        format!("There is no {thing}: {so_far}.")
-    };
-    match refusal {
-        Refusal::UnknownUser => {
-            let user = format!("user {}", named(Field::User));
-            none(&user, issued.users, "user")
-        }
-        Refusal::NoThread if u32::from(thread) < issued.threads => {
-            format!("Thread {thread} has ended.")
-        }
-        Refusal::NoThread => format!("Thread {thread} was never started."),
-        Refusal::NoSegment => {
-            let segment = format!("segment {}", named(Field::Segment));
-            none(&segment, issued.segments, "segment")
-        }
-        Refusal::NoKey => {
-            let key = format!("key D{}", named(Field::Key));
-            none(&key, issued.defined, "key")
-        }
-        Refusal::NoLock if u32::from(lock) < state.kept.locks_made() => {
-            format!("Lock {lock} was dropped.")
-        }
-        Refusal::NoLock => format!("Lock {lock} was never made."),
-        _ => NO_SHAPE.to_string(),
+/// A field of a call.
+fn named(record: &Record, call: Call, wanted: Field) -> u16 {
+    let fields = call.letter().fields().iter();
+    let mut values = fields.zip([record.a, record.b, record.c]);
+    let value = values.find(|(field, _)| **field == wanted);
+    value.map_or(0, |(_, value)| value)
+}
+
+fn none(thing: impl Into<Thing>, made: u32, noun: &str) -> String {
+    format!("There is no {}: {}.", thing.into(), so_far(made, noun))
+}
+
+fn no_thread(state: &State, thread: Thread) -> String {
+    let said = capital(&state.said(thread));
+    match u32::from(thread.0) < state.issued().threads {
+        true => format!("{said} has ended."),
+        false => format!("{said} was never started."),
+    }
+}
+
+fn no_lock(state: &State, lock: u16) -> String {
+    match u32::from(lock) < state.kept.locks_made() {
+        true => format!("Lock {lock} was dropped."),
+        false => format!("Lock {lock} was never made."),
     }
 }
 
@@ -90,98 +81,163 @@ fn so_far(count: u32, thing: &str) -> String {
     }
 }
 
-/// Refusals 6 to 10, of which each letter has its own.
-fn of_letter(state: &State, letter: Letter, record: &Record, refusal: Refusal) -> String {
-    let Record { a, b, c, .. } = *record;
-    let list = || shown_keys(&state.list(b));
-    match letter {
-        Letter::NewUser => "There are 32 users, and no more fit.".to_string(),
-        Letter::StartThread => match state.history.live_threads().count() {
-            64.. => "64 threads are live, and no more fit.".to_string(),
-            _ => "All 65,536 thread numbers were handed out.".to_string(),
-        },
-        Letter::EndThread => String::new(),
-        Letter::NewSegment => match refusal {
-            Refusal::Unfit => "A segment is code (0) or a sheet (1).".to_string(),
-            _ => "There are 64 segments, and no more fit.".to_string(),
-        },
-        Letter::NewKey => "There are 1,024 keys, and no more fit.".to_string(),
-        Letter::GiveKey => match refusal {
-            Refusal::NotOwner => not_owner(state, record),
-            Refusal::AlreadyPresent => {
-                format!("D{c} is in segment {b}'s list already: {}.", list())
-            }
-            _ => format!(
-                "Segment {b}'s list has 8 keys, and no more fit: {}.",
-                list()
-            ),
-        },
-        Letter::TakeKey => match refusal {
-            Refusal::NotOwner => not_owner(state, record),
-            _ => format!("D{c} isn't in segment {b}'s list: {}.", list()),
-        },
-        Letter::AddLock => match refusal {
-            Refusal::NotOwner => not_owner(state, record),
-            Refusal::Unfit => unfit_lock(state, record),
-            _ if state.kept.locks_made() > 65_535 => {
-                "All 65,536 lock numbers were handed out.".to_string()
-            }
-            _ => too_many_products(state, record),
-        },
-        Letter::DropLock => {
-            let mut standing = state.history.standing();
-            let lock = standing.find(|(number, _)| *number == b);
-            let segment = lock.map_or(0, |(_, lock)| lock.segment);
-            let owner = owner(state, segment).unwrap_or_default();
-            format!("Lock {b} is on segment {segment}, which belongs to user {owner}.")
+/// Refusal 6. In a G the key's maker counts too.
+fn not_owner(state: &State, call: Call) -> String {
+    match call {
+        Call::GiveKey { user, segment, key } if state.owner(segment) == Some(user) => {
+            let maker = state.kept.maker(key).map(|maker| state.said(maker));
+            let (key, maker) = (capital(&state.said(key)), maker.unwrap_or_default());
+            format!("{key} was made by {maker}: only the maker gives it.")
         }
-        Letter::CallSegment => match refusal {
-            Refusal::Unfit => {
-                format!("Segment {b} is a sheet: it is read or written, and not called.")
-            }
-            _ => format!("A lock opens, but thread {a} has 16 open calls, and no more fit."),
-        },
-        Letter::ReturnCall => format!("Thread {a} has no open call to return from."),
-        Letter::Access => match c {
-            2 | 4 => format!("Segment {b} is code: it is called, and not read or written."),
-            _ => "An access is a read (2) or a write (4).".to_string(),
-        },
+        Call::GiveKey { segment, .. }
+        | Call::TakeKey { segment, .. }
+        | Call::AddLock { segment, .. } => {
+            let owner = state.owner(segment).map(|owner| state.said(owner));
+            let (segment, owner) = (capital(&state.said(segment)), owner.unwrap_or_default());
+            format!("{segment} belongs to {owner}.")
+        }
+        Call::DropLock { lock, .. } => another_owners_lock(state, lock),
+        Call::NewUser | Call::NewSegment { .. } | Call::NewKey { .. } => String::new(),
+        Call::StartThread { .. } | Call::EndThread { .. } | Call::ReturnCall { .. } => {
+            String::new()
+        }
+        Call::CallSegment { .. } | Call::Access { .. } => String::new(),
     }
 }
 
-fn owner(state: &State, segment: u16) -> Option<u16> {
-    state.history.segment(segment).map(|segment| segment.owner)
-}
-
-fn not_owner(state: &State, record: &Record) -> String {
-    let Record { a, b, c, .. } = *record;
-    match (owner(state, b), state.kept.maker(c)) {
-        (Some(owner), _) if owner != a => format!("Segment {b} belongs to user {owner}."),
-        (_, Some(maker)) => format!("Key D{c} was made by user {maker}: only the maker gives it."),
+fn another_owners_lock(state: &State, lock: Lock) -> String {
+    let segment = state
+        .standing(lock)
+        .map(|standing| Segment(standing.segment));
+    let owner = segment.and_then(|segment| state.owner(segment));
+    match (segment, owner) {
+        (Some(segment), Some(owner)) => {
+            let (segment, owner) = (state.said(segment), state.said(owner));
+            format!("Lock {} is on {segment}, which belongs to {owner}.", lock.0)
+        }
         _ => String::new(),
     }
 }
 
-fn unfit_lock(state: &State, record: &Record) -> String {
-    let Record { b, c, .. } = *record;
-    if c & 7 == 0 || c > 15 {
-        return "A lock has some of execute (1), read (2) and write (4), and maybe deny (8)."
-            .to_string();
-    }
-    let segment = state.history.segment(b);
-    match segment.is_some_and(|segment| segment.sheet) {
-        true => format!("Segment {b} is a sheet, which takes read and write only."),
-        false => format!("Segment {b} is code, which takes execute only."),
+/// Refusal 7.
+fn unfit(state: &State, call: Call) -> String {
+    let said = |segment: Segment| capital(&state.said(segment));
+    match call {
+        Call::NewSegment { .. } => "A segment is code (0) or a sheet (1).".to_string(),
+        Call::AddLock {
+            segment,
+            operations,
+            ..
+        } => unfit_lock(state, segment, operations),
+        Call::CallSegment { segment, .. } => {
+            let segment = said(segment);
+            format!("{segment} is a sheet: it is read or written, and not called.")
+        }
+        Call::Access {
+            segment,
+            operation: 2 | 4,
+            ..
+        } => {
+            let segment = said(segment);
+            format!("{segment} is code: it is called, and not read or written.")
+        }
+        Call::Access { .. } => "An access is a read (2) or a write (4).".to_string(),
+        Call::NewUser | Call::NewKey { .. } | Call::DropLock { .. } => String::new(),
+        Call::StartThread { .. } | Call::EndThread { .. } | Call::ReturnCall { .. } => {
+            String::new()
+        }
+        Call::GiveKey { .. } | Call::TakeKey { .. } => String::new(),
     }
 }
 
-fn too_many_products(state: &State, record: &Record) -> String {
-    let new = formula::compile(record.text, state.issued()).map_or(0, |products| products.len());
-    let locks = super::view::locks(state, record.b, 7);
+fn unfit_lock(state: &State, segment: Segment, operations: Operations) -> String {
+    if operations.0 & 7 == 0 || operations.0 > 15 {
+        return "A lock has some of execute (1), read (2) and write (4), and maybe deny (8)."
+            .to_string();
+    }
+    let said = capital(&state.said(segment));
+    match state.is_sheet(segment) {
+        true => format!("{said} is a sheet, which takes read and write only."),
+        false => format!("{said} is code, which takes execute only."),
+    }
+}
+
+/// Refusals 8 and 9: a key that is in the list, or isn't; no open call.
+fn present(state: &State, call: Call) -> String {
+    let list = |segment: Segment| shown_keys(&state.list(segment));
+    match call {
+        Call::GiveKey { segment, key, .. } => {
+            let (segment, list) = (state.said(segment), list(segment));
+            format!("{key} is in the list of {segment} already: {list}.")
+        }
+        Call::TakeKey { segment, key, .. } => {
+            let (segment, list) = (state.said(segment), list(segment));
+            format!("{key} isn't in the list of {segment}: {list}.")
+        }
+        Call::ReturnCall { thread } => {
+            let thread = capital(&state.said(thread));
+            format!("{thread} has no open call to return from.")
+        }
+        Call::NewUser | Call::NewSegment { .. } | Call::NewKey { .. } => String::new(),
+        Call::StartThread { .. } | Call::EndThread { .. } => String::new(),
+        Call::AddLock { .. } | Call::DropLock { .. } => String::new(),
+        Call::CallSegment { .. } | Call::Access { .. } => String::new(),
+    }
+}
+
+/// Refusal 10.
+fn full(state: &State, call: Call) -> String {
+    let most = |count: usize, what: &str| {
+        let count = grouped(count);
+        format!("There are {count} {what}, and no more fit.")
+    };
+    match call {
+        Call::NewUser => most(limits::MOST_USERS, "users"),
+        Call::NewSegment { .. } => most(limits::MOST_SEGMENTS, "segments"),
+        Call::NewKey { .. } => most(limits::MOST_KEYS, "keys"),
+        Call::StartThread { .. } => match state.history.live_threads().count() {
+            limits::MOST_THREADS.. => most(limits::MOST_THREADS, "live threads"),
+            _ => all_handed_out("thread"),
+        },
+        Call::GiveKey { segment, .. } => {
+            let (segment, list) = (state.said(segment), shown_keys(&state.list(segment)));
+            let most = limits::MOST_LISTED;
+            format!("The list of {segment} has {most} keys, and no more fit: {list}.")
+        }
+        Call::AddLock { segment, text, .. } => no_room_for_lock(state, segment, text),
+        Call::CallSegment { thread, .. } => {
+            let (thread, most) = (state.said(thread), limits::MOST_OPEN_CALLS);
+            format!("A lock opens, but {thread} has {most} open calls, and no more fit.")
+        }
+        Call::EndThread { .. } | Call::ReturnCall { .. } | Call::Access { .. } => String::new(),
+        Call::TakeKey { .. } | Call::DropLock { .. } => String::new(),
+    }
+}
+
+fn all_handed_out(thing: &str) -> String {
+    let all = grouped(limits::MOST_NUMBERS);
+    format!("All {all} {thing} numbers were handed out.")
+}
+
+fn no_room_for_lock(state: &State, segment: Segment, text: &[u8]) -> String {
+    if state.kept.locks_made() as usize >= limits::MOST_NUMBERS {
+        return all_handed_out("lock");
+    }
+    let new = formula::compile(text, state.issued()).map_or(0, |products| products.len());
+    let locks = super::view::locks(state, segment, 7);
     let standing: usize = locks.iter().map(|lock| lock.products.len()).sum();
-    let segment = record.b;
+    let (segment, most) = (state.said(segment), limits::MOST_PRODUCTS);
     format!(
-        "Segment {segment}'s locks have {standing} products and this one {new}: over 8 don't fit."
+        "The locks of {segment} have {standing} products and this one {new}: \
+         over {most} don't fit."
+    )
+}
+
+fn too_wide() -> String {
+    let (products, keys) = (limits::MOST_PRODUCTS, limits::MOST_LITERALS);
+    format!(
+        "Some part of the formula needs more than {products} products, \
+         or more than {keys} keys in one."
     )
 }
 
@@ -189,8 +245,8 @@ fn malformed(state: &State, text: &[u8]) -> String {
     if text.is_empty() {
         return "There is no text.".to_string();
     }
-    if text.len() > 96 {
-        return "The text has more than 96 bytes.".to_string();
+    if text.len() > limits::MOST_TEXT {
+        return format!("The text has more than {} bytes.", limits::MOST_TEXT);
     }
     if let Some((place, wrong)) = spelling::fault(text) {
         let place = match text.get(place) {
@@ -226,17 +282,28 @@ fn first_unknown(text: &[u8], issued: formula::Issued) -> Option<String> {
     unknown.map(str::to_string)
 }
 
-fn not_granted(judgement: &Judgement, thread: u16) -> String {
+fn denied(judgement: &Judgement) -> String {
+    let opening = judgement.opening("opens", "holds", "doesn't hold");
+    format!("{opening} It denies, and a deny beats every grant.")
+}
+
+/// Names the keys that are missing, of several products those of the nearest.
+fn not_granted(judgement: &Judgement) -> String {
     let operation = words::operations(judgement.operation);
-    let segment = judgement.segment;
-    let grants = judgement.locks.iter().filter(|tried| !tried.lock.denies());
-    match grants.count() {
-        0 => format!("No lock grants {operation} on segment {segment}."),
-        1 => format!(
-            "The only lock that grants {operation} on segment {segment} stays shut for thread {thread}."
-        ),
-        count => format!(
-            "All {count} locks that grant {operation} on segment {segment} stay shut for thread {thread}."
+    let segment = &judgement.segment_said;
+    let Some((lock, product)) = judgement.nearest() else {
+        return format!("No lock grants {operation} on {segment}.");
+    };
+    let against = product.against().join("; ");
+    let products: usize = judgement.grants().map(|tried| tried.products.len()).sum();
+    match (judgement.grants().count(), products) {
+        (1, 1) => format!("{against}."),
+        (1, products) => {
+            format!("Lock {lock} has {products} products, and none opens. Nearest: {against}.")
+        }
+        (locks, _) => format!(
+            "None of the {locks} locks that grant {operation} on {segment} opens. \
+             Nearest is lock {lock}: {against}."
         ),
     }
 }

@@ -1,16 +1,18 @@
 //! Where a thread and a segment stand after a call.
 
-use super::{State, keys};
-use crate::letters::Letter;
+use super::state::{State, keys};
 use reference::history;
 use rotundaaloe::formula::{self, Key};
-use rotundaaloe::{Record, Refusal};
+use rotundaaloe::{Call, Record, Refusal, Segment, Thread, User};
 
 /// A thread after a call.
 #[derive(Clone, Debug)]
-pub struct Thread {
+pub struct ThreadView {
     pub number: u16,
+    /// By its name, if it has one: `the May closing (thread 0)`.
+    pub said: String,
     pub user: u16,
+    pub user_said: String,
     /// Its open calls, the newest last. Empty for a thread that has ended.
     pub calls: Vec<OpenCall>,
     pub change: Change,
@@ -22,8 +24,7 @@ pub struct Thread {
 #[derive(Clone, Debug, PartialEq, Eq)]
 pub struct OpenCall {
     pub segment: u16,
-    /// What the notes call the segment.
-    pub name: Option<String>,
+    pub said: String,
     pub keys: Vec<Key>,
 }
 
@@ -42,10 +43,10 @@ pub enum Change {
 
 /// A segment after a call.
 #[derive(Clone, Debug)]
-pub struct Segment {
+pub struct SegmentView {
     pub number: u16,
-    pub name: Option<String>,
-    pub owner: u16,
+    pub said: String,
+    pub owner_said: String,
     pub sheet: bool,
     /// Its key list.
     pub keys: Vec<Key>,
@@ -69,10 +70,10 @@ impl Lock {
 }
 
 /// A segment's standing locks for any of the operations, by rising number.
-pub fn locks(state: &State, segment: u16, operations: u16) -> Vec<Lock> {
+pub fn locks(state: &State, segment: Segment, operations: u16) -> Vec<Lock> {
     let standing = state.history.standing();
     let there = standing
-        .filter(|(_, lock)| lock.segment == segment && lock.operations & operations & 7 != 0);
+        .filter(|(_, lock)| lock.segment == segment.0 && lock.operations & operations & 7 != 0);
     let lock = |(number, lock): (u16, &history::Lock)| {
         let formula = state.kept.formula(number);
         Lock {
@@ -89,82 +90,81 @@ pub fn locks(state: &State, segment: u16, operations: u16) -> Vec<Lock> {
 pub enum Concern {
     Nothing,
     /// A thread, and what the call does to it.
-    Thread(u16, Change),
-    Segment(u16),
+    Thread(Thread, Change),
+    Segment(Segment),
 }
 
 /// What an answered call concerns. Asked before the call is taken in.
 pub fn concern(state: &State, record: &Record, answer: Result<u16, Refusal>) -> Concern {
-    let Some(letter) = Letter::of(record.letter) else {
+    let Some(call) = Call::of(record) else {
         return Concern::Nothing;
     };
-    let calls = || match state.history.thread(record.a) {
-        Some(thread) => open_calls(state, thread),
-        None => Vec::new(),
+    let changed = |thread: Thread, change: Change| match answer {
+        Ok(_) => Concern::Thread(thread, change),
+        Err(_) => Concern::Thread(thread, Change::Nothing),
     };
-    let thread = |change: Change| match answer {
-        Ok(_) => Concern::Thread(record.a, change),
-        Err(_) => Concern::Thread(record.a, Change::Nothing),
-    };
-    match letter {
-        Letter::NewUser | Letter::NewKey => Concern::Nothing,
-        Letter::StartThread => match answer {
-            Ok(number) => Concern::Thread(number, Change::Started),
+    match call {
+        Call::NewUser | Call::NewKey { .. } => Concern::Nothing,
+        Call::StartThread { .. } => match answer {
+            Ok(number) => Concern::Thread(Thread(number), Change::Started),
             Err(_) => Concern::Nothing,
         },
-        Letter::CallSegment => thread(Change::Called),
-        Letter::ReturnCall => thread(calls().pop().map_or(Change::Nothing, Change::Left)),
-        Letter::EndThread => thread(Change::Ended(calls())),
-        Letter::Access => thread(Change::Nothing),
-        Letter::NewSegment => answer.map_or(Concern::Nothing, Concern::Segment),
-        Letter::GiveKey | Letter::TakeKey | Letter::AddLock => Concern::Segment(record.b),
-        Letter::DropLock => {
-            let mut standing = state.history.standing();
-            let lock = standing.find(|(number, _)| *number == record.b);
-            lock.map_or(Concern::Nothing, |(_, lock)| Concern::Segment(lock.segment))
+        Call::CallSegment { thread, .. } => changed(thread, Change::Called),
+        Call::ReturnCall { thread } => {
+            let left = open_calls(state, thread).pop();
+            changed(thread, left.map_or(Change::Nothing, Change::Left))
         }
+        Call::EndThread { thread } => changed(thread, Change::Ended(open_calls(state, thread))),
+        Call::Access { thread, .. } => Concern::Thread(thread, Change::Nothing),
+        Call::NewSegment { .. } => {
+            answer.map_or(Concern::Nothing, |number| Concern::Segment(Segment(number)))
+        }
+        Call::GiveKey { segment, .. }
+        | Call::TakeKey { segment, .. }
+        | Call::AddLock { segment, .. } => Concern::Segment(segment),
+        Call::DropLock { lock, .. } => match state.standing(lock) {
+            Some(lock) => Concern::Segment(Segment(lock.segment)),
+            None => Concern::Nothing,
+        },
     }
 }
 
-fn open_calls(state: &State, thread: &history::Thread) -> Vec<OpenCall> {
-    let calls = thread.open_calls.iter().map(|call| OpenCall {
+/// A live thread's open calls, the newest last.
+fn open_calls(state: &State, thread: Thread) -> Vec<OpenCall> {
+    let calls = state.open_calls(thread).iter().map(|call| OpenCall {
         segment: call.segment,
-        name: state.kept.segment_name(call.segment),
+        said: state.said(Segment(call.segment)),
         keys: keys(&call.list),
     });
     calls.collect()
 }
 
 /// A thread that a call concerns. Asked after the call is taken in.
-pub fn thread(state: &State, number: u16, change: Change) -> Option<Thread> {
-    if let Change::Ended(_) = change {
-        return Some(Thread {
-            number,
-            user: state.kept.user_of(number)?,
-            calls: Vec::new(),
-            change,
-            keys: Vec::new(),
-        });
-    }
-    let thread = state.history.thread(number)?;
-    Some(Thread {
-        number,
-        user: thread.user,
+pub fn thread(state: &State, thread: Thread, change: Change) -> Option<ThreadView> {
+    let user = match change {
+        Change::Ended(_) => state.kept.user_of(thread)?,
+        _ => User(state.history.thread(thread.0)?.user),
+    };
+    Some(ThreadView {
+        number: thread.0,
+        said: state.said(thread),
+        user: user.0,
+        user_said: state.said(user),
         calls: open_calls(state, thread),
         change,
-        keys: state.key_set(number),
+        keys: state.key_set(thread),
     })
 }
 
 /// A segment that is handed out. Asked after the call is taken in.
-pub fn segment(state: &State, number: u16) -> Option<Segment> {
-    let segment = state.history.segment(number)?;
-    Some(Segment {
-        number,
-        name: state.kept.segment_name(number),
-        owner: segment.owner,
-        sheet: segment.sheet,
-        keys: keys(&segment.list),
-        locks: locks(state, number, 7),
+pub fn segment(state: &State, segment: Segment) -> Option<SegmentView> {
+    let kept = state.history.segment(segment.0)?;
+    Some(SegmentView {
+        number: segment.0,
+        said: state.said(segment),
+        owner_said: state.said(User(kept.owner)),
+        sheet: kept.sheet,
+        keys: keys(&kept.list),
+        locks: locks(state, segment, 7),
     })
 }

@@ -1,42 +1,40 @@
 //! One line of a text journal.
 
-use super::bytes::shown;
+mod expected;
+mod quoted;
+
+use super::hint;
+use super::wrong::{Fault, Needed, Wrong};
 use crate::answer::Answer;
-use crate::letters::{self, Field, Letter};
+use crate::letters::Letter;
 use crate::spelling;
 use rotundaaloe::Record;
-use rotundaaloe::journal::MAX_TEXT_BYTES;
+use rotundaaloe::limits::MOST_TEXT;
 
 const ARROW: &[u8] = b"->";
 
-/// What is wrong, and at which byte of the line.
-pub struct Fault {
-    pub at: usize,
-    pub message: String,
+fn fault<'a, T>(at: usize, wrong: Wrong<'a>) -> Result<T, Fault<'a>> {
+    Err(Fault { at, wrong })
 }
 
-fn fault<T>(at: usize, message: impl Into<String>) -> Result<T, Fault> {
-    let message = message.into();
-    Err(Fault { at, message })
-}
-
-pub enum Found {
+pub enum Found<'a> {
     Nothing,
-    Comment(String),
-    Call(Call),
+    Comment(&'a [u8]),
+    Call(CallLine<'a>),
 }
 
-pub struct Call {
+/// A call's line.
+pub struct CallLine<'a> {
     /// Where the letter stands.
     pub at: usize,
     letter: Letter,
     fields: [u16; 3],
     text: Vec<u8>,
     pub expected: Option<Answer>,
-    pub comment: Option<String>,
+    pub comment: Option<&'a [u8]>,
 }
 
-impl Call {
+impl CallLine<'_> {
     pub fn record(&self) -> Record<'_> {
         let [a, b, c] = self.fields;
         Record {
@@ -50,14 +48,34 @@ impl Call {
 }
 
 /// Reads a line without its end.
-pub fn read(line: &[u8]) -> Result<Found, Fault> {
+pub fn read(line: &[u8]) -> Result<Found<'_>, Fault<'_>> {
+    found(line).map_err(|fault| named(line, fault))
+}
+
+/// A byte that no text has is named, whatever the word around it is taken for.
+fn named<'a>(line: &'a [u8], fault: Fault<'a>) -> Fault<'a> {
+    let Fault { at, wrong } = fault;
+    let stray = match wrong {
+        Wrong::Control(_) => None,
+        _ => hint::stray(word_at(line, at)),
+    };
+    match stray {
+        Some((place, name)) => Fault {
+            at: at + place,
+            wrong: Wrong::Always(name),
+        },
+        None => Fault { at, wrong },
+    }
+}
+
+fn found(line: &[u8]) -> Result<Found<'_>, Fault<'_>> {
     let mut scanner = Scanner {
         line,
         at: 0,
         end: 0,
     };
     let Some(word) = scanner.word() else {
-        return Ok(match scanner.comment() {
+        return Ok(match scanner.comment()? {
             Some(comment) => Found::Comment(comment),
             None => Found::Nothing,
         });
@@ -69,13 +87,13 @@ pub fn read(line: &[u8]) -> Result<Found, Fault> {
         false => Vec::new(),
     };
     let expected = scanner.expected(letter)?;
-    Ok(Found::Call(Call {
+    Ok(Found::Call(CallLine {
         at: word.at,
         letter,
         fields,
         text,
         expected,
-        comment: scanner.comment().filter(|comment| !comment.is_empty()),
+        comment: scanner.comment()?.filter(|comment| !comment.is_empty()),
     }))
 }
 
@@ -84,52 +102,70 @@ struct Word<'a> {
     bytes: &'a [u8],
 }
 
-fn letter(word: &Word) -> Result<Letter, Fault> {
-    let of = |bytes: &[u8]| match *bytes {
-        [byte] => Letter::of(byte),
-        _ => None,
-    };
-    if let Some(letter) = of(word.bytes) {
+/// The word that begins at a place, empty where none does.
+fn word_at(line: &[u8], at: usize) -> &[u8] {
+    let rest = &line[at..];
+    let ends = |byte: &u8| matches!(byte, b' ' | b'\t' | b'#');
+    let length = rest.iter().position(ends).unwrap_or(rest.len());
+    &rest[..length]
+}
+
+fn letter<'a>(word: &Word<'a>) -> Result<Letter, Fault<'a>> {
+    if let [byte] = word.bytes
+        && let Some(letter) = Letter::of(*byte)
+    {
         return Ok(letter);
     }
-    let all = Letter::ALL.map(|letter| letter.char().to_string());
-    let right = match of(&word.bytes.to_ascii_uppercase()) {
-        Some(letter) => format!("write {}", letter.char()),
-        None => format!("one of {}", all.join(" ")),
+    let (place, wrong) = match word.bytes {
+        bytes if hint::begins_comment(bytes) => (0, Wrong::Always(hint::COMMENT)),
+        [byte, rest @ ..] if Letter::of(*byte).is_some() => match hint::glued(rest) {
+            Some(wrong) => (1, Wrong::Always(wrong)),
+            None => (0, Wrong::NoLetter(word.bytes)),
+        },
+        bytes => (0, Wrong::NoLetter(bytes)),
     };
-    let word_shown = shown(word.bytes);
-    fault(
-        word.at,
-        format!("{word_shown} is no call's letter: {right}"),
-    )
+    fault(word.at + place, wrong)
 }
 
 /// A decimal number of 16 bits, or what is wrong with it; `other` where it is
 /// no number at all.
-fn number(word: &Word, other: impl Fn() -> String) -> Result<u16, Fault> {
-    let digits = std::str::from_utf8(word.bytes).unwrap_or_default();
+fn number<'a>(word: &Word<'a>, other: Wrong<'a>) -> Result<u16, Fault<'a>> {
+    let Word { at, bytes } = *word;
+    let digits = std::str::from_utf8(bytes).unwrap_or_default();
     if digits.is_empty() || !digits.bytes().all(|digit| digit.is_ascii_digit()) {
-        return fault(word.at, other());
+        return no_number(word, other);
     }
-    let name = shown(word.bytes);
-    let name = name.trim_matches('\'');
     if digits.starts_with('0') && digits != "0" {
-        return fault(word.at, format!("leading zero in {name}"));
+        return fault(at, Wrong::LeadingZero(bytes));
     }
     match digits.parse() {
         Ok(number) => Ok(number),
-        Err(_) => fault(word.at, format!("{name} is above 65535")),
+        Err(_) => fault(at, Wrong::TooLarge(bytes)),
+    }
+}
+
+/// What stands behind digits may tell what is meant.
+fn no_number<'a, T>(word: &Word<'a>, other: Wrong<'a>) -> Result<T, Fault<'a>> {
+    let digits = word.bytes.iter().take_while(|byte| byte.is_ascii_digit());
+    let place = digits.count();
+    match &word.bytes[place..] {
+        [b',', ..] if place > 0 => {
+            let wrong = Wrong::Always("numbers have blanks between them, and no commas");
+            fault(word.at + place, wrong)
+        }
+        rest if hint::begins_comment(rest) => fault(word.at + place, Wrong::Always(hint::COMMENT)),
+        rest if place > 0 && rest.starts_with(ARROW) => {
+            fault(word.at + place, Wrong::Always(hint::NO_BLANK_BEFORE_ARROW))
+        }
+        _ => fault(word.at, other),
     }
 }
 
 /// Whether a text of this length fits a record.
-fn fitting(word: &Word, length: usize) -> Result<(), Fault> {
+fn fitting<'a>(word: &Word<'a>, length: usize) -> Result<(), Fault<'a>> {
     match length {
-        1..=MAX_TEXT_BYTES => Ok(()),
-        _ => {
-            let message = format!("a text has 1 to {MAX_TEXT_BYTES} bytes, this has {length}");
-            fault(word.at, message)
-        }
+        1..=MOST_TEXT => Ok(()),
+        _ => fault(word.at, Wrong::TextLength(length)),
     }
 }
 
@@ -156,13 +192,9 @@ impl<'a> Scanner<'a> {
     /// The next word without taking it. `None` at a comment or the line's end.
     fn peek(&mut self) -> Option<Word<'a>> {
         self.skip_blanks();
-        let rest = self.rest();
-        let ends = |byte: &u8| matches!(byte, b' ' | b'\t' | b'#');
-        let length = rest.iter().position(ends).unwrap_or(rest.len());
-        (length > 0).then_some(Word {
-            at: self.at,
-            bytes: &rest[..length],
-        })
+        let bytes = word_at(self.line, self.at);
+        let at = self.at;
+        (!bytes.is_empty()).then_some(Word { at, bytes })
     }
 
     fn word(&mut self) -> Option<Word<'a>> {
@@ -177,48 +209,46 @@ impl<'a> Scanner<'a> {
         self.end = self.at;
     }
 
-    /// What follows `#`, where a comment is next.
-    fn comment(&mut self) -> Option<String> {
+    /// What follows `#`, where a comment is next. It has no NUL, and no CR: where
+    /// lines end with CR alone, a comment would swallow the calls behind it.
+    fn comment(&mut self) -> Result<Option<&'a [u8]>, Fault<'a>> {
         self.skip_blanks();
-        let comment = self.rest().strip_prefix(b"#")?;
-        let comment = String::from_utf8_lossy(comment);
-        Some(comment.trim().to_string())
+        let Some(comment) = self.rest().strip_prefix(b"#") else {
+            return Ok(None);
+        };
+        match hint::stray(comment) {
+            Some((place, name)) => fault(self.at + 1 + place, Wrong::Always(name)),
+            None => Ok(Some(comment.trim_ascii())),
+        }
     }
 
-    fn fields(&mut self, letter: Letter) -> Result<[u16; 3], Fault> {
+    fn fields(&mut self, letter: Letter) -> Result<[u16; 3], Fault<'a>> {
         let mut values = [0; 3];
-        let named = letter.fields();
-        for ((name, field), value) in "abc".chars().zip(named).zip(&mut values) {
-            *value = self.field(letter, name, *field)?;
+        for (place, (field, value)) in letter.fields().iter().zip(&mut values).enumerate() {
+            *value = self.field(Needed {
+                letter,
+                place,
+                field: *field,
+            })?;
         }
         Ok(values)
     }
 
-    fn field(&mut self, letter: Letter, name: char, field: Field) -> Result<u16, Fault> {
-        let letter = letter.char();
-        let field = letters::field(field);
-        let colon = if field.values.is_empty() { "" } else { ": " };
-        let needed = format!(
-            "{letter} needs {} (field {name}) here{colon}{}",
-            field.name, field.values
-        );
+    fn field(&mut self, needed: Needed) -> Result<u16, Fault<'a>> {
         match self.peek() {
-            None => fault(self.end, needed),
-            Some(word) if word.bytes.starts_with(ARROW) => fault(self.end, needed),
+            None => fault(self.end, Wrong::NoField(needed)),
+            Some(word) if word.bytes.starts_with(ARROW) => fault(self.end, Wrong::NoField(needed)),
             Some(word) => {
                 self.advance(word.bytes.len());
-                let other = || format!("{} is no number: {needed}", shown(word.bytes));
-                number(&word, other)
+                number(&word, Wrong::NoNumber(word.bytes, needed))
             }
         }
     }
 
-    fn text(&mut self, letter: Letter) -> Result<Vec<u8>, Fault> {
+    fn text(&mut self, letter: Letter) -> Result<Vec<u8>, Fault<'a>> {
         let word = self.peek();
         let Some(word) = word.filter(|word| !word.bytes.starts_with(ARROW)) else {
-            let letter = letter.char();
-            let message = format!("{letter} needs a text here, bare or in quotes");
-            return fault(self.end, message);
+            return fault(self.end, Wrong::NoText(letter));
         };
         match word.bytes[0] {
             b'"' => {
@@ -234,118 +264,20 @@ impl<'a> Scanner<'a> {
     }
 
     /// A bare text is a formula, so that a slip is told here.
-    fn bare(&mut self, word: &Word) -> Result<Vec<u8>, Fault> {
-        if let Some((place, wrong)) = spelling::fault(word.bytes) {
-            let message = match word.bytes[place..].starts_with(ARROW) {
-                true => "a blank is missing before '->'".to_string(),
-                false => format!("no formula: {wrong} (in quotes any text may stand)"),
-            };
-            return fault(word.at + place, message);
-        }
+    fn bare(&mut self, word: &Word<'a>) -> Result<Vec<u8>, Fault<'a>> {
         self.advance(word.bytes.len());
-        Ok(word.bytes.to_vec())
-    }
-
-    fn quoted(&mut self) -> Result<Vec<u8>, Fault> {
-        let opening = self.at;
-        self.at += 1;
-        let mut text = Vec::new();
-        loop {
-            match self.rest() {
-                [] => return fault(opening, "the quote isn't closed"),
-                [b'"', ..] => break,
-                [b'\\', ..] => text.push(self.escape()?),
-                _ => text.extend_from_slice(self.character()?),
+        let Some((place, wrong)) = spelling::fault(word.bytes) else {
+            return Ok(word.bytes.to_vec());
+        };
+        let rest = &word.bytes[place..];
+        let wrong = match rest {
+            _ if rest.starts_with(ARROW) => Wrong::Always(hint::NO_BLANK_BEFORE_ARROW),
+            _ if hint::begins_comment(rest) => Wrong::Always(hint::COMMENT),
+            [] if self.peek().is_some_and(|next| next.bytes != ARROW) => {
+                Wrong::NoFormula(spelling::NO_BLANKS)
             }
-        }
-        self.advance(1);
-        match self.rest() {
-            [] | [b' ' | b'\t' | b'#', ..] => Ok(text),
-            _ => fault(self.at, "a blank is missing after the closing quote"),
-        }
-    }
-
-    fn escape(&mut self) -> Result<u8, Fault> {
-        let digit = |byte: u8| char::from(byte).to_digit(16).map(|digit| digit as u8);
-        let (byte, length) = match *self.rest() {
-            [_, byte @ (b'"' | b'\\'), ..] => (Some(byte), 2),
-            [_, b'x', high, low, ..] => {
-                let byte = digit(high).zip(digit(low));
-                (byte.map(|(high, low)| high * 16 + low), 4)
-            }
-            _ => (None, 0),
+            _ => Wrong::NoFormula(wrong),
         };
-        let Some(byte) = byte else {
-            let message = r#"no such escape: one of \" \\ \xHH, HH two hexadecimal digits"#;
-            return fault(self.at, message);
-        };
-        self.at += length;
-        Ok(byte)
+        fault(word.at + place, wrong)
     }
-
-    /// The bytes of a character that stands for itself in quotes.
-    fn character(&mut self) -> Result<&'a [u8], Fault> {
-        let rest = self.rest();
-        let byte = rest[0];
-        let valid = rest.utf8_chunks().next().map_or("", |chunk| chunk.valid());
-        let Some(character) = valid.chars().next() else {
-            return fault(self.at, format!("no UTF-8 here: write \\x{byte:02X}"));
-        };
-        if character.is_ascii_control() {
-            let message = format!("a control character in the text: write \\x{byte:02X}");
-            return fault(self.at, message);
-        }
-        let length = character.len_utf8();
-        self.at += length;
-        Ok(&rest[..length])
-    }
-
-    /// The expected answer, if there is one, and nothing more.
-    fn expected(&mut self, letter: Letter) -> Result<Option<Answer>, Fault> {
-        let Some(word) = self.word() else {
-            return Ok(None);
-        };
-        if word.bytes != ARROW {
-            let message = match word.bytes.starts_with(ARROW) {
-                true => "a blank is missing after '->'".to_string(),
-                false => too_many(letter),
-            };
-            return fault(word.at, message);
-        }
-        let answer = match self.answer_word()?.bytes {
-            b"ok" => Answer::Ok(self.answer_number()?),
-            b"no" => Answer::No {
-                refusal: self.answer_number()?,
-                second: self.answer_number()?,
-            },
-            word => return fault(self.end - word.len(), ANSWERS),
-        };
-        match self.word() {
-            None => Ok(Some(answer)),
-            Some(word) => fault(word.at, ANSWERS),
-        }
-    }
-
-    fn answer_word(&mut self) -> Result<Word<'a>, Fault> {
-        let end = self.end;
-        self.word().map_or_else(|| fault(end, ANSWERS), Ok)
-    }
-
-    fn answer_number(&mut self) -> Result<u16, Fault> {
-        let word = self.answer_word()?;
-        number(&word, || ANSWERS.to_string())
-    }
-}
-
-const ANSWERS: &str = "an expected answer is 'ok N' or 'no N M'";
-
-fn too_many(letter: Letter) -> String {
-    let most = match (letter.has_text(), letter.fields().len()) {
-        (true, _) => "its text, and a formula has no blanks",
-        (false, 0) => "its letter",
-        (false, 1) => "one field",
-        (false, 2) => "two fields",
-        (false, _) => "three fields",
-    };
-    format!("{} takes no more than {most}", letter.char())
 }

@@ -1,4 +1,8 @@
-//! Runs the command.
+//! Runs the command; and tests of where it reads and writes.
+
+mod files;
+mod long;
+mod streams;
 
 use std::fs;
 use std::io::Write;
@@ -44,6 +48,9 @@ pub const OFFICE_LINES: &str = "\
 15 A no 15 0
 ";
 
+/// The journal of a text with one U.
+pub const ONE_USER: &[u8] = b"KLD\x01\0\x01\0U\0\0\0\0\0\0\0\0";
+
 /// What a run of the command left.
 pub struct Ran {
     pub status: i32,
@@ -65,6 +72,15 @@ pub fn keylock(arguments: &[&str], input: &[u8]) -> Ran {
     let mut child = spawn(&mut command);
     feed(&mut child, input);
     ran(child)
+}
+
+/// Runs the command by a shell's line, in which it is `keylock`, in a directory.
+pub fn shell(line: &str, directory: &Path) -> Ran {
+    let mut shell = Command::new("sh");
+    let define = "keylock() { \"$0\" \"$@\"; }";
+    let script = format!("{define}\n{line}");
+    shell.args(["-c", &script, env!("CARGO_BIN_EXE_keylock")]);
+    run(shell.current_dir(directory).stdin(Stdio::null()))
 }
 
 /// Runs a command that has its standard input.
@@ -91,6 +107,22 @@ fn ran(child: Child) -> Ran {
         output: output.stdout,
         complaint: String::from_utf8_lossy(&output.stderr).into_owned(),
     }
+}
+
+/// Nothing on standard output, this status, and this on standard error.
+#[track_caller]
+pub fn refused(ran: &Ran, status: i32, complaint: &str) {
+    assert_eq!(ran.complaint, complaint);
+    assert_eq!(ran.printed(), "");
+    assert_eq!(ran.status, status);
+}
+
+/// Nothing on standard error, and this on standard output.
+#[track_caller]
+pub fn fine(ran: &Ran, printed: &str) {
+    assert_eq!(ran.complaint, "");
+    assert_eq!(ran.printed(), printed);
+    assert_eq!(ran.status, 0);
 }
 
 /// A new directory for a test's files, gone when dropped.

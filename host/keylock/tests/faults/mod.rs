@@ -1,11 +1,11 @@
 //! Guards for the lessons: a small one that does what document 01 says of the
-//! calls that the lessons make, and the same with one of five faults. It judges
+//! calls that the lessons make, and the same with one of nine faults. It judges
 //! no owner and no limit.
 
 use reference::formula::{Literal, Product, compile};
-use reference::{Issued, Kind};
-use rotundaaloe::Record;
-use std::collections::{BTreeMap, BTreeSet};
+use reference::{Issued, Key, Kind};
+use rotundaaloe::{Call, Defined, Lock, Operations, Record, Segment, Thread, User};
+use std::collections::BTreeMap;
 
 /// The fault that a lesson catches.
 #[derive(Clone, Copy, Debug, PartialEq, Eq)]
@@ -20,45 +20,81 @@ pub enum Fault {
     CollectsAKeyTooEarly,
     /// Lesson 5: a dropped lock is still asked.
     GrantsOnADroppedLock,
+    /// Lesson 7: a product's keys must be handed over in their order.
+    FixesAnOrder,
+    /// Lesson 7: where the newest lock that opens grants, no deny lock is asked.
+    LetsAGrantOutvote,
+    /// Lesson 7: barred keys alone open only with some key that a call handed
+    /// over.
+    WantsAnotherKey,
+    /// Lesson 7: a key that is taken is gone from open calls too.
+    TakesFromOpenCalls,
 }
 
 impl Fault {
-    /// In the order of the lessons.
-    pub const ALL: [Fault; 5] = [
+    /// Those of lessons 1 to 5, in their order.
+    pub const FIVE: [Fault; 5] = [
         Fault::LosesKeysOnTheWayDown,
         Fault::GrantsOffTheRoute,
         Fault::LeavesAKeyBehind,
         Fault::CollectsAKeyTooEarly,
         Fault::GrantsOnADroppedLock,
     ];
+
+    /// Those of lesson 7, in the order of its traps.
+    pub const TRAPS: [Fault; 4] = [
+        Fault::FixesAnOrder,
+        Fault::LetsAGrantOutvote,
+        Fault::WantsAnotherKey,
+        Fault::TakesFromOpenCalls,
+    ];
 }
 
 /// An accepted answer, or a refusal's two numbers.
 pub type Answer = Result<u16, (u32, u16)>;
 
-struct Lock {
-    segment: u16,
+struct Standing {
+    segment: Segment,
     operations: u16,
     products: Vec<Product>,
 }
 
-#[derive(Default)]
-struct Thread {
-    user: u16,
-    /// The segments of the open calls, the newest last.
-    open_calls: Vec<u16>,
-    /// The segments whose keys a guard with a flat set of keys has.
-    flat: BTreeSet<u16>,
+impl Standing {
+    fn denies(&self) -> bool {
+        self.operations & 8 != 0
+    }
+}
+
+struct OpenCall {
+    segment: Segment,
+    keys: Vec<Key>,
+}
+
+struct Running {
+    user: User,
+    /// The newest last.
+    open_calls: Vec<OpenCall>,
+    /// What a guard with a flat set of keys has.
+    flat: Vec<Key>,
 }
 
 #[derive(Default)]
 pub struct Guard {
     fault: Option<Fault>,
     users: u16,
-    segments: u16,
+    keys: u16,
+    /// The key list of each segment.
+    lists: Vec<Vec<Key>>,
     locks_made: u16,
-    standing: BTreeMap<u16, Lock>,
-    threads: Vec<Thread>,
+    standing: BTreeMap<u16, Standing>,
+    threads: Vec<Running>,
+}
+
+const EXECUTE: u16 = 1;
+
+fn defined(Defined(number): Defined) -> Key {
+    let kind = Kind::Defined;
+    Key { kind, number }
 }
 
 impl Guard {
@@ -70,49 +106,83 @@ impl Guard {
     }
 
     pub fn call(&mut self, record: &Record) -> Answer {
-        let Record { a, b, c, .. } = *record;
-        match record.letter {
-            b'U' => Ok(next(&mut self.users)),
-            b'N' => Ok(next(&mut self.segments)),
-            b'S' => {
-                self.threads.push(Thread {
-                    user: a,
-                    ..Thread::default()
-                });
-                Ok(self.threads.len() as u16 - 1)
+        match Call::of(record).expect("a lesson makes calls") {
+            Call::NewUser => Ok(next(&mut self.users)),
+            Call::NewKey { .. } => Ok(next(&mut self.keys)),
+            Call::NewSegment { .. } => Ok(self.new_segment()),
+            Call::StartThread { user } => Ok(self.start(user)),
+            Call::EndThread { thread } => {
+                Ok(self.running(thread).open_calls.drain(..).count() as u16)
             }
-            b'L' => Ok(self.add_lock(b, c, record.text)),
-            b'D' => Ok(self.drop_lock(b)),
-            b'C' => {
-                let lock = self.check(a, b, 1)?;
-                let thread = &mut self.threads[usize::from(a)];
-                thread.open_calls.push(b);
-                thread.flat.insert(b);
-                Ok(lock)
+            Call::GiveKey { segment, key, .. } => {
+                let list = self.list(segment);
+                list.push(defined(key));
+                Ok(list.len() as u16)
             }
-            b'R' => {
-                let thread = &mut self.threads[usize::from(a)];
-                let left = thread.open_calls.pop().ok_or((9, 0))?;
-                if self.fault != Some(Fault::LeavesAKeyBehind) {
-                    thread.flat.remove(&left);
-                }
-                Ok(left)
-            }
-            b'A' => self.check(a, b, c),
-            letter => panic!("no lesson makes the call {}", char::from(letter)),
+            Call::TakeKey { segment, key, .. } => Ok(self.take(segment, defined(key))),
+            Call::AddLock {
+                segment,
+                operations,
+                text,
+                ..
+            } => Ok(self.add_lock(segment, operations, text)),
+            Call::DropLock { lock, .. } => Ok(self.drop_lock(lock)),
+            Call::CallSegment { thread, segment } => self.enter(thread, segment),
+            Call::ReturnCall { thread } => self.leave(thread),
+            Call::Access {
+                thread,
+                segment,
+                operation,
+            } => self.check(thread, segment, operation),
         }
     }
 
-    fn add_lock(&mut self, segment: u16, operations: u16, text: &[u8]) -> u16 {
+    fn list(&mut self, Segment(segment): Segment) -> &mut Vec<Key> {
+        &mut self.lists[usize::from(segment)]
+    }
+
+    fn running(&mut self, Thread(thread): Thread) -> &mut Running {
+        &mut self.threads[usize::from(thread)]
+    }
+
+    fn new_segment(&mut self) -> u16 {
+        let number = self.lists.len() as u16;
+        let kind = Kind::Segment;
+        self.lists.push(vec![Key { kind, number }]);
+        number
+    }
+
+    fn start(&mut self, user: User) -> u16 {
+        self.threads.push(Running {
+            user,
+            open_calls: Vec::new(),
+            flat: Vec::new(),
+        });
+        self.threads.len() as u16 - 1
+    }
+
+    fn take(&mut self, segment: Segment, key: Key) -> u16 {
+        self.list(segment).retain(|listed| *listed != key);
+        if self.fault == Some(Fault::TakesFromOpenCalls) {
+            for thread in &mut self.threads {
+                for call in &mut thread.open_calls {
+                    call.keys.retain(|held| *held != key);
+                }
+            }
+        }
+        self.list(segment).len() as u16
+    }
+
+    fn add_lock(&mut self, segment: Segment, operations: Operations, text: &[u8]) -> u16 {
         let issued = Issued {
             users: u32::from(self.users),
             threads: self.threads.len() as u32,
-            segments: u32::from(self.segments),
-            defined: 0,
+            segments: self.lists.len() as u32,
+            defined: u32::from(self.keys),
         };
-        let lock = Lock {
+        let lock = Standing {
             segment,
-            operations,
+            operations: operations.0,
             products: compile(text, &issued).expect("a lesson's lock is well made"),
         };
         let number = next(&mut self.locks_made);
@@ -120,7 +190,7 @@ impl Guard {
         number
     }
 
-    fn drop_lock(&mut self, number: u16) -> u16 {
+    fn drop_lock(&mut self, Lock(number): Lock) -> u16 {
         let products = self.standing[&number].products.len();
         if self.fault != Some(Fault::GrantsOnADroppedLock) {
             self.standing.remove(&number);
@@ -128,38 +198,89 @@ impl Guard {
         products as u16
     }
 
-    /// The lowest lock that opens. The lessons have no deny lock.
-    fn check(&self, thread: u16, segment: u16, operation: u16) -> Answer {
-        let opening = self.standing.iter().find(|(_, lock)| {
+    fn enter(&mut self, thread: Thread, segment: Segment) -> Answer {
+        let lock = self.check(thread, segment, EXECUTE)?;
+        let keys = self.list(segment).clone();
+        let thread = self.running(thread);
+        thread.flat.extend(&keys);
+        thread.open_calls.push(OpenCall { segment, keys });
+        Ok(lock)
+    }
+
+    fn leave(&mut self, thread: Thread) -> Answer {
+        let leaves_keys = self.fault == Some(Fault::LeavesAKeyBehind);
+        let thread = self.running(thread);
+        let OpenCall { segment, keys } = thread.open_calls.pop().ok_or((9, 0))?;
+        if !leaves_keys {
+            thread.flat.retain(|key| !keys.contains(key));
+        }
+        Ok(segment.0)
+    }
+
+    fn check(&self, thread: Thread, segment: Segment, operation: u16) -> Answer {
+        let opening = self.standing.iter().filter(|(_, lock)| {
             let stands = lock.segment == segment && lock.operations & operation != 0;
             stands && lock.products.iter().any(|p| self.opens(thread, p))
         });
-        opening.map(|(number, _)| *number).ok_or((15, 0))
+        let mut opening: Vec<(u16, bool)> = opening
+            .map(|(number, lock)| (*number, lock.denies()))
+            .collect();
+        if self.fault == Some(Fault::LetsAGrantOutvote)
+            && opening.last().is_some_and(|last| !last.1)
+        {
+            opening.retain(|(_, denies)| !denies);
+        }
+        match opening.iter().find(|(_, denies)| *denies) {
+            Some((number, _)) => Err((14, *number)),
+            None => opening.first().map(|(number, _)| *number).ok_or((15, 0)),
+        }
     }
 
-    fn opens(&self, thread: u16, product: &Product) -> bool {
-        let agrees = |literal: &Literal| self.holds(thread, literal) != literal.barred;
+    fn opens(&self, thread: Thread, product: &Product) -> bool {
+        let literals = product.literals();
+        let agrees = |literal: &Literal| self.holds(thread, literal.key) != literal.barred;
+        let opens = literals.iter().all(agrees);
         match self.fault {
-            Some(Fault::GrantsOffTheRoute) => product.literals().iter().any(agrees),
-            _ => product.literals().iter().all(agrees),
+            Some(Fault::GrantsOffTheRoute) => literals.iter().any(agrees),
+            Some(Fault::FixesAnOrder) => opens && self.came_in_order(thread, literals),
+            Some(Fault::WantsAnotherKey) => {
+                let asks = literals.iter().any(|literal| !literal.barred);
+                opens && (asks || !self.handed_over(thread).is_empty())
+            }
+            _ => opens,
         }
     }
 
-    fn holds(&self, number: u16, literal: &Literal) -> bool {
-        let thread = &self.threads[usize::from(number)];
-        let key = literal.key;
-        match (key.kind, self.fault) {
-            (Kind::User, _) => thread.user == key.number,
-            (Kind::Thread, _) => number == key.number,
-            (Kind::Defined, _) => false,
-            (Kind::Segment, Some(Fault::LosesKeysOnTheWayDown)) => {
-                thread.open_calls.last() == Some(&key.number)
-            }
-            (Kind::Segment, Some(Fault::LeavesAKeyBehind | Fault::CollectsAKeyTooEarly)) => {
-                thread.flat.contains(&key.number)
-            }
-            (Kind::Segment, _) => thread.open_calls.contains(&key.number),
+    fn holds(&self, thread: Thread, key: Key) -> bool {
+        match key.kind {
+            Kind::User => self.threads[usize::from(thread.0)].user.0 == key.number,
+            Kind::Thread => thread.0 == key.number,
+            Kind::Segment | Kind::Defined => self.handed_over(thread).contains(&key),
         }
+    }
+
+    /// The keys that the open calls handed over, the oldest call's first.
+    fn handed_over(&self, Thread(thread): Thread) -> Vec<Key> {
+        let thread = &self.threads[usize::from(thread)];
+        let calls = match self.fault {
+            Some(Fault::LeavesAKeyBehind | Fault::CollectsAKeyTooEarly) => {
+                return thread.flat.clone();
+            }
+            Some(Fault::LosesKeysOnTheWayDown) => {
+                &thread.open_calls[thread.open_calls.len().saturating_sub(1)..]
+            }
+            _ => &thread.open_calls[..],
+        };
+        calls.iter().flat_map(|call| call.keys.clone()).collect()
+    }
+
+    /// Whether the product's segment keys were handed over in its order.
+    fn came_in_order(&self, thread: Thread, literals: &[Literal]) -> bool {
+        let handed_over = self.handed_over(thread);
+        let plain = literals.iter().filter(|literal| !literal.barred);
+        plain
+            .filter_map(|literal| handed_over.iter().position(|key| *key == literal.key))
+            .is_sorted()
     }
 }
 

@@ -1,0 +1,146 @@
+//! The lines under a call: why it is answered so, the locks, and what stands.
+
+use super::paint::{Look, Paint};
+use crate::steps::{
+    Change, Judgement, Lock, OpenCall, Product, SegmentView, Step, ThreadView, Tried, shown_keys,
+};
+use crate::{shown, words};
+
+/// The lines, each with its end and without its indent.
+pub fn of(step: &Step, paint: Paint) -> String {
+    let mut details = Details {
+        paint,
+        lines: String::new(),
+    };
+    details.step(step);
+    details.lines
+}
+
+struct Details {
+    paint: Paint,
+    lines: String,
+}
+
+impl Details {
+    fn step(&mut self, step: &Step) {
+        if let Some(text) = &step.disagreement {
+            let differ = format!("explanation and guard differ: {text}");
+            self.line("WRONG", Look::Alarm, &differ);
+        }
+        if let (Some(false), Some(expected)) = (step.as_expected(), step.entry.expected) {
+            self.line("WRONG", Look::Alarm, &format!("expected {expected}"));
+        }
+        if let Some(note) = &step.entry.note {
+            self.line("note", Look::Plain, note);
+        }
+        self.line("why", Look::Plain, &step.reason);
+        if let Some(judgement) = &step.judgement {
+            self.judgement(judgement);
+        }
+        if let Some(segment) = &step.segment {
+            self.segment(segment);
+        }
+        if let Some(thread) = &step.thread {
+            self.thread(thread);
+        }
+    }
+
+    fn judgement(&mut self, judgement: &Judgement) {
+        if judgement.locks.is_empty() {
+            return self.line("locks", Look::Plain, "none for this operation");
+        }
+        if judgement.operation == 1 {
+            let keys = shown_keys(&judgement.keys);
+            let text = format!("with the keys before the call: {keys}");
+            self.line("tried", Look::Plain, &text);
+        }
+        for tried in &judgement.locks {
+            let decides = judgement.decided == Some(tried.lock.number);
+            self.tried(tried, decides);
+        }
+    }
+
+    fn tried(&mut self, tried: &Tried, decides: bool) {
+        let state = match (tried.opens(), decides) {
+            (_, true) => "opens and decides",
+            (true, false) => "opens",
+            (false, false) => "stays shut",
+        };
+        let look = match (tried.opens(), tried.lock.denies()) {
+            (true, false) => Look::Good,
+            (true, true) => Look::Bad,
+            (false, _) => Look::Quiet,
+        };
+        self.line("lock", look, &format!("{}: {state}", lock(&tried.lock)));
+        for product in &tried.products {
+            self.line("", Look::Plain, &format!("  {}", product_line(product)));
+        }
+    }
+
+    fn segment(&mut self, segment: &SegmentView) {
+        let kind = if segment.sheet { "sheet" } else { "code" };
+        let (said, owner) = (&segment.said, &segment.owner_said);
+        let keys = shown_keys(&segment.keys);
+        self.line(kind, Look::Plain, &format!("{said} of {owner} [{keys}]"));
+        for standing in &segment.locks {
+            self.line("lock", Look::Plain, &lock(standing));
+        }
+    }
+
+    fn thread(&mut self, thread: &ThreadView) {
+        let (said, number, user) = (&thread.said, thread.number, thread.user);
+        if let Change::Ended(closed) = &thread.change {
+            if !closed.is_empty() {
+                let closed: Vec<String> = closed.iter().map(open_call).collect();
+                let text = format!("{said} > {}", closed.join(" > "));
+                self.line("closed", Look::Plain, &text);
+            }
+            return;
+        }
+        let mut stack = format!("{said} [U{user} R{number}]");
+        for call in &thread.calls {
+            stack += &format!(" > {}", open_call(call));
+        }
+        match &thread.change {
+            Change::Called => stack += "  (just called)",
+            Change::Left(left) => stack += &format!("  (just left: {})", open_call(left)),
+            Change::Nothing | Change::Started | Change::Ended(_) => {}
+        }
+        self.line("stack", Look::Plain, &stack);
+        self.line("keys", Look::Plain, &shown_keys(&thread.keys));
+    }
+
+    /// A line with its label.
+    fn line(&mut self, label: &str, look: Look, text: &str) {
+        let label = self.paint.text(Look::Quiet, &format!("{label:6}"));
+        let text = self.paint.text(look, text);
+        self.lines += &format!("{label}  {text}\n");
+    }
+}
+
+fn open_call(call: &OpenCall) -> String {
+    format!("{} [{}]", call.said, shown_keys(&call.keys))
+}
+
+fn lock(lock: &Lock) -> String {
+    let verb = if lock.denies() { "denies" } else { "grants" };
+    let operations = words::operations(lock.operations & 7);
+    let text = shown::bytes(&lock.text);
+    format!("{} {verb} {operations} if {text}", lock.number)
+}
+
+/// `S0 & S1: shut. S0 is missing: segment 0 hands it over, and this thread has no
+/// open call of it`
+fn product_line(product: &Product) -> String {
+    let literals = product.literals.iter();
+    let literals: Vec<String> = literals.map(|tried| tried.literal.to_string()).collect();
+    let literals = literals.join(" & ");
+    if product.opens {
+        let sources = product.sources();
+        return match sources.is_empty() {
+            true => format!("{literals}: opens"),
+            false => format!("{literals}: opens, {sources}"),
+        };
+    }
+    format!("{literals}: shut. {}", product.against().join("; "))
+}

@@ -1,0 +1,12 @@
+//! Hosts in C: the header, the examples, the page for hosts and the installed
+//! library, by programs that a C compiler builds here.
+
+mod calls;
+mod compiler;
+mod contract;
+mod examples;
+mod install;
+mod journals;
+mod page;
+mod state;
+mod warnings;

@@ -1,0 +1,195 @@
+//! The reference guard against the history: a second opinion on every answer,
+//! read from the calls and answers alone. Lists of many kinds, and after each of
+//! them every fitting next operation of every live thread.
+//!
+//! `cargo test --release -- --nocapture` also prints how often each outcome came.
+
+use reference::call::Call;
+use reference::guard::{Answer, Guard, Refusal};
+use reference::history::{History, Verdict};
+use reference::journal::Record;
+use reference::letter::Letter;
+use reference::limits::MAX_FRAMES;
+use reference::operations::{READ, WRITE};
+use std::collections::BTreeMap;
+use testing::calls::{Caller, WORLDS, World, call, outcomes};
+use testing::random::Random;
+
+const LISTS: usize = 600;
+
+fn verdict_of(answer: Answer) -> Verdict {
+    match answer {
+        Ok(lock) => Verdict::Granted(lock),
+        Err(Refusal::Denied(lock)) => Verdict::Denied(lock),
+        Err(Refusal::NotGranted) => Verdict::NotGranted,
+        Err(Refusal::Full) => Verdict::Full,
+        Err(other) => panic!("{other:?} on a live thread's fitting operation"),
+    }
+}
+
+/// How often each letter, or '?' for one of no call, came to each outcome: a
+/// refusal's number, or 0.
+type Tally = BTreeMap<(char, u32), usize>;
+
+/// Makes a call, and compares the outcome with the history's.
+fn compared(
+    guard: &mut Guard,
+    history: &mut History,
+    record: &Record,
+    tally: &mut Tally,
+) -> Answer {
+    let before = guard.clone();
+    let answer = guard.call(record.letter, record.a, record.b, record.c, &record.text);
+    if let Some(verdict) = history.verdict(record) {
+        assert_eq!(verdict_of(answer), verdict, "{record:?}");
+    }
+    match answer {
+        Ok(answer) => assert_eq!(
+            history.answer(record),
+            Some(u32::from(answer)),
+            "{record:?}"
+        ),
+        Err(_) => assert!(
+            *guard == before,
+            "{record:?} is refused and changes something"
+        ),
+    }
+    history.feed(record, answer.ok());
+    let outcome = answer.map_or_else(Refusal::number, |_| 0);
+    let letter = Letter::of(record.letter).map_or('?', Letter::char);
+    *tally.entry((letter, outcome)).or_default() += 1;
+    answer
+}
+
+/// Every operation that fits. A C is made on a copy of the guard.
+fn compare_every_operation(guard: &Guard, history: &History) -> usize {
+    let mut operations = 0;
+    let mut compare = |call: Call, answer: &dyn Fn() -> Answer| {
+        if let Some(verdict) = history.verdict(&call.into()) {
+            assert_eq!(verdict_of(answer()), verdict, "{call:?}");
+            operations += 1;
+        }
+    };
+    for thread in history.live_threads() {
+        for segment in history.segments() {
+            let call = Call::CallSegment { thread, segment };
+            compare(call, &|| guard.clone().call_segment(thread, segment));
+            for operation in [READ, WRITE] {
+                let access = Call::Access {
+                    thread,
+                    segment,
+                    operation,
+                };
+                compare(access, &|| guard.access(thread, segment, operation));
+            }
+        }
+    }
+    operations
+}
+
+fn compare_lists(world: &World, seed: u64, lists: usize) -> Tally {
+    let mut random = Random::new(seed);
+    let mut tally = Tally::new();
+    let mut operations = 0;
+    for _ in 0..lists {
+        let mut guard = Guard::new();
+        let mut history = History::new();
+        let mut caller = Caller::new(&mut random, world);
+        for _ in 0..caller.length() {
+            let record = caller.next_call();
+            if let Ok(answer) = compared(&mut guard, &mut history, &record, &mut tally) {
+                caller.learn(&record, answer);
+            }
+        }
+        operations += compare_every_operation(&guard, &history);
+    }
+    println!(
+        "{}: {tally:?}, and {operations} next operations",
+        world.name
+    );
+    assert!(operations > lists);
+    tally
+}
+
+#[test]
+fn lists_of_every_world() {
+    let mut total = Tally::new();
+    for (seed, world) in WORLDS.iter().enumerate() {
+        let lists = LISTS
+            / if world.name == "everything to its limit" {
+                20
+            } else {
+                1
+            };
+        for (outcome, count) in compare_lists(world, seed as u64, lists) {
+            *total.entry(outcome).or_default() += count;
+        }
+    }
+    for letter in Letter::ALL.map(Letter::char) {
+        let possible = outcomes(letter as u8);
+        assert!(
+            possible.len() > 1 && possible[0] == 0,
+            "{letter}'s outcomes"
+        );
+        for outcome in possible {
+            let count = total.get(&(letter, *outcome)).unwrap_or(&0);
+            assert!(*count > 0, "{letter} never comes to {outcome}");
+        }
+    }
+    for (letter, outcome) in total.keys() {
+        assert!(
+            outcomes(*letter as u8).contains(outcome),
+            "{letter} {outcome}"
+        );
+    }
+}
+
+/// The history can tell a guard that is wrong: each of these answers is none
+/// that it would give.
+#[test]
+fn the_history_knows_better() {
+    let mut history = History::new();
+    let accepted = [
+        (call(b'U', 0, 0, 0), 0),
+        (call(b'N', 0, 0, 0), 0),
+        (call(b'N', 0, 1, 0), 1),
+        (testing::calls::lock(0, 0, 1, b"U0"), 0),
+        (testing::calls::lock(0, 1, 4, b"S0"), 1),
+        (testing::calls::lock(0, 1, 12, b"!S0"), 2),
+        (call(b'S', 0, 0, 0), 0),
+    ];
+    for (record, answer) in accepted {
+        assert_eq!(history.answer(&record), Some(answer));
+        history.feed(&record, Some(answer as u16));
+    }
+    let (calls, saves) = (call(b'C', 0, 0, 0), call(b'A', 0, 1, 4));
+    assert_eq!(history.verdict(&calls), Some(Verdict::Granted(0)));
+    assert_eq!(history.verdict(&saves), Some(Verdict::Denied(2)));
+    assert_eq!(
+        history.verdict(&call(b'A', 0, 1, 2)),
+        Some(Verdict::NotGranted)
+    );
+    for unfit in [
+        call(b'A', 0, 1, 1),
+        call(b'A', 0, 0, 2),
+        call(b'C', 0, 1, 0),
+        call(b'C', 0, 0, 1),
+        call(b'C', 1, 0, 0),
+        call(b'C', 0, 2, 0),
+    ] {
+        assert_eq!(history.verdict(&unfit), None);
+    }
+    // A refused call changes nothing in it.
+    history.feed(&calls, None);
+    assert_eq!(history.verdict(&saves), Some(Verdict::Denied(2)));
+    for _ in 0..MAX_FRAMES {
+        history.feed(&calls, Some(0));
+        assert_eq!(history.verdict(&saves), Some(Verdict::Granted(1)));
+    }
+    assert_eq!(history.verdict(&calls), Some(Verdict::Full));
+    history.feed(&call(b'R', 0, 0, 0), Some(0));
+    assert_eq!(history.verdict(&calls), Some(Verdict::Granted(0)));
+    history.feed(&call(b'D', 0, 0, 0), Some(1));
+    assert_eq!(history.verdict(&calls), Some(Verdict::NotGranted));
+    assert_eq!(history.answer(&call(b'E', 0, 0, 0)), Some(15));
+}
