@@ -2,7 +2,8 @@
 // lends.
 ghost use Prim.Native.Nat.{_+_, _≤_};
 ghost use lib.ListN.{length};
-ghost use Rattle.transcript.specs.Lines.{outcome as outcomeBytes, line as lineOf, fileLine, mostLine, mostFileLine, LinePut};
+ghost use Rattle.transcript.specs.Lines.{outcome as outcomeBytes, line as lineOf, fileLine, LinePut};
+ghost use Rattle.transcript.specs.Lines.{mostLine, mostFileLine};
 ghost use Rattle.transcript.specs.Internal.{Put, mostOutcome};
 use crate::bytes::decimal;
 use crate::bytes::put;

@@ -46,8 +46,8 @@ fn text(path: &Path) -> &str {
 #[test]
 fn a_package_stands_below_its_destination() {
     let destination = scratch("a package");
-    let installed = destination.join("opt/guard");
-    let said = printed_text(install("/opt/guard", text(&destination)));
+    let installed = destination.join("usr/guard");
+    let said = printed_text(install("/usr/guard", text(&destination)));
     assert_eq!(said, installed_below(text(&installed)));
     assert_eq!(files(&destination), FILES.map(|file| installed.join(file)));
     for file in FILES {
@@ -61,7 +61,7 @@ fn a_package_stands_below_its_destination() {
     assert_eq!(
         lines.lines().take(3).collect::<Vec<_>>(),
         [
-            "prefix=/opt/guard",
+            "prefix=/usr/guard",
             "includedir=${prefix}/include",
             "libdir=${prefix}/lib"
         ]

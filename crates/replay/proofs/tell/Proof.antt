@@ -3,8 +3,8 @@ use borrow.Author.Needs.{needs}
 use mathlib.Core.Path.{sym}
 use native.Mathlib.Omega.{arith}
 use lib.Seq.{length-take-le}
-use Rattle.replay.proofs.ignored.tell.Statement.{statement}
-use Rattle.replay.proofs.ignored.tell.Tie as tie
+use Rattle.replay.proofs.tell.Statement.{statement}
+use Rattle.replay.proofs.tell.Tie as tie
 
 array-share-prefix-name : tie.Need-array-share-prefix-name
 array-share-prefix-name c = search needs

@@ -4,8 +4,8 @@ use mathlib.Core.Path.{_≡_, refl, _∙_}
 use native.Mathlib.Omega.{arith}
 use borrow.Author.Needs.{needs}
 use lib.ListN.{length, length-set}
-use Rattle.replay.proofs.ignored.make_plain.Statement.{statement}
-use Rattle.replay.proofs.ignored.make_plain.Tie as tie
+use Rattle.replay.proofs.make_plain.Statement.{statement}
+use Rattle.replay.proofs.make_plain.Tie as tie
 
 abbrev Inv-loop : tie.InvT-loop
 Inv-loop text₀ i₀ text i = (i ≤ length text₀) × (length text ≡ length text₀)

@@ -2,8 +2,8 @@
 use Prim.Native.Nat.{_≤_, _-_}
 use borrow.Author.Needs.{needs}
 use native.Mathlib.Omega.{arith}
-use Rattle.replay.proofs.ignored.tell_ignored.Statement.{statement}
-use Rattle.replay.proofs.ignored.tell_ignored.Tie as tie
+use Rattle.replay.proofs.tell_ignored.Statement.{statement}
+use Rattle.replay.proofs.tell_ignored.Tie as tie
 
 abbrev Inv-loop : tie.InvT-loop
 Inv-loop count i₀ i = i₀ ≤ i
