@@ -9,8 +9,8 @@
  * The number is an unsigned, and a host keeps it in one: GCC warns nobody who keeps an enum in a
  * uint16_t, where a refusal would be taken for an answer.
  *
- * A pointer to what is answered may be NULL where it isn't wanted, and so may a text, keys or
- * bytes, which are none then; other pointers may not. No pointer is kept, but by a reader.
+ * A pointer to what is answered may be NULL where it isn't wanted, and so may a text, keys, bytes
+ * or rows, which are none then; other pointers may not. No pointer is kept, but by a reader.
  * Nobody else may write to a state, a journal or a reader during a call, nor read what it changes:
  * functions that take a const state may be called at once.
  */
@@ -63,7 +63,7 @@ enum {
     ROTUNDAALOE_DENY = 8 /* of a lock alone: it denies them */
 };
 
-/* Why something is refused, with document 01's numbers and words. */
+/* Why something is refused, with document 01's numbers and words, and document 02's from 19 on. */
 enum rotundaaloe_refusal {
     ROTUNDAALOE_ACCEPTED = 0,        /* accepted */
     ROTUNDAALOE_UNKNOWN_USER = 1,    /* stranger */
@@ -83,7 +83,8 @@ enum rotundaaloe_refusal {
     ROTUNDAALOE_NOT_GRANTED = 15,    /* no way in */
     ROTUNDAALOE_NOT_JOURNAL = 16,    /* not a desk file */
     ROTUNDAALOE_OTHER_VERSION = 17,  /* other version */
-    ROTUNDAALOE_CORRUPT = 18         /* broken file */
+    ROTUNDAALOE_CORRUPT = 18,        /* broken file */
+    ROTUNDAALOE_TOO_FEW_ROWS = 19    /* too few rows */
 };
 
 /* The words above, and "unknown" for what is no refusal. Never NULL. */
@@ -93,7 +94,7 @@ static inline const char *rotundaaloe_refusal_text(unsigned refusal)
         "accepted",  "stranger",        "no run",        "no segment",  "no key",
         "no lock",   "not yours",       "unfit",         "already in",  "not there",
         "full",      "misspelt",        "too wide",      "void",        "barred",
-        "no way in", "not a desk file", "other version", "broken file",
+        "no way in", "not a desk file", "other version", "broken file", "too few rows",
     };
     return refusal < sizeof words / sizeof words[0] ? words[refusal] : "unknown";
 }
@@ -404,6 +405,47 @@ ROTUNDAALOE_CHECKED unsigned rotundaaloe_access(
     const uint32_t number = rotundaaloe_raw_access(state->registry, state->segments, state->locks,
                                                    state->threads, thread, segment, operation);
     return rotundaaloe_private_answer(number, lock, denying);
+}
+
+/* ---- The lock list ---- */
+
+/* A key that must be held or, barred, must not be. Its kind is 'U', 'R', 'S' or 'D'; 0 is blank. */
+struct rotundaaloe_key {
+    uint16_t kind, number, barred;
+};
+
+/*
+ * A product of a lock, for the segment's owner, or a whole lock, for anyone else, whose keys are
+ * blank. The operations are ROTUNDAALOE_EXECUTE, READ and WRITE, added up, without the DENY of a
+ * deny lock: deny is 1 then, and else 0. The keys stand in the product's order, blank ones last.
+ */
+struct rotundaaloe_lock_row {
+    uint16_t lock, operations, deny;
+    struct rotundaaloe_key keys[ROTUNDAALOE_MOST_LITERALS];
+};
+
+/* A row as the layer below writes it, and an error of the compiler where a struct is padded. */
+typedef uint16_t rotundaaloe_private_row[1 + ROTUNDAALOE_MOST_LITERALS][3];
+typedef char rotundaaloe_private_row_fits
+    [sizeof(struct rotundaaloe_lock_row) == sizeof(rotundaaloe_private_row) ? 1 : -1];
+
+/*
+ * The segment's standing locks, by rising number, as the user may see them: a row for each product
+ * for its owner, and one for each lock for anyone else. filled: how many of the lent rows, from the
+ * first on; the others stay as they were, and so do all where it is refused. No list needs more
+ * than ROTUNDAALOE_MOST_PRODUCTS. Refused: 1, 3, 19.
+ */
+ROTUNDAALOE_CHECKED unsigned rotundaaloe_list_locks(const struct rotundaaloe_state *state,
+                                                    uint16_t user, uint16_t segment,
+                                                    struct rotundaaloe_lock_row *rows, size_t lent,
+                                                    uint16_t *filled)
+{
+    struct rotundaaloe_lock_row none;
+    const uint32_t number = rotundaaloe_raw_list_locks(
+        state->registry, state->segments, state->locks, user, segment,
+        (rotundaaloe_private_row *)(rows != NULL ? rows : &none),
+        rotundaaloe_private_length(rows, lent));
+    return rotundaaloe_private_answer(number, filled, NULL);
 }
 
 /* ---- Formulas, without a lock ---- */

@@ -117,6 +117,26 @@ uint32_t rotundaaloe_raw_access(
     uint16_t a, uint16_t b, uint16_t c);
 
 /*
+ * The standing locks of a segment, by rising number, as the user may see them. The segment's owner
+ * gets a row for each product, in the order of the formula's list, anyone else one for each lock.
+ *
+ * A row is the lock, its operations, added up from 1, 2 and 4, and 1 for a deny lock or 0 for a
+ * grant lock; then its keys, in the product's order: the letter U, R, S or D, the number, and 1 for
+ * a barred key or 0 for a plain one. What has no key is three times 0: the slots after a product's
+ * last, and all of a row that isn't the owner's.
+ *
+ * Answer: below 65536 the number of rows filled, from the first on, and the others are as they
+ * were. Any other is refusal * 65536, and then no row is changed: 1 (unknown user), 3 (no segment),
+ * and 19 if fewer rows are lent than this user needs.
+ */
+uint32_t rotundaaloe_raw_list_locks(
+    const uint32_t registry[ROTUNDAALOE_ROW],
+    const uint16_t segments[ROTUNDAALOE_MOST_SEGMENTS][2][ROTUNDAALOE_ROW],
+    const uint32_t locks[ROTUNDAALOE_MOST_SEGMENTS][ROTUNDAALOE_MOST_PRODUCTS][ROTUNDAALOE_ROW],
+    uint16_t user, uint16_t segment,
+    uint16_t rows[][1 + ROTUNDAALOE_MOST_LITERALS][3], size_t lent);
+
+/*
  * The products of a formula text (document 01: lock text). users, threads, segments and defined
  * say how many keys of each kind were handed out.
  *

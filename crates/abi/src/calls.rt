@@ -124,7 +124,7 @@ pub extern "C" fn rotundaaloe_raw_access(
     answer_code(access(registry, segments, locks, threads, a, b, c))
 }
 
-fn answer_code(answer: Answer) -> u32
+pub(crate) fn answer_code(answer: Answer) -> u32
     ensures { λ r. ⌜ r ≡ answerCode answer ⌝ }
 {
     match answer {

@@ -4,5 +4,6 @@ pub mod calls;
 pub mod file;
 pub mod held;
 pub mod left;
+pub mod lock_list;
 pub mod text;
 pub mod version;

@@ -2,16 +2,17 @@
 use mathlib.Core.Path.{_≡_, refl, sym, ap, subst, _∙_}
 use mathlib.Core.Logic.{_≢_}
 use mathlib.Core.Bool.{Bool, true, false, _&&_, _||_, cond, true≢false, false≢true, or-assoc}
-use mathlib.Core.List.{List, [], _∷_, _++_, map, append-nil, append-assoc, List·Memᴰ, List·Memᴰ·head, List·Memᴰ·tail}
+use mathlib.Core.List.{List, [], _∷_, _++_, map, map-append, append-nil, append-assoc, List·Memᴰ, List·Memᴰ·head, List·Memᴰ·tail}
 use mathlib.Core.Option.{Option, none, some}
 use Prim.Native.Nat.{ℕ, zero, suc, _+_, _≤_, _<_, zero-le, suc-le-suc}
 use native.Mathlib.Omega.{arith}
 use native.Mathlib.Nat.{add-zero, add-suc, suc-add, le-of-suc-le-suc, not-suc-le-zero}
-use lib.Dec.{eqb, eqb·suc-suc, eqb·suc-zero, eqb·zero-suc}
+use lib.Dec.{eqb, ltb, eqb·suc-suc, eqb·suc-zero, eqb·zero-suc}
 use lib.ListN.{length, getD, set, replicate, getElem?, length-set, length-append}
 use lib.Seq.{sets, getD-set-same, getD-set-other, ext-getD}
-use borrow.Author.Tests.{eqb-true, eqb-false, eq-eqb}
-use Rattle.base.specs.Lists.{any, keep, first, isSome, indexOf, each, concatMap, total, mapOption, put, adjust}
+use borrow.Author.Tests.{eqb-true, eqb-false, eq-eqb, ltb-true, lt-ltb}
+use Rattle.base.proofs.Truth.{and-left, and-right, both-and}
+use Rattle.base.specs.Lists.{any, keepIf, keep, first, isSome, indexOf, each, concatMap, total, rising, mapOption, put, adjust}
 
 -- every element
 module _ {A : Type 0} where
@@ -51,6 +52,10 @@ module _ {A : Type 0} where
       caseBool (p y)
       (λ q. (y, List·Memᴰ·head refl, q))
       (λ q. let (x, m, u) = any-found p ys (rw q at t) in (x, List·Memᴰ·tail m, u))
+
+  pub all-members : (P : A → Type 0) (xs : List A) → ((x : A) → List·Memᴰ x xs → P x) → All P xs
+  all-members P [] h = tt
+  all-members P (x ∷ xs) h = (h x (List·Memᴰ·head refl), all-members P xs (λ y m. h y (List·Memᴰ·tail m)))
 
   pub all-at : (P : A → Type 0) (xs : List A) → All P xs → (x : A) → List·Memᴰ x xs → P x
   all-at P (y ∷ ys) h x (List·Memᴰ·head e) = subst P (sym e) (h .0)
@@ -169,6 +174,14 @@ module _ {A B : Type 0} where
   any-concatMap p f [] = refl
   any-concatMap p f (x ∷ xs) = any-append p (f x) (concatMap f xs) ∙ rw (any-concatMap p f xs)
 
+  pub map-keepIf : (f : A → B) (b : Bool) (x : A) (xs : List A) → map f (keepIf b x xs) ≡ keepIf b (f x) (map f xs)
+  map-keepIf f true x xs = refl
+  map-keepIf f false x xs = refl
+
+  pub map-map : {C : Type 0} (g : B → C) (f : A → B) (xs : List A) → map g (map f xs) ≡ map (λ x. g (f x)) xs
+  map-map g f [] = refl
+  map-map g f (x ∷ xs) = rw (map-map g f xs)
+
   pub map-same : (f g : A → B) → ((x : A) → f x ≡ g x) → (xs : List A) → map f xs ≡ map g xs
   map-same f g h [] = refl
   map-same f g h (x ∷ xs) = rw (h x, map-same f g h xs)
@@ -184,6 +197,10 @@ module _ {A B : Type 0} where
   pub concatMap-map : {C : Type 0} (g : B → List C) (f : A → B) (xs : List A) → concatMap g (map f xs) ≡ concatMap (λ x. g (f x)) xs
   concatMap-map g f [] = refl
   concatMap-map g f (x ∷ xs) = rw (concatMap-map g f xs)
+
+  pub map-concatMap : {C : Type 0} (g : B → C) (f : A → List B) (xs : List A) → map g (concatMap f xs) ≡ concatMap (λ x. map g (f x)) xs
+  map-concatMap g f [] = refl
+  map-concatMap {C} g f (x ∷ xs) = map-append g (f x) (concatMap f xs) ∙ ap (λ (l : List C). map g (f x) ++ l) (map-concatMap g f xs)
 
   pub concatMap-same : (f g : A → List B) (xs : List A) → All (λ x. f x ≡ g x) xs → concatMap f xs ≡ concatMap g xs
   concatMap-same f g [] h = refl
@@ -346,3 +363,30 @@ pub map-set : {A B : Type 0} (g : A → B) (xs : List A) (i : ℕ) (x : A) → m
 map-set g [] i x = refl
 map-set g (y ∷ ys) zero x = refl
 map-set {B = B} g (y ∷ ys) (suc i) x = ap (λ (r : List B). g y ∷ r) (map-set g ys i x)
+
+-- numbers that rise
+
+pub rising-tail : (m : ℕ) (ns : List ℕ) → rising (m ∷ ns) ≡ true → rising ns ≡ true
+rising-tail m [] h = refl
+rising-tail m (n ∷ ns) h = and-right (ltb m n) (rising (n ∷ ns)) h
+
+rising-skip : (m n : ℕ) (ns : List ℕ) → rising (m ∷ n ∷ ns) ≡ true → rising (m ∷ ns) ≡ true
+rising-skip m n [] r = refl
+rising-skip m n (k ∷ ns) r =
+    let rest = and-right (ltb m n) _ r in
+    let first = ltb-true m n (and-left (ltb m n) _ r) in
+    let second = ltb-true n k (and-left (ltb n k) _ rest) in
+    both-and (lt-ltb m k (omega arith)) (and-right (ltb n k) _ rest)
+
+-- those of the elements that a test keeps
+module _ {A : Type 0} (f : A → ℕ) (p : A → Bool) where
+  kept-after : (m : ℕ) (xs : List A) → rising (m ∷ map f xs) ≡ true → rising (m ∷ map f (keep p xs)) ≡ true
+  kept-after m [] r = refl
+  kept-after m (x ∷ xs) r =
+      caseBool (p x)
+      (λ e. simp e (both-and (and-left (ltb m (f x)) _ r) (kept-after (f x) xs (and-right (ltb m (f x)) _ r))))
+      (λ e. simp e (kept-after m xs (rising-skip m (f x) (map f xs) r)))
+
+  pub rising-keep : (xs : List A) → rising (map f xs) ≡ true → rising (map f (keep p xs)) ≡ true
+  rising-keep [] r = refl
+  rising-keep (x ∷ xs) r = caseBool (p x) (λ e. simp e (kept-after (f x) xs r)) (λ e. simp e (rising-keep xs (rising-tail (f x) (map f xs) r)))

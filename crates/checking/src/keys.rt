@@ -20,7 +20,7 @@ use product::literal::Key;
 use product::literal::Literal;
 
 // The literal that a cell of a product row stands for.
-pub(crate) fn literal_in(x: u32) -> Literal
+pub fn literal_in(x: u32) -> Literal
     ensures { λ r. ⌜ r ≡ literalIn x ⌝ }
 {
     if x < BARRED_LISTED {

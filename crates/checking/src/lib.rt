@@ -20,7 +20,7 @@ use model::bounds::MOST_FRAMES;
 use model::operations::Operations;
 use model::operations::is_access;
 
-mod keys;
+pub mod keys;
 
 // What the check answers; `checkedNumber` and `checkedValue` give document 01's number and value for each.
 pub enum Checked {

@@ -1,2 +1,3 @@
 pub mod AcceptedTexts
+pub mod Ranked
 pub mod Refusing

@@ -1,9 +1,9 @@
--- Document 01's table of refusals: the number and the second number of each, and whether an answer is one. Refusals 16
--- and 17 are a file's, and not the guard's.
+-- Document 01's table of refusals, and what document 02 adds to it: the number and the second number of each, and
+-- whether an answer is one. Refusals 16 and 17 are a file's, and not the guard's; 19 is a lock list's, and no call's.
 use mathlib.Core.Bool.{Bool, true, false}
 use Prim.Native.Nat.{ℕ}
 use Rattle.model.specs.declared.answer.Refusal.{Refusal}
-use Rattle.model.specs.declared.answer.Refusal.the-variants.{UnknownUser, NoThread, NoSegment, NoKey, NoLock, NotOwner, Unfit, AlreadyPresent, NotPresent, Full, Malformed, TooWide, Unsatisfiable, Denied, NotGranted, Corrupt}
+use Rattle.model.specs.declared.answer.Refusal.the-variants.{UnknownUser, NoThread, NoSegment, NoKey, NoLock, NotOwner, Unfit, AlreadyPresent, NotPresent, Full, Malformed, TooWide, Unsatisfiable, Denied, NotGranted, Corrupt, TooFewRows}
 use Rattle.model.specs.declared.answer.Answer.{Answer}
 use Rattle.model.specs.declared.answer.Answer.the-variants.{Accepted, Refused}
 
@@ -25,6 +25,7 @@ numbersOf Unsatisfiable = (13, 0)
 numbersOf (Denied lock) = (14, lock)
 numbersOf NotGranted = (15, 0)
 numbersOf Corrupt = (18, 0)
+numbersOf TooFewRows = (19, 0)
 
 abbrev pub refusalNumber : Refusal → ℕ
 refusalNumber r = numbersOf r .0

@@ -2,7 +2,8 @@
 ghost use mathlib.Core.Path.{_≡_};
 ghost use Rattle.model.specs.Answers.{refusalNumber, secondNumber};
 
-// Document 01's table of refusals; beside each stands its number and word. Refusals 16 and 17 are a file's alone.
+// Document 01's table of refusals, and what document 02 adds to it; beside each stands its number and word. Refusals 16
+// and 17 are a file's alone.
 pub enum Refusal {
     // 1, stranger
     UnknownUser,
@@ -36,9 +37,11 @@ pub enum Refusal {
     NotGranted,
     // 18, broken file: the call is not well formed
     Corrupt,
+    // 19, too few rows: a lock list's alone
+    TooFewRows,
 }
 
-// The number that the table of the twelve calls gives each letter, or a refusal.
+// The number that the table of the twelve calls gives each letter, of a lock list the number of rows, or a refusal.
 pub enum Answer {
     Accepted(u16),
     Refused(Refusal),
@@ -65,6 +68,7 @@ pub fn number(refusal: Refusal) -> u16
         Refusal::Denied(_) => 14,
         Refusal::NotGranted => 15,
         Refusal::Corrupt => 18,
+        Refusal::TooFewRows => 19,
     }
 }
 
@@ -73,21 +77,7 @@ pub fn second(refusal: Refusal) -> u16
     ensures { λ r. ⌜ r ≡ secondNumber refusal ⌝ }
 {
     match refusal {
-        Refusal::UnknownUser => 0,
-        Refusal::NoThread => 0,
-        Refusal::NoSegment => 0,
-        Refusal::NoKey => 0,
-        Refusal::NoLock => 0,
-        Refusal::NotOwner => 0,
-        Refusal::Unfit => 0,
-        Refusal::AlreadyPresent => 0,
-        Refusal::NotPresent => 0,
-        Refusal::Full => 0,
-        Refusal::Malformed => 0,
-        Refusal::TooWide => 0,
-        Refusal::Unsatisfiable => 0,
         Refusal::Denied(lock) => lock,
-        Refusal::NotGranted => 0,
-        Refusal::Corrupt => 0,
+        _ => 0,
     }
 }

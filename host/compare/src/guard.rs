@@ -141,6 +141,11 @@ impl Guard {
     pub fn access(&self, thread: u16, segment: u16, operation: u16) -> u32 {
         raw::access(&self.cells, thread, segment, operation)
     }
+
+    /// The segment's lock list for the user, in the first of the rows.
+    pub fn list_locks(&self, user: u16, segment: u16, rows: &mut [raw::LockRow]) -> u32 {
+        raw::list_locks(&self.cells, user, segment, rows)
+    }
 }
 
 impl Default for Guard {

@@ -1,11 +1,14 @@
 //! What comparing the proved guard with the reference takes: the translation
 //! between its rows and numbers and the reference's products and keys; the same
-//! for [`journal`]s and for the [`guard`] itself. [`office`] is the office
+//! for [`journal`]s, for the [`guard`] itself and for its lock [`listing`];
+//! [`typed`] is the same for the host library's types. [`office`] is the office
 //! program.
 
 pub mod guard;
 pub mod journal;
+pub mod listing;
 pub mod office;
+pub mod typed;
 
 use reference::formula::{Literal, Product};
 use reference::limits::{MAX_LITERALS, MAX_PRODUCTS};

@@ -2,12 +2,13 @@
 //! typed functions, journals, and the products of formula texts.
 
 use compare::journal::lent;
+use compare::typed::{key, literal};
+use reference::Key as ReferenceKey;
 use reference::call::Call;
 use reference::journal::{Record, write};
 use reference::letter::Letter;
 use reference::operations::{READ, WRITE};
-use reference::{Key as ReferenceKey, Kind as ReferenceKind};
-use rotundaaloe::formula::{Issued, Key, Literal, compile};
+use rotundaaloe::formula::{Issued, Key, compile};
 use rotundaaloe::{
     Access, Defined, Guard, Journal, Kind, Lock, Operations, Refusal, Segment, Thread, User,
 };
@@ -190,16 +191,6 @@ fn a_full_journal_takes_no_more() {
     assert_eq!(journal.as_bytes().len(), 65_527);
 }
 
-fn key(key: ReferenceKey) -> Key {
-    let number = key.number;
-    match key.kind {
-        ReferenceKind::User => Key::User(User(number)),
-        ReferenceKind::Thread => Key::Thread(Thread(number)),
-        ReferenceKind::Segment => Key::Segment(Segment(number)),
-        ReferenceKind::Defined => Key::Defined(Defined(number)),
-    }
-}
-
 #[test]
 fn products_and_what_opens_them() {
     let issued = Issued {
@@ -222,13 +213,7 @@ fn products_and_what_opens_them() {
         };
         assert_eq!(given.len(), expected.len(), "{}", name);
         for (given, expected) in given.iter().zip(expected) {
-            let literals = expected
-                .literals()
-                .iter()
-                .map(|literal| match literal.barred {
-                    true => Literal::Barred(key(literal.key)),
-                    false => Literal::Plain(key(literal.key)),
-                });
+            let literals = expected.literals().iter().map(literal);
             assert!(given.literals().iter().copied().eq(literals), "{}", name);
             for _ in 0..50 {
                 // Mostly as the product asks, so that some sets open it.
@@ -238,7 +223,7 @@ fn products_and_what_opens_them() {
                     .filter(|literal| literal.barred == random.one_in(8))
                     .map(|literal| literal.key)
                     .collect();
-                let keys: Vec<Key> = held.iter().map(|held| key(*held)).collect();
+                let keys: Vec<Key> = held.iter().map(key).collect();
                 let opens = expected.is_opened_by(&held);
                 assert_eq!(given.opens(&keys), opens, "{keys:?}: {}", name);
                 *if opens { &mut opened } else { &mut shut } += 1;

@@ -2,25 +2,15 @@
 //! against the guard's own answers on arrays that no list leads to.
 
 use compare::journal::lent;
+use compare::typed::{key, literal};
 use reference::history::History;
-use reference::{Key as ReferenceKey, Kind as ReferenceKind};
 use rotundaaloe::formula::{Key, Literal, Product};
 use rotundaaloe::raw::Cells;
 use rotundaaloe::view::{Frame, Segment, Thread};
-use rotundaaloe::{Access, Defined, Guard, Kind, Operations, Recorder, Refusal, User, refusal};
+use rotundaaloe::{Access, Guard, Kind, Operations, Recorder, Refusal, User, refusal};
 use std::collections::BTreeSet;
 use testing::calls::{Caller, WORLDS};
 use testing::random::Random;
-
-fn key(key: &ReferenceKey) -> Key {
-    let number = key.number;
-    match key.kind {
-        ReferenceKind::User => Key::User(User(number)),
-        ReferenceKind::Thread => Key::Thread(rotundaaloe::Thread(number)),
-        ReferenceKind::Segment => Key::Segment(rotundaaloe::Segment(number)),
-        ReferenceKind::Defined => Key::Defined(Defined(number)),
-    }
-}
 
 /// The live threads that the history tells of.
 fn threads(history: &History) -> Vec<Thread> {
@@ -59,10 +49,6 @@ fn segment(history: &History, number: u16) -> Segment {
 type Told = (u16, u16, u16, Vec<Vec<Literal>>);
 
 fn locks(history: &History) -> Vec<Told> {
-    let literal = |literal: &reference::formula::Literal| match literal.barred {
-        true => Literal::Barred(key(&literal.key)),
-        false => Literal::Plain(key(&literal.key)),
-    };
     let told = |(number, lock): (u16, &reference::history::Lock)| {
         let sum = lock.formula.sum_of_products().expect("it stands");
         let literals = |product: &reference::formula::Product| {

@@ -9,6 +9,7 @@ mod expected;
 mod failure;
 mod help;
 mod input;
+mod locks;
 mod mistakes;
 mod output;
 mod run;
@@ -39,6 +40,12 @@ fn obey(command: Command) -> Result<Status, Failure> {
         Command::Asm { source, target } => asm::asm(&source, &target),
         Command::Dis { source, target } => dis::dis(&source, &target),
         Command::Run { sources } => run::run(&sources),
+        Command::Locks {
+            source,
+            user,
+            segment,
+            rows,
+        } => locks::locks(&source, user, segment, rows),
         Command::State { source, target } => state::state(&source, &target),
         Command::Trace {
             html,

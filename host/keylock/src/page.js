@@ -84,7 +84,7 @@
       case "p": return striking.findLast((place) => place < now);
       case "Home": return 0;
       case "End": return last;
-      case " ": return event.target.closest?.("button") ? undefined : now + (event.shiftKey ? -1 : 1);
+      case " ": return event.target.closest?.("button, summary") ? undefined : now + (event.shiftKey ? -1 : 1);
       default: return undefined;
     }
   };

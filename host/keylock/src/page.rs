@@ -5,6 +5,7 @@
 mod html;
 mod lines;
 mod list;
+mod listing;
 mod locks;
 mod pieces;
 mod segment;

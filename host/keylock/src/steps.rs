@@ -1,12 +1,13 @@
 //! A journal explained: for each call its answer, why it is so, and where the
-//! thread then stands. The proved guard gives the answers; the rest is read from
-//! the history of calls and answers.
+//! thread then stands. The proved guard gives the answers and the lock lists; the
+//! rest is read from the history of calls and answers.
 
 mod accepted;
 mod check;
 mod judgement;
 mod kept;
 mod lack;
+mod listing;
 mod product;
 mod refused;
 mod state;
@@ -14,6 +15,7 @@ mod troubles;
 mod view;
 
 pub use judgement::{Judgement, Tried};
+pub use listing::Lists;
 pub use product::{Holder, Literal, Product};
 pub use troubles::Troubles;
 pub use view::{Change, Lock, OpenCall, SegmentView, ThreadView};
@@ -22,7 +24,7 @@ use crate::answer::Answer;
 use crate::text::{self, Line};
 use crate::words;
 use rotundaaloe::formula::Key;
-use rotundaaloe::{Guard, Record, Refusal};
+use rotundaaloe::{Guard, Record, Refusal, Segment};
 use state::State;
 use view::Concern;
 
@@ -78,6 +80,8 @@ pub struct Step<'a> {
     pub thread: Option<ThreadView>,
     /// The segment of an N, G, T, L or D, after it.
     pub segment: Option<SegmentView>,
+    /// The segment of a C or an A, after it.
+    pub asked: Option<SegmentView>,
     /// What the explanation and the guard's answer differ in. Never there,
     /// unless this library is wrong.
     pub disagreement: Option<String>,
@@ -161,11 +165,10 @@ impl Teller {
         if let Ok(answer) = answer {
             self.state.take_in(&record, answer);
         }
-        let (thread, segment) = match concern {
-            Concern::Nothing => (None, None),
-            Concern::Thread(thread, change) => (view::thread(&self.state, thread, change), None),
-            Concern::Segment(segment) => (None, view::segment(&self.state, segment)),
-        };
+        let (thread, segment) = self.views(concern);
+        let asked = judgement::asked(&record).and_then(|(_, segment)| self.view_of(segment));
+        let mut listed = segment.iter().chain(&asked);
+        let listed = listed.find_map(check::listed_disagreement);
         Step {
             place,
             answer,
@@ -175,8 +178,23 @@ impl Teller {
             judgement,
             thread,
             segment,
-            disagreement,
+            asked,
+            disagreement: disagreement.or(listed),
             entry,
         }
+    }
+
+    /// The thread or the segment that a call concerns, after it.
+    fn views(&self, concern: Concern) -> (Option<ThreadView>, Option<SegmentView>) {
+        match concern {
+            Concern::Nothing => (None, None),
+            Concern::Thread(thread, change) => (view::thread(&self.state, thread, change), None),
+            Concern::Segment(segment) => (None, self.view_of(segment)),
+        }
+    }
+
+    /// A segment after the call, if it is handed out.
+    fn view_of(&self, segment: Segment) -> Option<SegmentView> {
+        view::segment(&self.state, &self.guard, segment)
     }
 }

@@ -94,6 +94,11 @@ pub fn operations(set: u16) -> String {
     names.join(" and ") + denied
 }
 
+/// What a lock does where it opens.
+pub fn verb(denies: bool) -> &'static str {
+    if denies { "denies" } else { "grants" }
+}
+
 /// What an answer says: `granted by lock 2`, `refused: no way in (15)`. The
 /// names are those after the call.
 pub fn answer(record: &Record, answer: Result<u16, Refusal>, names: &Names) -> String {

@@ -1,6 +1,12 @@
 //! The command as it is run: what it writes where, and its exit status.
 
 mod commands;
+#[path = "commands/files.rs"]
+mod files;
+#[path = "commands/long.rs"]
+mod long;
+#[path = "commands/streams.rs"]
+mod streams;
 
 use commands::{Directory, OFFICE_LINES, ONE_USER, TRIAL, fine, keylock, refused};
 use rotundaaloe::Letter;
@@ -268,13 +274,15 @@ fn help_and_version() {
         &["asm", "--help"],
         &["dis", "-h"],
         &["run", "-h"],
+        &["locks", "--rows", "1", "-h"],
+        &["state", "-h"],
     ] {
         seen.push(keylock(arguments, b""));
     }
     seen.push(keylock(&["trace", "x", "--help", "--nonsense"], b""));
-    for (ran, usage) in seen
-        .iter()
-        .zip(["SUBCOMMAND", "asm", "dis", "run", "trace"])
+    for (ran, usage) in
+        seen.iter()
+            .zip(["SUBCOMMAND", "asm", "dis", "run", "locks", "state", "trace"])
     {
         fine(ran, &ran.printed());
         let printed = ran.printed();
@@ -291,7 +299,8 @@ fn help_and_version() {
     }
 }
 
-/// The refusals in `keylock run --help` are those of document 01's table.
+/// The refusals in `keylock run --help` are those of document 01's table, and in
+/// `keylock locks --help` those of a lock list.
 #[test]
 fn the_help_names_the_refusals() {
     let help = keylock(&["run", "--help"], b"").printed();
@@ -314,6 +323,9 @@ fn the_help_names_the_refusals() {
     ] {
         assert!(help.contains(&format!(" {refusal}")), "{refusal}");
     }
+    let help = keylock(&["locks", "--help"], b"").printed();
+    let help = help.replace('\n', " ");
+    assert!(help.contains(" 1 stranger, 3 no segment, 19 too few rows. "));
 }
 
 /// The calls in `keylock asm --help` have the fields that they need.
@@ -342,7 +354,7 @@ fn called_wrongly() {
         let right = format!("keylock: {message}\n{}", see(topic));
         refused(&keylock(arguments, b"U"), 2, &right);
     };
-    wrong(&[], "", "what to do? asm, dis, run, trace or state");
+    wrong(&[], "", "what to do? asm, dis, run, trace, locks or state");
     wrong(
         &["asn"],
         "",
@@ -357,6 +369,11 @@ fn called_wrongly() {
         &["rnu"],
         "",
         "no subcommand is called 'rnu'; is 'run' meant?",
+    );
+    wrong(
+        &["lock"],
+        "",
+        "no subcommand is called 'lock'; is 'locks' meant?",
     );
     wrong(&["frobnicate"], "", "no subcommand is called 'frobnicate'");
     wrong(&["help", "me"], "", "no subcommand is called 'me'");

@@ -247,6 +247,105 @@ fn a_granted_call_names_the_keys_before_it() {
     );
 }
 
+/// What the owner sees of how a lock opens, a colleague doesn't.
+#[test]
+fn lock_lists_of_owner_and_colleague() {
+    let calls = "U; N 0 1; N 0 0; L 0 0 2 S1&!U0|S0; L 0 0 12 U0; S 0; A 0 0 2";
+    let page = page(&[], explained(calls));
+    check_nesting(&page);
+    let step = section(&page, 4);
+    for part in [
+        "<h3>Its owner sees in the lock list</h3><ul class=\"stack\">\
+         <li><b>Lock 0 grants read</b>\
+         <div class=\"keys\"><code>!U0</code><code>S1</code></div></li>\
+         <li><b>Lock 0 grants read</b><div class=\"keys\"><code>S0</code></div></li>\
+         <li><b>Lock 1 denies write</b><div class=\"keys\"><code>U0</code></div></li></ul>",
+        "<h3>A colleague sees</h3><ul class=\"stack\"><li><b>Lock 0 grants read</b></li>\
+         <li><b>Lock 1 denies write</b></li></ul>",
+        "A colleague knows which locks there are, and not how they are opened.",
+    ] {
+        assert!(step.contains(part), "{part}\n{step}");
+    }
+    // Without a lock there is nothing to see.
+    for place in [1, 2] {
+        assert!(!section(&page, place).contains("colleague"), "{place}");
+    }
+}
+
+/// The part of a step that opens at a click.
+fn folded(step: &str) -> Option<&str> {
+    let start = step.find("<details>")?;
+    let length = step[start..].find("</details>").expect("an end");
+    Some(&step[start..start + length])
+}
+
+/// They are the same at a call or an access, where they are folded.
+#[test]
+fn lock_lists_at_calls_and_accesses() {
+    let page = page(&[], steps::explain(lesson::named_route()));
+    check_nesting(&page);
+    let totals = "<details><summary>Lock list of the totals sheet \
+         <small>(segment\u{a0}2)</small></summary>\n\
+         <div class=\"list\"><h3>Its owner sees in the lock list</h3><ul class=\"stack\">\
+         <li><b>Lock 2 grants write</b>\
+         <div class=\"keys\"><code>S0</code><code>S1</code></div></li></ul></div>\n\
+         <div class=\"list\"><h3>A colleague sees</h3><ul class=\"stack\">\
+         <li><b>Lock 2 grants write</b></li></ul></div>\n\
+         <p class=\"after\">A row's keys must all be held, and none with a <code>!</code>; of a \
+         lock's rows one is enough. A colleague knows which locks there are, and not how they are \
+         opened.</p>\n";
+    // Granted, and refused to two threads.
+    for place in [12, 13, 15] {
+        assert_eq!(folded(section(&page, place)), Some(totals), "{place}");
+    }
+    let code = folded(section(&page, 11)).expect("a list");
+    assert!(code.starts_with("<details><summary>Lock list of segment\u{a0}1</summary>"));
+    assert!(code.contains("<b>Lock 1 grants execute</b><div class=\"keys\"><code>U0</code></div>"));
+    // Elsewhere they aren't folded, or there are none.
+    for place in [0, 1, 3, 4, 6, 7, 14] {
+        assert_eq!(folded(section(&page, place)), None, "{place}");
+    }
+}
+
+/// As the locks stand at the step, whatever the access is refused for.
+#[test]
+fn a_folded_list_is_of_its_step() {
+    let calls = "U; N 0 1; S 0; A 0 0 2; L 0 0 2 U0; A 0 0 4; L 0 0 12 R0; \
+                 A 0 0 4; A 1 0 2; A 0 0 1; D 0 0; A 0 0 2; D 0 1; A 0 0 2; A 0 1 2";
+    let page = page(&[], explained(calls));
+    check_nesting(&page);
+    let grants = "<li><b>Lock 0 grants read</b><div class=\"keys\"><code>U0</code></div></li>";
+    let denies = "<li><b>Lock 1 denies write</b><div class=\"keys\"><code>R0</code></div></li>";
+    for (place, answer, owners) in [
+        (5, "no 15 0", grants.to_string()),
+        (7, "no 14 1", format!("{grants}{denies}")),
+        (8, "no 2 0", format!("{grants}{denies}")),
+        (9, "no 7 0", format!("{grants}{denies}")),
+        (11, "no 15 0", denies.to_string()),
+    ] {
+        let step = section(&page, place);
+        assert!(step.contains(&format!("<code>{answer}</code>")), "{place}");
+        let list = folded(step).expect("a list");
+        let owners = format!("in the lock list</h3><ul class=\"stack\">{owners}</ul></div>");
+        assert!(list.contains(&owners), "{place}\n{list}");
+    }
+    // No lock stands, or there is no such segment.
+    for (place, answer) in [(3, "no 15 0"), (13, "no 15 0"), (14, "no 3 0")] {
+        let step = section(&page, place);
+        assert!(step.contains(&format!("<code>{answer}</code>")), "{place}");
+        assert_eq!(folded(step), None, "{place}");
+    }
+}
+
+/// The script leaves the space key to what it opens or presses.
+#[test]
+fn space_opens_a_lock_list() {
+    let page = page(&[], explained(ROUTE));
+    let space = page.lines().find(|line| line.contains("case \" \":"));
+    let space = space.expect("the space key");
+    assert!(space.contains("closest?.(\"button, summary\") ? undefined"));
+}
+
 /// A line may break after an operator of a formula, and not inside a key.
 #[test]
 fn formulas_break_after_operators() {
@@ -485,5 +584,39 @@ fn the_page_of_the_fullest_journal_is_modest() {
     let last = drawn(sections[sections.len() - 1], &pieces);
     assert_eq!(last.matches("<li><b>segment").count(), 16);
     assert_eq!(last.matches("<span class=\"lit off\">").count(), 48);
+    // Its lock list, for the owner and for a colleague, which is kept once.
+    assert_eq!(last.matches("<li><b>Lock ").count(), 8 + 8);
+    let name = "Lock list of segment\u{a0}16</summary>";
+    assert_eq!(page.matches(name).count(), 1);
     assert!(page.len() < 10_000_000, "{} bytes", page.len());
+}
+
+/// Locks that come and go, so that the lock lists of nearly every step are others.
+#[test]
+fn the_page_of_changing_locks_is_modest() {
+    let mut calls = vec!["U; N 0 1".to_string()];
+    calls.extend(vec!["L 0 0 2 U0".to_string(); 7]);
+    calls.extend((0..3_200).map(|lock| format!("L 0 0 2 U0; D 0 {lock}")));
+    let calls = calls.join("; ");
+    let page = page(&[], explained(&calls));
+    let (sections, pieces) = (lines(&page, "sections"), lines(&page, "pieces"));
+    assert_eq!(sections.len(), 6_409);
+    let last = drawn(sections[6_408], &pieces);
+    assert_eq!(last.matches("<li><b>Lock 32").count(), 14);
+    assert!(page.len() < 7_000_000, "{} bytes", page.len());
+}
+
+/// And an access after each, whose lock list is another each time.
+#[test]
+fn the_page_of_accesses_between_changes_is_modest() {
+    let mut calls = vec!["U; N 0 1; S 0".to_string()];
+    calls.extend(vec!["L 0 0 2 U0".to_string(); 7]);
+    calls.extend((0..1_720).map(|lock| format!("L 0 0 2 U0; A 0 0 2; D 0 {lock}; A 0 0 2")));
+    let calls = calls.join("; ");
+    let page = page(&[], steps::explain(lesson::entries(&calls)));
+    let (sections, pieces) = (lines(&page, "sections"), lines(&page, "pieces"));
+    assert_eq!(sections.len(), 6_890);
+    let last = drawn(sections[6_889], &pieces);
+    assert_eq!(last.matches("<li><b>Lock 17").count(), 14);
+    assert!(page.len() < 7_000_000, "{} bytes", page.len());
 }

@@ -598,11 +598,13 @@ fn the_fullest_journal() {
 }
 
 /// Every answer has an explanation that leads to it, and the locks decide in
-/// each of the four ways. Every letter is accepted and refused.
+/// each of the four ways, with lock lists beside them. Every letter is accepted
+/// and refused.
 #[test]
 fn random_lists() {
     let mut random = Random::new(7);
     let mut judged = BTreeMap::new();
+    let mut listed = 0;
     let mut seen = BTreeSet::new();
     for (world, lists) in WORLDS.iter().zip([200, 200, 20, 60, 60]) {
         for list in 0..lists {
@@ -613,6 +615,8 @@ fn random_lists() {
                 assert_eq!(step.disagreement, None, "{}: {list}, {place}", world.name);
                 assert_ne!(step.reason, "", "{}: {list}, {place}", world.name);
                 seen.insert((step.entry.record.letter, step.answer.is_ok()));
+                let rows = step.asked.iter().flat_map(|asked| &asked.lists.owners);
+                listed += usize::from(rows.count() > 1);
                 if step.judgement.is_some() {
                     let refusal = step.answer.err().map_or(0, |refusal| refusal.number());
                     *judged.entry(refusal).or_insert(0) += 1;
@@ -628,6 +632,7 @@ fn random_lists() {
     }
     assert!(judged.keys().eq(&[0, 10, 14, 15]), "{judged:?}");
     assert!(judged.values().all(|count| *count > 1_000), "{judged:?}");
+    assert!(listed > 1_000, "{listed}");
 }
 
 fn random_list(

@@ -3,6 +3,8 @@
 //! call. It sees no guard. A lock is its formula here, asked of a whole key set;
 //! no products are made to judge it.
 
+mod listing;
+
 use crate::call::Call;
 use crate::formula::{self, Formula};
 use crate::journal::Record;

@@ -7,10 +7,11 @@
 //! Two layers know nothing of each other: [`formula`], from a formula text to a
 //! sum of products, and [`journal`], the file of call records. Over the first
 //! stands the [`guard`], and [`replay`] joins the two. The [`history`] is a second
-//! opinion on what a guard grants, read from calls and answers alone.
+//! opinion on what a guard grants and lists, read from calls and answers alone.
 //!
 //! All of them know a [`call`] by its [`letter`], the [`operations`] by their
-//! numbers, and the same [`limits`].
+//! numbers, and the same [`limits`]. A [`listing`] has rows, which guard and history
+//! make each by itself.
 
 pub mod call;
 pub mod formula;
@@ -19,6 +20,7 @@ pub mod history;
 pub mod journal;
 pub mod letter;
 pub mod limits;
+pub mod listing;
 pub mod operations;
 mod replay;
 mod table;

@@ -9,7 +9,7 @@ use std::fmt;
 use std::sync::RwLock;
 
 /// An answer as the proved functions give it, below 65,536, or a refusal.
-fn answered(answer: u32) -> Result<u16, Refusal> {
+pub(crate) fn answered(answer: u32) -> Result<u16, Refusal> {
     let [number, second] = [answer / 65_536, answer % 65_536];
     match number {
         0 => Ok(second as u16),

@@ -5,9 +5,10 @@
 //! kind, and each call has an enum of the refusals that it can give
 //! ([`refusal`]). [`Journal`]s are the files that an office replays, and a
 //! [`Recorder`] is a guard that keeps one. A guard's state is saved to a file and
-//! loaded again ([`state`]), and [`view`] tells what stands in it. [`formula`]
-//! shows what a lock's text compiles to; [`limits`] are the numbers that a host
-//! can run into. [`raw`] has the proved functions as they are.
+//! loaded again ([`state`]), and [`view`] tells what stands in it;
+//! [`Guard::locks`] tells a user no more of a segment's locks than is theirs to
+//! see. [`formula`] shows what a lock's text compiles to; [`limits`] are the
+//! numbers that a host can run into. [`raw`] has the proved functions as they are.
 //!
 //! ```
 //! use rotundaaloe::{Access, Guard, Kind, Operations, refusal};
@@ -46,6 +47,7 @@ pub mod formula;
 mod guard;
 pub mod journal;
 pub mod limits;
+mod locks;
 mod numbers;
 pub mod raw;
 pub mod recorder;
@@ -57,6 +59,7 @@ pub mod view;
 pub use call::{Call, Field, Letter};
 pub use guard::{Guard, Left};
 pub use journal::{Journal, Record};
+pub use locks::LockRow;
 pub use numbers::{Access, Defined, Kind, Lock, Operations, Segment, Thread, User};
 pub use recorder::Recorder;
 pub use refusal::Refusal;

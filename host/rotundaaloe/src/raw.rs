@@ -4,7 +4,8 @@
 //! the types above it.
 
 use crate::limits::{
-    MOST_KEYS, MOST_LISTED, MOST_OPEN_CALLS, MOST_PRODUCTS, MOST_SEGMENTS, MOST_THREADS,
+    MOST_KEYS, MOST_LISTED, MOST_LITERALS, MOST_OPEN_CALLS, MOST_PRODUCTS, MOST_SEGMENTS,
+    MOST_THREADS,
 };
 
 /// The cells of a row, and of the registry: a key list fills one.
@@ -76,6 +77,11 @@ pub type Rows = [[u32; 8]; 8];
 /// A record of a journal: its letter, a, b, c, where its text starts, and where
 /// it ends.
 pub type Values = [u64; 6];
+
+/// A row of a lock list: the lock, its operations, and 1 where it denies them.
+/// Then the keys: the letter, 0 where there is none, the number, and 1 where it
+/// is barred.
+pub type LockRow = [[u16; 3]; 1 + MOST_LITERALS];
 
 mod c {
     unsafe extern "C" {
@@ -169,6 +175,16 @@ mod c {
             b: u16,
             c: u16,
         ) -> u32;
+
+        pub fn rotundaaloe_raw_list_locks(
+            registry: *const u32,
+            segments: *const [[u16; 8]; 2],
+            locks: *const [[u32; 8]; 8],
+            user: u16,
+            segment: u16,
+            rows: *mut [[u16; 3]; 7],
+            lent: usize,
+        ) -> u32;
     }
 }
 
@@ -256,6 +272,22 @@ pub fn access(cells: &Cells, a: u16, b: u16, c: u16) -> u32 {
             a,
             b,
             c,
+        )
+    }
+}
+
+/// Fills the first of the rows with the segment's locks, as this user may see
+/// them.
+pub fn list_locks(cells: &Cells, user: u16, segment: u16, rows: &mut [LockRow]) -> u32 {
+    unsafe {
+        c::rotundaaloe_raw_list_locks(
+            cells.registry.as_ptr(),
+            cells.segments.as_ptr(),
+            cells.locks.as_ptr(),
+            user,
+            segment,
+            rows.as_mut_ptr(),
+            rows.len(),
         )
     }
 }

@@ -1,7 +1,7 @@
-//! Why a call is refused. [`Refusal`] has all of document 01's table; each call
-//! has an enum of its own with just the refusals that it can give, so that a
-//! host's `match` needs no arm for what can't happen. Each becomes a [`Refusal`]
-//! by `?` or `into`.
+//! Why a call is refused. [`Refusal`] has all of document 01's table, with what
+//! document 02 adds to it; each call has an enum of its own with just the refusals
+//! that it can give, so that a host's `match` needs no arm for what can't happen.
+//! Each becomes a [`Refusal`] by `?` or `into`.
 
 use crate::numbers::Lock;
 use std::error::Error;
@@ -82,6 +82,8 @@ refusals! {
     OtherVersion = 17 "other version";
     /// The file, or a call handed straight to the guard, has no known shape.
     Corrupt = 18 "broken file";
+    /// Fewer rows are lent than this user's lock list needs.
+    TooFewRows = 19 "too few rows";
 }
 
 impl Refusal {
@@ -169,6 +171,10 @@ some_of_them! {
     ReturnCall { NoThread, NotPresent }
     /// Why [`Guard::access`](crate::Guard::access) is refused.
     Access { NoThread, NoSegment, Unfit, Denied(lock), NotGranted }
+    /// Why [`Guard::locks`](crate::Guard::locks) is refused.
+    Locks { UnknownUser, NoSegment }
+    /// Why [`Guard::list_locks`](crate::Guard::list_locks) is refused.
+    ListLocks { UnknownUser, NoSegment, TooFewRows }
     /// Why [`formula::compile`](crate::formula::compile) is refused.
     Compile { Malformed, TooWide, Unsatisfiable }
     /// Why [`Journal::from_bytes`](crate::Journal::from_bytes) and

@@ -1,5 +1,5 @@
 //! The names and numbers of the C headers are those of the Rust library and of
-//! document 01.
+//! documents 01 and 02.
 
 use rotundaaloe::{Lock, Operations, Refusal, VERSION, raw};
 use std::collections::BTreeMap;
@@ -7,7 +7,7 @@ use std::collections::BTreeMap;
 const HEADER: &str = include_str!("../../include/rotundaaloe.h");
 const RAW: &str = include_str!("../../include/rotundaaloe_raw.h");
 
-const REFUSALS: [Refusal; 18] = [
+const REFUSALS: [Refusal; 19] = [
     Refusal::UnknownUser,
     Refusal::NoThread,
     Refusal::NoSegment,
@@ -26,6 +26,7 @@ const REFUSALS: [Refusal; 18] = [
     Refusal::NotJournal,
     Refusal::OtherVersion,
     Refusal::Corrupt,
+    Refusal::TooFewRows,
 ];
 
 /// `NoThread` in lower case: `no_thread`.
@@ -181,7 +182,7 @@ fn declared() -> Functions {
 fn exported_functions() {
     let imported = imported();
     assert_eq!(declared(), imported);
-    assert_eq!(imported.len(), 13, "as the page for hosts says");
+    assert_eq!(imported.len(), 14, "as the page for hosts says");
 }
 
 /// The numbers in a comment's `Refused: 1, 10.`, for each function after one.
@@ -219,6 +220,7 @@ fn refusals_of_each_call() {
         "CallSegment",
         "ReturnCall",
         "Access",
+        "ListLocks",
         "Compile",
     ] {
         let start = format!("\n    {call} {{");

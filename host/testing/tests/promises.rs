@@ -42,9 +42,11 @@ fn names_in(folder: &str) -> Vec<String> {
 
 /// The documents that people read.
 fn pages() -> Vec<String> {
-    let docs = names_in("docs")
-        .into_iter()
-        .map(|name| format!("docs/{name}"));
+    let docs = ["docs", "docs/changes"].into_iter().flat_map(|folder| {
+        names_in(folder)
+            .into_iter()
+            .map(move |name| format!("{folder}/{name}"))
+    });
     ["README.md", "CHANGELOG.md", "lessons/README.md"]
         .map(str::to_owned)
         .into_iter()

@@ -28,20 +28,20 @@ use Rattle.model.specs.Refusals.{conditions}
 use Rattle.model.specs.Cells.{Cells, stateOf}
 use Rattle.model.specs.Stores.{judgedCells, stepCellsDecoded, stepCells}
 use Rattle.model.specs.Theorems.Refusing.{someHolds, FirstHolds, rank, ranks, Refusing, InOrder}
-use Rattle.base.proofs.Lists.{caseBool, clash}
+use Rattle.base.proofs.Lists.{caseBool, clash, rising-tail}
 use Rattle.call.proofs.EveryRequest.{every-request}
 
 -- ---- the first condition that holds
 
-none-refuses : (cs : List (Condition Refusal)) → someHolds cs ≡ false → firstRefusal cs ≡ none
+pub none-refuses : (cs : List (Condition Refusal)) → someHolds cs ≡ false → firstRefusal cs ≡ none
 none-refuses [] h = refl
 none-refuses (c ∷ cs) h = let (here, there) = neither (c .holds) (someHolds cs) h in rw here (none-refuses cs there)
 
-none-holds : (cs : List (Condition Refusal)) → firstRefusal cs ≡ none → someHolds cs ≡ false
+pub none-holds : (cs : List (Condition Refusal)) → firstRefusal cs ≡ none → someHolds cs ≡ false
 none-holds [] h = refl
 none-holds (c ∷ cs) h = let (here, there) = all-fail (c ∷ cs) h in rw here (none-holds cs (none-first cs there))
 
-first-holds : (r : Refusal) (cs : List (Condition Refusal)) → firstRefusal cs ≡ some r → FirstHolds r cs
+pub first-holds : (r : Refusal) (cs : List (Condition Refusal)) → firstRefusal cs ≡ some r → FirstHolds r cs
 first-holds r [] h = let z : _≡_ {A = ℕ} 0 1 = cc in absurd (omega arith)
 first-holds r (c ∷ cs) h =
     caseBool (c .holds)
@@ -57,7 +57,7 @@ first-holds r (c ∷ cs) h =
       refusal = k .refusal;
     })
 
-first-refuses : (r : Refusal) (cs : List (Condition Refusal)) → FirstHolds r cs → firstRefusal cs ≡ some r
+pub first-refuses : (r : Refusal) (cs : List (Condition Refusal)) → FirstHolds r cs → firstRefusal cs ≡ some r
 first-refuses r cs k =
     ap firstRefusal (k .split) ∙ first-later (k .earlier) (k .condition ∷ k .later) (none-refuses (k .earlier) (k .noneEarlier)) ∙ rw (k .holds, k .refusal)
 
@@ -70,10 +70,6 @@ refusal-in p r (c ∷ cs) h e =
     caseBool (c .holds) (λ t. ap p (sym (Option·some-inj .0 (rw t at e))) ∙ here) (λ f. refusal-in p r cs there (rw f at e))
 
 -- where the ranks rise, the first that holds has the least rank of those that do
-rising-tail : (m : ℕ) (ns : List ℕ) → rising (m ∷ ns) ≡ true → rising ns ≡ true
-rising-tail m [] h = refl
-rising-tail m (n ∷ ns) h = and-right (ltb m n) (rising (n ∷ ns)) h
-
 rising-least : (m : ℕ) (c : Condition Refusal) (cs : List (Condition Refusal)) → rising (m ∷ ranks cs) ≡ true → List·Memᴰ c cs
     → m ≤ rank (c .refusal)
 rising-least m c (x ∷ xs) h (List·Memᴰ·head e) =
@@ -85,7 +81,7 @@ rising-least m c (x ∷ xs) h (List·Memᴰ·tail i) =
     let r : rank (x .refusal) ≤ rank (c .refusal) = rising-least (rank (x .refusal)) c xs (rising-tail m (ranks (x ∷ xs)) h) i in
     omega arith
 
-first-least : (r : Refusal) (cs : List (Condition Refusal)) → rising (ranks cs) ≡ true → firstRefusal cs ≡ some r
+pub first-least : (r : Refusal) (cs : List (Condition Refusal)) → rising (ranks cs) ≡ true → firstRefusal cs ≡ some r
     → (c : Condition Refusal) → List·Memᴰ c cs → c .holds ≡ true → rank r ≤ rank (c .refusal)
 first-least r (x ∷ xs) h e c (List·Memᴰ·head p) t =
     let s : x .holds ≡ true = ap (λ (y : Condition Refusal). y .holds) (sym p) ∙ t in

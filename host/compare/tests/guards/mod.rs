@@ -1,5 +1,6 @@
 //! What the comparison of the two guards is made of.
 
+mod filling;
 mod garbage;
 pub mod pair;
 pub mod tally;

@@ -1,9 +1,12 @@
 //! What the command is asked for.
 
+mod locks;
+
 use super::failure::Failure;
 use super::output::Target;
 use super::source::Source;
 use keylock::shown::escaped;
+use rotundaaloe::{Segment, User};
 use std::ffi::{OsStr, OsString};
 use std::os::unix::ffi::OsStrExt;
 
@@ -13,15 +16,17 @@ pub enum Topic {
     Dis,
     Run,
     Trace,
+    Locks,
     State,
 }
 
 impl Topic {
-    pub const ALL: [Topic; 5] = [
+    pub const ALL: [Topic; 6] = [
         Topic::Asm,
         Topic::Dis,
         Topic::Run,
         Topic::Trace,
+        Topic::Locks,
         Topic::State,
     ];
 
@@ -31,6 +36,7 @@ impl Topic {
             Topic::Dis => "dis",
             Topic::Run => "run",
             Topic::Trace => "trace",
+            Topic::Locks => "locks",
             Topic::State => "state",
         }
     }
@@ -59,6 +65,13 @@ pub enum Command {
         source: Source,
         target: Target,
     },
+    Locks {
+        source: Source,
+        user: User,
+        segment: Segment,
+        /// How many rows are lent, enough if it is left out.
+        rows: Option<usize>,
+    },
     State {
         source: Source,
         target: Target,
@@ -69,7 +82,7 @@ pub fn parse(mut arguments: impl Iterator<Item = OsString>) -> Result<Command, F
     let Some(first) = arguments.next() else {
         return Err(Failure::usage(
             None,
-            "what to do? asm, dis, run, trace or state",
+            "what to do? asm, dis, run, trace, locks or state",
         ));
     };
     match first.as_bytes() {
@@ -100,6 +113,7 @@ struct Rest {
     files: Vec<OsString>,
     output: Option<OsString>,
     html: bool,
+    rows: Option<OsString>,
 }
 
 fn subcommand(
@@ -111,6 +125,7 @@ fn subcommand(
         files: Vec::new(),
         output: None,
         html: false,
+        rows: None,
     };
     while let Some(argument) = arguments.next() {
         match argument.as_bytes() {
@@ -121,7 +136,7 @@ fn subcommand(
             b"-h" | b"--help" => return Ok(Command::Help(Some(topic))),
             b"-V" | b"--version" => return Ok(Command::Version),
             b"--html" if topic == Topic::Trace => rest.html = true,
-            [b'-', _, ..] => rest.output_option(&argument, &mut arguments)?,
+            [b'-', _, ..] => rest.option(&argument, &mut arguments)?,
             _ => rest.files.push(argument),
         }
     }
@@ -133,13 +148,25 @@ impl Rest {
         Failure::usage(Some(self.topic), message)
     }
 
+    /// An option that a value belongs to.
+    fn option(
+        &mut self,
+        option: &OsStr,
+        arguments: &mut impl Iterator<Item = OsString>,
+    ) -> Result<(), Failure> {
+        match self.topic {
+            Topic::Run => Err(unknown_option(Some(self.topic), option)),
+            Topic::Locks => self.rows_option(option, arguments),
+            _ => self.output_option(option, arguments),
+        }
+    }
+
     fn output_option(
         &mut self,
         option: &OsStr,
         arguments: &mut impl Iterator<Item = OsString>,
     ) -> Result<(), Failure> {
         let output = match option.as_bytes() {
-            _ if self.topic == Topic::Run => None,
             b"-o" | b"--output" => Some(arguments.next().unwrap_or_default()),
             [b'-', b'o', name @ ..] => Some(OsStr::from_bytes(name).to_owned()),
             long => long
@@ -157,8 +184,10 @@ impl Rest {
     }
 
     fn command(mut self) -> Result<Command, Failure> {
-        if self.topic == Topic::Run {
-            return self.run();
+        match self.topic {
+            Topic::Run => return self.run(),
+            Topic::Locks => return self.locks(),
+            _ => {}
         }
         if self.files.len() > 1 {
             let second = shown(&self.files[1]);

@@ -10,6 +10,7 @@ pub fn text(topic: Option<Topic>) -> String {
         Some(Topic::Dis) => DIS,
         Some(Topic::Run) => RUN,
         Some(Topic::Trace) => TRACE,
+        Some(Topic::Locks) => LOCKS,
         Some(Topic::State) => STATE,
     };
     text.replace("{LETTERS}", &letters::table())
@@ -26,21 +27,23 @@ const OPTIONS: &str = "  \
 const COMMAND: &str = "\
 Usage: keylock SUBCOMMAND [OPTION]... [FILE]...
 
-Writes, reads, replays and explains the guard's journals, and shows its state
-files. Every answer is the proved guard's.
+Writes, reads, replays and explains the guard's journals, and shows lock lists
+and state files. Every answer is the proved guard's.
 
 Subcommands:
   asm    a text journal to a journal
   dis    a journal to a text journal
   run    the guard's answer to each call
   trace  each call explained, as text or as a page
+  locks  a segment's lock list, as a user sees it after a journal
   state  what stands in a state file
 
 Options:
   -h, --help     show this; 'keylock SUBCOMMAND --help' tells more
   -V, --version  show the version
 
-A FILE that is missing or '-' is standard input. '--' ends the options.
+A FILE that is missing or '-' is standard input; locks needs one. '--' ends the
+options.
 
 Exit status:
   0  fine
@@ -127,9 +130,11 @@ Usage: keylock trace [--html] [FILE] [-o OUT]
 
 Explains a journal or a text journal step by step: what each call asks for, the
 guard's answer and why, the thread's open calls and keys after it and, for a C
-or an A, each lock with the key that opened it or kept it shut. The text's
-comments and expected answers stand beside the steps. A comment that begins with
-what its call makes gives it a name, of up to 40 characters:
+or an A, each lock with the key that opened it or kept it shut. A segment stands
+there with its locks and with its lock list, as its owner and as a colleague
+sees it; on a page that list is at a C or an A too, where a click opens it. The
+text's comments and expected answers stand beside the steps. A comment that
+begins with what its call makes gives it a name, of up to 40 characters:
 
   S 0    # thread 0, the May closing
   N 0 1  # segment 2, the totals sheet
@@ -142,6 +147,39 @@ expected answer isn't given, 2 called wrongly, or couldn't read or write.
 
 Example:
   keylock trace --html office.txt -o office.html
+";
+
+const LOCKS: &str = "\
+Usage: keylock locks FILE USER SEGMENT [--rows N]
+
+Replays a journal or a text journal from the empty state, and prints the lock
+list of a segment as the guard then shows it to a user: 'ok N' and N rows, or
+'no N 0'. A row has the lock, its operations added up (1 execute, 2 read, 4
+write), grant or deny, and keys. The segment's owner gets a row for each product
+of each standing lock, with its keys, barred ones with '!'. Anyone else gets a
+row for each standing lock, without keys:
+
+  ok 3                ok 2
+  2 4 grant S0 S1     2 4 grant
+  3 6 deny !D0        3 6 deny
+  3 6 deny U1
+
+Refusals, the first number after 'no': 1 stranger, 3 no segment, 19 too few
+rows. Answers that a text expects aren't compared here: 'keylock run' does that.
+
+A FILE that is '-' is standard input. USER and SEGMENT are numbers from 0 to
+65535.
+
+Options:
+      --rows N   how many rows are lent to the guard; enough if left out
+  -h, --help     show this
+  -V, --version  show the version
+
+Exit status: 0 fine, whatever the guard answers, 1 the input is at fault (then
+nothing is printed), 2 called wrongly, or couldn't read or write.
+
+Example:
+  keylock locks office.txt 0 2
 ";
 
 const STATE: &str = "\

@@ -27,7 +27,7 @@ pub fn tried_on(judgement: &Judgement, pieces: &mut Pieces) -> String {
     };
     let before = before(judgement, pieces);
     pieces.share(format!(
-        "<div>\n<h3>Locks for {operation} on {segment}</h3>\n{locks}{none}{before}</div>\n"
+        "<h3>Locks for {operation} on {segment}</h3>\n{locks}{none}{before}"
     ))
 }
 
@@ -55,7 +55,7 @@ enum Part {
 fn tried(tried: &Tried, part: Part, pieces: &mut Pieces) -> String {
     let number = tried.lock.number;
     let decides = part == Part::Decides;
-    let verb = verb(&tried.lock);
+    let verb = words::verb(tried.lock.denies());
     let state = match (decides, tried.opens()) {
         (true, _) => format!("<b>Lock {number} opens and {verb}</b>"),
         (false, true) => format!("<b>Lock {number} opens.</b> It {verb}"),
@@ -81,10 +81,6 @@ fn tried(tried: &Tried, part: Part, pieces: &mut Pieces) -> String {
     pieces.share(format!(
         "<div class=\"{class}\">{line}<ul>{products}</ul></div>\n"
     ))
-}
-
-fn verb(lock: &Lock) -> &'static str {
-    if lock.denies() { "denies" } else { "grants" }
 }
 
 /// `write if S0&S1`, after what is said of the lock.
@@ -120,7 +116,8 @@ fn literal(literal: &Literal, pieces: &mut Pieces) -> String {
 
 /// A lock that no call is tried on now.
 pub fn standing(lock: &Lock, pieces: &mut Pieces) -> String {
-    let said = format!("<b>Lock {}</b> {}", lock.number, verb(lock));
+    let verb = words::verb(lock.denies());
+    let said = format!("<b>Lock {}</b> {verb}", lock.number);
     let line = lock_line(lock, &said);
     pieces.share(format!("<div class=\"lock\">{line}</div>\n"))
 }

@@ -1,9 +1,9 @@
-//! A segment on the page: its locks and its key list.
+//! A segment on the page: its locks, its key list and its lock list.
 
 use super::html::said;
-use super::locks;
 use super::pieces::Pieces;
 use super::stack::key_row;
+use super::{listing, locks};
 use crate::steps::SegmentView;
 
 pub fn columns(segment: &SegmentView, pieces: &mut Pieces) -> String {
@@ -15,10 +15,11 @@ pub fn columns(segment: &SegmentView, pieces: &mut Pieces) -> String {
         locks = "<p class=\"lock\">None stands.</p>\n".to_string();
     }
     let keys = key_row(&segment.keys, pieces);
+    let lists = listing::drawn(&segment.lists, pieces);
     format!(
         "<div>\n<h3>Locks on {name}</h3>\n{locks}</div>\n\
          <div>\n<h3>Its key list</h3>\n\
          <ul class=\"stack\"><li><b>{name}</b>{keys}<small>{kind} of {owner}</small></li></ul>\n\
-         </div>\n"
+         {lists}</div>\n"
     )
 }

@@ -3,7 +3,7 @@
 use super::html::{self, escaped, sentence};
 use super::pieces::Pieces;
 use super::stack;
-use super::{lines, locks, segment};
+use super::{lines, listing, locks, segment};
 use crate::shown;
 use crate::steps::Step;
 use rotundaaloe::Letter;
@@ -27,10 +27,7 @@ pub fn section(step: &Step, pieces: &mut Pieces) -> String {
 }
 
 fn columns(step: &Step, pieces: &mut Pieces) -> String {
-    let mut columns = String::new();
-    if let Some(judgement) = &step.judgement {
-        columns += &locks::tried_on(judgement, pieces);
-    }
+    let mut columns = asked(step, pieces);
     if let Some(view) = &step.segment {
         columns += &segment::columns(view, pieces);
     }
@@ -38,6 +35,20 @@ fn columns(step: &Step, pieces: &mut Pieces) -> String {
         columns += &stack::column(thread, pieces);
     }
     pieces.share(format!("<div class=\"cols\">\n{columns}</div>\n"))
+}
+
+/// Of a C or an A: the locks that decide it, and its segment's lock list.
+fn asked(step: &Step, pieces: &mut Pieces) -> String {
+    let judgement = step.judgement.iter();
+    let mut parts: String = judgement
+        .map(|tried| locks::tried_on(tried, pieces))
+        .collect();
+    let asked = step.asked.iter();
+    parts.extend(asked.map(|view| listing::folded(view, pieces)));
+    match parts.is_empty() {
+        true => parts,
+        false => format!("<div>\n{parts}</div>\n"),
+    }
 }
 
 /// When a new lock is to open.

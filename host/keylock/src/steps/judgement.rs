@@ -69,18 +69,23 @@ impl Tried {
     }
 }
 
-/// How the locks decide an answered call. Asked before it is taken in.
-pub fn of(state: &State, record: &Record, answer: Result<u16, Refusal>) -> Option<Judgement> {
-    let (thread, segment) = match Call::of(record)? {
-        Call::CallSegment { thread, segment } => (thread, segment),
+/// The thread and the segment of a C or an A.
+pub fn asked(record: &Record) -> Option<(Thread, Segment)> {
+    match Call::of(record)? {
+        Call::CallSegment { thread, segment } => Some((thread, segment)),
         Call::Access {
             thread, segment, ..
-        } => (thread, segment),
-        Call::NewUser | Call::NewSegment { .. } | Call::NewKey { .. } => return None,
-        Call::StartThread { .. } | Call::EndThread { .. } | Call::ReturnCall { .. } => return None,
-        Call::GiveKey { .. } | Call::TakeKey { .. } => return None,
-        Call::AddLock { .. } | Call::DropLock { .. } => return None,
-    };
+        } => Some((thread, segment)),
+        Call::NewUser | Call::NewSegment { .. } | Call::NewKey { .. } => None,
+        Call::StartThread { .. } | Call::EndThread { .. } | Call::ReturnCall { .. } => None,
+        Call::GiveKey { .. } | Call::TakeKey { .. } => None,
+        Call::AddLock { .. } | Call::DropLock { .. } => None,
+    }
+}
+
+/// How the locks decide an answered call. Asked before it is taken in.
+pub fn of(state: &State, record: &Record, answer: Result<u16, Refusal>) -> Option<Judgement> {
+    let (thread, segment) = asked(record)?;
     let operation = state.history.operation(&for_history(record))?;
     let keys = state.key_set(thread);
     let locks = view::locks(state, segment, operation).into_iter();

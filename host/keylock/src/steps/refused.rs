@@ -40,6 +40,8 @@ pub fn reason(
         Refusal::Denied(_) => judgement.map_or(String::new(), denied),
         Refusal::NotGranted => judgement.map_or(String::new(), not_granted),
         Refusal::NotJournal | Refusal::OtherVersion | Refusal::Corrupt => NO_SHAPE.to_string(),
+        // No call lends rows: only a lock list is refused so.
+        Refusal::TooFewRows => String::new(),
     }
 }
 

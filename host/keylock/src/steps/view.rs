@@ -1,9 +1,10 @@
 //! Where a thread and a segment stand after a call.
 
+use super::listing::{self, Lists};
 use super::state::{State, keys};
 use reference::history;
 use rotundaaloe::formula::{self, Key};
-use rotundaaloe::{Call, Record, Refusal, Segment, Thread, User};
+use rotundaaloe::{Call, Guard, Record, Refusal, Segment, Thread, User};
 
 /// A thread after a call.
 #[derive(Clone, Debug)]
@@ -52,6 +53,7 @@ pub struct SegmentView {
     pub keys: Vec<Key>,
     /// Its standing locks, by rising number.
     pub locks: Vec<Lock>,
+    pub lists: Lists,
 }
 
 /// A standing lock.
@@ -157,14 +159,16 @@ pub fn thread(state: &State, thread: Thread, change: Change) -> Option<ThreadVie
 }
 
 /// A segment that is handed out. Asked after the call is taken in.
-pub fn segment(state: &State, segment: Segment) -> Option<SegmentView> {
+pub fn segment(state: &State, guard: &Guard, segment: Segment) -> Option<SegmentView> {
     let kept = state.history.segment(segment.0)?;
+    let owner = User(kept.owner);
     Some(SegmentView {
         number: segment.0,
         said: state.said(segment),
-        owner_said: state.said(User(kept.owner)),
+        owner_said: state.said(owner),
         sheet: kept.sheet,
         keys: keys(&kept.list),
         locks: locks(state, segment, 7),
+        lists: listing::of(guard, owner, segment),
     })
 }

@@ -4,7 +4,8 @@ use super::paint::{Look, Paint};
 use crate::steps::{
     Change, Judgement, Lock, OpenCall, Product, SegmentView, Step, ThreadView, Tried, shown_keys,
 };
-use crate::{shown, words};
+use crate::{listing, shown, words};
+use rotundaaloe::LockRow;
 
 /// The lines, each with its end and without its indent.
 pub fn of(step: &Step, paint: Paint) -> String {
@@ -85,6 +86,17 @@ impl Details {
         for standing in &segment.locks {
             self.line("lock", Look::Plain, &lock(standing));
         }
+        self.list("owner", "sees", &segment.lists.owners);
+        self.list("others", "see", &segment.lists.colleagues);
+    }
+
+    /// The lock list's rows, as `keylock locks` prints them.
+    fn list(&mut self, label: &str, verb: &str, rows: &[LockRow]) {
+        if !rows.is_empty() {
+            let rows: Vec<String> = rows.iter().map(listing::line).collect();
+            let text = format!("{verb} {}", rows.join("; "));
+            self.line(label, Look::Plain, &text);
+        }
     }
 
     fn thread(&mut self, thread: &ThreadView) {
@@ -123,7 +135,7 @@ fn open_call(call: &OpenCall) -> String {
 }
 
 fn lock(lock: &Lock) -> String {
-    let verb = if lock.denies() { "denies" } else { "grants" };
+    let verb = words::verb(lock.denies());
     let operations = words::operations(lock.operations & 7);
     let text = shown::bytes(&lock.text);
     format!("{} {verb} {operations} if {text}", lock.number)

@@ -1,6 +1,6 @@
 //! Files that are written: replaced whole, through links, and never the input.
 
-use super::{Directory, ONE_USER, fine, keylock, refused, shell};
+use crate::commands::{self, Directory, ONE_USER, fine, keylock, refused, shell};
 use std::fs;
 use std::os::unix::fs::{FileTypeExt, PermissionsExt, symlink};
 use std::path::Path;
@@ -52,6 +52,8 @@ fn the_input_is_not_written_over_by_any_name() {
         ("run /dev/null text >> text", "standard output"),
         ("run < text >> text", "standard output"),
         ("trace text 1<> text", "standard output"),
+        ("locks text 0 0 >> text", "standard output"),
+        ("locks - 0 0 < text >> soft", "standard output"),
     ] {
         let ran = shell(&format!("keylock {arguments}"), directory.path());
         let (complaint, status) = (ran.complaint.as_str(), ran.status);
@@ -127,7 +129,7 @@ fn a_file_that_cannot_grow() {
     let limited = "trap '' XFSZ; ulimit -f 0; exec \"$0\" asm \"$1\" -o \"$2\"";
     let mut shell = Command::new("sh");
     let keylock = env!("CARGO_BIN_EXE_keylock");
-    let ran = super::run(shell.args(["-c", limited, keylock, &text, &out]));
+    let ran = commands::run(shell.args(["-c", limited, keylock, &text, &out]));
     refused(&ran, 2, &format!("keylock: {out}: File too large\n"));
     assert_eq!(fs::read(&out).unwrap(), b"old");
     assert_eq!(directory.names(), ["a.txt", "out"]);

@@ -1,7 +1,7 @@
 //! The longest inputs: handled in a time that grows as they do, and in little
 //! memory.
 
-use super::{Directory, Ran, feed, ran, spawn};
+use crate::commands::{Directory, Ran, feed, ran, spawn};
 use std::fs;
 use std::process::{Command, Stdio};
 
@@ -29,7 +29,13 @@ fn limited(arguments: &[&str], input: &[u8]) -> Ran {
 
 /// Every subcommand, with the end of what it complains of.
 fn refused_by_all(bytes: &[u8], complaint: &str) {
-    for arguments in [&["asm"][..], &["run"], &["trace"], &["trace", "--html"]] {
+    for arguments in [
+        &["asm"][..],
+        &["run"],
+        &["trace"],
+        &["trace", "--html"],
+        &["locks", "-", "0", "0"],
+    ] {
         let ran = limited(arguments, bytes);
         assert_eq!((ran.printed().as_str(), ran.status), ("", 1));
         assert!(ran.complaint.ends_with(complaint), "{}", ran.complaint);

@@ -1,8 +1,4 @@
-//! Runs the command; and tests of where it reads and writes.
-
-mod files;
-mod long;
-mod streams;
+//! Runs the command.
 
 use std::fs;
 use std::io::Write;
@@ -95,12 +91,13 @@ pub fn feed(child: &mut Child, input: &[u8]) {
     let _ = stdin.write_all(input);
 }
 
-fn spawn(command: &mut Command) -> Child {
+pub fn spawn(command: &mut Command) -> Child {
     let command = command.stdout(Stdio::piped()).stderr(Stdio::piped());
     command.spawn().expect("the command starts")
 }
 
-fn ran(child: Child) -> Ran {
+/// What a command left that was started.
+pub fn ran(child: Child) -> Ran {
     let output = child.wait_with_output().expect("the command ends");
     Ran {
         status: output.status.code().expect("an exit status"),

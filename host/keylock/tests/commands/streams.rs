@@ -1,14 +1,14 @@
 //! Standard input and output: closed, full, or without a reader.
 
-use super::{Directory, ONE_USER, feed, fine, keylock, refused, shell};
+use crate::commands::{Directory, ONE_USER, feed, fine, keylock, refused, shell};
 use std::fs::{self, File};
 use std::process::{Command, Stdio};
 
 #[test]
 fn a_reader_that_goes_away() {
-    for command in ["run", "trace"] {
+    for arguments in [&["run"][..], &["trace"], &["locks", "-", "0", "0"]] {
         let mut child = Command::new(env!("CARGO_BIN_EXE_keylock"))
-            .arg(command)
+            .args(arguments)
             .stdin(Stdio::piped())
             .stdout(Stdio::piped())
             .stderr(Stdio::piped())
@@ -32,6 +32,7 @@ fn a_full_disk() {
         &["run", &text],
         &["trace", &text],
         &["trace", "--html", &text],
+        &["locks", &text, "0", "0"],
         &["--help"],
         &["--version"],
     ] {
@@ -64,6 +65,7 @@ fn an_output_that_is_not_open() {
         "run file text",
         "trace text",
         "trace --html text",
+        "locks text 0 0",
         "--help",
         "help asm",
         "run --help",
@@ -81,7 +83,15 @@ fn an_output_that_is_not_open() {
 fn an_input_that_is_not_open() {
     let directory = Directory::new("no-input");
     let right = "keylock: standard input: Bad file descriptor\n";
-    for command in ["asm", "dis", "run", "run -", "trace", "trace --html"] {
+    for command in [
+        "asm",
+        "dis",
+        "run",
+        "run -",
+        "trace",
+        "trace --html",
+        "locks - 0 0",
+    ] {
         // Closed, and open for writing only.
         for input in ["<&-", "0> none"] {
             let line = format!("keylock {command} {input}");

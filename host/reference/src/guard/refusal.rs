@@ -1,6 +1,7 @@
-//! Why the guard refuses a call, and document 01's numbers for it.
+//! Why the guard refuses a call or a listing, and document 01's numbers for it.
 
-/// Why a call is refused, in the order of document 01's table.
+/// Why a call or a listing is refused, in the order of document 01's table, with
+/// what document 02 adds to it.
 #[derive(Clone, Copy, Debug, PartialEq, Eq)]
 pub enum Refusal {
     /// Document 01: stranger.
@@ -30,6 +31,8 @@ pub enum Refusal {
     NotGranted,
     /// Document 01: broken file. A call of no known shape; comes first.
     Corrupt,
+    /// A listing's alone: fewer are lent than this user needs.
+    TooFewRows,
 }
 
 impl Refusal {
@@ -52,6 +55,7 @@ impl Refusal {
             Refusal::Denied(_) => 14,
             Refusal::NotGranted => 15,
             Refusal::Corrupt => 18,
+            Refusal::TooFewRows => 19,
         }
     }
 

@@ -226,10 +226,10 @@ static void readers(void)
 static void words(void)
 {
     HOLDS(strcmp(rotundaaloe_refusal_text(ROTUNDAALOE_ACCEPTED), "accepted") == 0);
-    HOLDS(strcmp(rotundaaloe_refusal_text(19), "unknown") == 0);
+    HOLDS(strcmp(rotundaaloe_refusal_text(20), "unknown") == 0);
     HOLDS(strcmp(rotundaaloe_refusal_text((unsigned)-1), "unknown") == 0);
     HOLDS(rotundaaloe_version() == ROTUNDAALOE_VERSION);
-    for (unsigned refusal = 1; refusal <= 18; refusal++)
+    for (unsigned refusal = 1; refusal <= 19; refusal++)
         printf("%u %s\n", refusal, rotundaaloe_refusal_text(refusal));
 }
 

@@ -7,6 +7,7 @@ mod contract;
 mod examples;
 mod install;
 mod journals;
+mod locks;
 mod page;
 mod state;
 mod warnings;

@@ -2,10 +2,11 @@
 //! them with their ratios and limits. It fails where a limit is missed.
 //!
 //! `bench/run` at the top of the repository runs it. It starts itself twice more
-//! under valgrind, which must be installed, and there the scenes are counted. In
-//! one run these are the instructions from a call to its return, less those of
-//! counting itself; in the other, those of the proved guard's own check inside
-//! an access. With a file's name it writes the plot's points there.
+//! under valgrind, which must be installed, and there the scenes and the lock
+//! lists are counted. In one run these are the instructions from a call to its
+//! return, less those of counting itself; in the other, those of the proved
+//! guard's own check inside an access. With a file's name it writes the plot's
+//! points there.
 
 #[cfg(target_arch = "x86_64")]
 mod callgrind;
@@ -16,12 +17,16 @@ mod counting;
 #[cfg(target_arch = "x86_64")]
 mod limits;
 #[cfg(target_arch = "x86_64")]
+mod listings;
+#[cfg(target_arch = "x86_64")]
 mod report;
 #[cfg(target_arch = "x86_64")]
 mod scenes;
 
 #[cfg(target_arch = "x86_64")]
 use callgrind::Run;
+#[cfg(target_arch = "x86_64")]
+use listings::{LISTINGS, Listing};
 use std::process::ExitCode;
 
 #[cfg(target_arch = "x86_64")]
@@ -31,6 +36,7 @@ fn main() -> ExitCode {
         Some(Run::Calls) => {
             counting::count_nothing();
             scenes.iter().for_each(counting::count);
+            LISTINGS.into_iter().for_each(Listing::count);
             return ExitCode::SUCCESS;
         }
         Some(Run::Checks) => {
@@ -40,6 +46,7 @@ fn main() -> ExitCode {
         None => (),
     }
     scenes.iter().for_each(counting::tried);
+    LISTINGS.into_iter().for_each(Listing::tried);
     match reported() {
         Ok(0) => ExitCode::SUCCESS,
         Ok(_) => ExitCode::FAILURE,

@@ -4,6 +4,7 @@ use crate::callgrind::CHECK;
 use crate::checks::{self, Case, LITERALS, PRODUCTS};
 use crate::counting::{EMPTY, PROVED, REFERENCE, count_name};
 use crate::limits::LIMITS;
+use crate::listings::LISTINGS;
 use crate::scenes::{AWAY, HOME, PAIRS, Pair, call_name, the_twelve, twelve_name};
 use bench::points::{Panel, Point, Series};
 use bench::route::DEPTHS;
@@ -28,6 +29,12 @@ struct Counts {
 impl Counts {
     fn ratio(self) -> f64 {
         self.proved as f64 / self.reference as f64
+    }
+
+    /// Both counts and their ratio, as the last columns of a table.
+    fn columns(self) -> String {
+        let Counts { proved, reference } = self;
+        format!("{proved} | {reference} | {:.2}", self.ratio())
     }
 }
 
@@ -130,6 +137,7 @@ impl Report {
         self.print_checks();
         self.print_calls();
         self.print_the_twelve();
+        self.print_listings();
         if self.missed.is_empty() {
             println!("\nEvery limit on instructions is kept.");
         } else {
@@ -368,13 +376,27 @@ impl Report {
                     call += &format!(" `{}`", record.text.escape_ascii());
                 }
                 println!(
-                    "| {call}{} | {} | {} | {:.2} |",
+                    "| {call}{} | {} |",
                     if entry { "" } else { ", by its own function" },
-                    counts.proved,
-                    counts.reference,
-                    counts.ratio()
+                    counts.columns()
                 );
             }
+        }
+    }
+
+    /// The lock lists have no limit: a host asks for one rarely.
+    fn print_listings(&self) {
+        println!("\n### Lock list\n");
+        println!(
+            "Counted is `rotundaaloe_raw_list_locks`, of the reference `list`, from the call to \
+             its return. A product has two literals. There is no limit.\n"
+        );
+        println!("| Sheet | User | Rows lent | Answer | Proved | Reference | Ratio |");
+        println!("|---|---|---:|---:|---:|---:|---:|");
+        for listing in LISTINGS {
+            let columns = listing.columns().join(" | ");
+            let counts = self.counts(&listing.name());
+            println!("| {columns} | {} |", counts.columns());
         }
     }
 }

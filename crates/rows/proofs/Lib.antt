@@ -1,0 +1,10 @@
+pub mod BlankRows
+pub mod Discretion
+pub mod Examples
+pub mod FromHistory
+pub mod MadeLists
+pub mod Refusing
+pub mod RowContents
+pub mod RowMade
+pub mod RowsMade
+pub mod SameListings

@@ -1,0 +1,5 @@
+pub mod Discretion
+pub mod Examples
+pub mod FromHistory
+pub mod Refusing
+pub mod RowContents
