@@ -2,5 +2,6 @@ pub mod Agreement
 pub mod Refinement
 pub mod Computed
 pub mod Limits
+pub mod Neighbours
 pub mod Refusals
 pub mod Unfoldings

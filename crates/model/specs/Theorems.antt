@@ -3,9 +3,11 @@ pub mod Examples
 pub mod Granting
 pub mod LockTexts
 pub mod Mirror
+pub mod Neighbours
 pub mod Numbering
 pub mod Refinement
 pub mod Refusing
+pub mod SideBySide
 pub mod StoredLocks
 pub mod Trials
 pub mod Widths

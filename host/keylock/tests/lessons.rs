@@ -1,6 +1,8 @@
 //! The lessons: their expected answers are the proved guard's, the reference's
 //! and those of a small guard. Each of five broken guards is caught by its own
-//! lesson and by no other, and each of four more by its own trap.
+//! lesson and by no other, and each of four more by its own trap. In a last four
+//! one thread disturbs another, which lesson 8 shows, and which is seen too where
+//! the lines of the other are struck.
 
 mod faults;
 
@@ -21,6 +23,7 @@ const LESSONS: [&str; 5] = [
 ];
 const ALL_FIVE: &str = "6-five-faults.txt";
 const TRAPS: &str = "7-traps.txt";
+const NEIGHBOURS: &str = "8-neighbours.txt";
 const ROUTE: &str = "route.txt";
 
 fn path(name: &str) -> PathBuf {
@@ -29,9 +32,16 @@ fn path(name: &str) -> PathBuf {
         .join(name)
 }
 
+fn written(name: &str) -> String {
+    fs::read_to_string(path(name)).unwrap_or_else(|error| panic!("{name}: {error}"))
+}
+
+fn read(text: &str) -> Text {
+    text::parse(text.as_bytes()).unwrap_or_else(|mistakes| panic!("{mistakes:?} in:\n{text}"))
+}
+
 fn lesson(name: &str) -> Text {
-    let text = fs::read(path(name)).unwrap_or_else(|error| panic!("{name}: {error}"));
-    text::parse(&text).unwrap_or_else(|mistakes| panic!("{name}: {mistakes:?}"))
+    read(&written(name))
 }
 
 /// The places of the calls that a guard answers otherwise than expected, with
@@ -48,22 +58,48 @@ fn differences(text: &Text, mut call: impl FnMut(&Record) -> Answer) -> Vec<(usi
         .collect()
 }
 
+fn by_the_proved_guard(text: &Text) -> Vec<(usize, Answer)> {
+    let mut guard = rotundaaloe::Guard::new();
+    differences(text, |record| guard.call(record).into())
+}
+
+fn by_the_reference(text: &Text) -> Vec<(usize, Answer)> {
+    let mut guard = reference::guard::Guard::new();
+    differences(text, |record| {
+        match guard.call(record.letter, record.a, record.b, record.c, record.text) {
+            Ok(answer) => Answer::Ok(answer),
+            Err(refusal) => Answer::No {
+                refusal: refusal.number() as u16,
+                second: refusal.second(),
+            },
+        }
+    })
+}
+
+fn by_the_small_guard(text: &Text) -> Vec<(usize, Answer)> {
+    faulty(text, None)
+}
+
 fn faulty(text: &Text, fault: Option<Fault>) -> Vec<(usize, Answer)> {
     let mut guard = Guard::with(fault);
-    differences(text, |record| match guard.call(record) {
+    differences(text, |record| small(&mut guard, record))
+}
+
+fn small(guard: &mut Guard, record: &Record) -> Answer {
+    match guard.call(record) {
         Ok(answer) => Answer::Ok(answer),
         Err((refusal, second)) => Answer::No {
             refusal: refusal as u16,
             second,
         },
-    })
+    }
 }
 
 /// The lessons in the folder, all of them.
 fn names() -> Vec<&'static str> {
     let names: Vec<&str> = LESSONS
         .into_iter()
-        .chain([ALL_FIVE, TRAPS, ROUTE])
+        .chain([ALL_FIVE, TRAPS, NEIGHBOURS, ROUTE])
         .collect();
     let folder = fs::read_dir(path("")).expect("the lessons");
     let texts = folder.filter(|entry| {
@@ -86,26 +122,14 @@ fn every_lesson_says_in_three_lines_what_it_catches() {
 #[test]
 fn the_proved_guard_answers_as_expected() {
     for name in names() {
-        let mut guard = rotundaaloe::Guard::new();
-        let differences = differences(&lesson(name), |record| guard.call(record).into());
-        assert_eq!(differences, [], "{name}");
+        assert_eq!(by_the_proved_guard(&lesson(name)), [], "{name}");
     }
 }
 
 #[test]
 fn the_reference_answers_as_expected() {
     for name in names() {
-        let mut guard = reference::guard::Guard::new();
-        let differences = differences(&lesson(name), |record| {
-            match guard.call(record.letter, record.a, record.b, record.c, record.text) {
-                Ok(answer) => Answer::Ok(answer),
-                Err(refusal) => Answer::No {
-                    refusal: refusal.number() as u16,
-                    second: refusal.second(),
-                },
-            }
-        });
-        assert_eq!(differences, [], "{name}");
+        assert_eq!(by_the_reference(&lesson(name)), [], "{name}");
     }
 }
 
@@ -113,7 +137,7 @@ fn the_reference_answers_as_expected() {
 #[test]
 fn the_small_guard_without_a_fault_answers_as_expected() {
     for name in names() {
-        assert_eq!(faulty(&lesson(name), None), [], "{name}");
+        assert_eq!(by_the_small_guard(&lesson(name)), [], "{name}");
     }
 }
 
@@ -146,28 +170,134 @@ fn announced(text: &Text, words: &str) -> Vec<(usize, String)> {
 /// A guard with the fault differs at one line, the one that says so, with the
 /// answer that stands there.
 #[track_caller]
-fn gives_itself_away(text: &Text, fault: Fault, words: &str) {
-    let given = faulty(text, Some(fault)).into_iter();
+fn gives_itself_away(name: &str, fault: Fault, words: &str) {
+    let text = lesson(name);
+    let given = faulty(&text, Some(fault)).into_iter();
     let given: Vec<(usize, String)> = given
         .map(|(place, answer)| (place, answer.to_string()))
         .collect();
+    for (place, answer) in &given {
+        println!("{fault:?}: caught by {name} at place {place}, where it answers {answer}");
+    }
     assert_eq!(given.len(), 1, "{fault:?}: {given:?}");
-    assert_eq!(given, announced(text, words), "{fault:?}");
+    assert_eq!(given, announced(&text, words), "{fault:?}");
 }
 
 #[test]
-fn the_sixth_lesson_shows_all_five() {
+fn all_five_are_caught_in_the_sixth_lesson() {
     for (fault, number) in Fault::FIVE.into_iter().zip(1..) {
         let words = format!("a guard with fault {number} answers ");
-        gives_itself_away(&lesson(ALL_FIVE), fault, &words);
+        gives_itself_away(ALL_FIVE, fault, &words);
     }
 }
 
 #[test]
-fn the_seventh_lesson_shows_all_traps() {
+fn all_four_are_caught_in_the_traps_of_the_seventh() {
     for (fault, number) in Fault::TRAPS.into_iter().zip(1..) {
         let words = format!("a guard in trap {number} answers ");
-        gives_itself_away(&lesson(TRAPS), fault, &words);
+        gives_itself_away(TRAPS, fault, &words);
+    }
+}
+
+/// The four of lesson 8, with the words that announce each.
+fn neighbours() -> impl Iterator<Item = (Fault, String)> {
+    let words = (1..).map(|number| format!("a guard with fault {number} answers "));
+    Fault::NEIGHBOURS.into_iter().zip(words)
+}
+
+#[test]
+fn all_four_are_caught_beside_a_neighbour_in_the_eighth() {
+    for (fault, words) in neighbours() {
+        gives_itself_away(NEIGHBOURS, fault, &words);
+    }
+}
+
+/// In the lessons 1 to 5 a thread has no neighbour.
+#[test]
+fn none_of_these_four_shows_in_the_first_five() {
+    for name in LESSONS {
+        for fault in Fault::NEIGHBOURS {
+            assert_eq!(faulty(&lesson(name), Some(fault)), [], "{name}: {fault:?}");
+        }
+    }
+}
+
+/// The threads of lesson 8.
+const JANUARY: u16 = 0;
+const FEBRUARY: u16 = 1;
+
+/// Lesson 8 without the C, R and A lines of all threads but one.
+fn struck_but_for(one: u16) -> Text {
+    let text = lesson(NEIGHBOURS);
+    let struck = text.calls().filter_map(|(line, record)| {
+        let is_struck = b"CRA".contains(&record.letter) && record.a != one;
+        is_struck.then_some(line.number)
+    });
+    let struck: Vec<usize> = struck.collect();
+    let written = written(NEIGHBOURS);
+    let left = (1..).zip(written.lines());
+    let left = left.filter(|(number, _)| !struck.contains(number));
+    let left: Vec<&str> = left.map(|(_, line)| line).collect();
+    read(&left.join("\n"))
+}
+
+#[test]
+fn all_answers_that_are_left_stay() {
+    for guard in [by_the_proved_guard, by_the_reference, by_the_small_guard] {
+        for one in [JANUARY, FEBRUARY] {
+            let left = struck_but_for(one);
+            assert!(left.calls().count() < lesson(NEIGHBOURS).calls().count());
+            assert_eq!(guard(&left), []);
+        }
+    }
+}
+
+/// What the small guard answers to the one thread's own calls.
+fn answers_to(one: u16, text: &Text, fault: Option<Fault>) -> Vec<Answer> {
+    let mut guard = Guard::with(fault);
+    let answers = text.calls().map(|(_, record)| {
+        let own = b"CRAE".contains(&record.letter) && record.a == one;
+        (own, small(&mut guard, &record))
+    });
+    answers
+        .filter_map(|(own, answer)| own.then_some(answer))
+        .collect()
+}
+
+/// So the answers that must stay are of every kind that a check has.
+#[test]
+fn january_is_granted_barred_without_a_way_in_and_full() {
+    let answers = answers_to(JANUARY, &lesson(NEIGHBOURS), None);
+    let answers: Vec<String> = answers.iter().map(Answer::to_string).collect();
+    for answer in ["ok 2", "no 14 3", "no 15 0", "no 10 0"] {
+        assert!(answers.iter().any(|given| given == answer), "{answer}");
+    }
+}
+
+fn is_disturbed(one: u16, fault: Option<Fault>) -> bool {
+    let whole = answers_to(one, &lesson(NEIGHBOURS), fault);
+    whole != answers_to(one, &struck_but_for(one), fault)
+}
+
+/// The one is the thread at whose line the fault is caught.
+#[test]
+fn each_of_the_four_lets_a_neighbour_disturb() {
+    for (fault, words) in neighbours() {
+        let text = lesson(NEIGHBOURS);
+        let (place, _) = announced(&text, &words)[0];
+        let (_, caught) = text.calls().nth(place).expect("its call");
+        assert!(is_disturbed(caught.a, Some(fault)), "{fault:?}");
+    }
+}
+
+/// Neither where there is no fault, nor with those of the other lessons.
+#[test]
+fn no_other_guard_lets_a_neighbour_disturb() {
+    let others = Fault::FIVE.into_iter().chain(Fault::TRAPS).map(Some);
+    for fault in others.chain([None]) {
+        for one in [JANUARY, FEBRUARY] {
+            assert!(!is_disturbed(one, fault), "{fault:?}: thread {one}");
+        }
     }
 }
 

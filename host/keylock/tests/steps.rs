@@ -26,6 +26,13 @@ fn keys(step: &Step) -> String {
     shown_keys(&step.thread.as_ref().expect("a thread").keys)
 }
 
+/// What the terminal shows.
+fn traced(introduction: &[String], steps: &[Step], colour: bool) -> String {
+    let mut out = Vec::new();
+    trace::write(introduction, steps.to_vec(), colour, &mut out).expect("a vector takes it");
+    String::from_utf8(out).expect("text")
+}
+
 /// The segments of the open calls after a step.
 fn stack(step: &Step) -> Vec<u16> {
     let thread = step.thread.as_ref().expect("a thread");
@@ -239,9 +246,7 @@ fn a_granted_call_is_explained_with_the_keys_before_it() {
     let steps = explained("U; N 0 0; L 0 0 1 U0&!S0; S 0; C 0 0");
     let opened = "Lock 0 opened: thread 0 held U0 but not S0.";
     assert_eq!(steps[4].reason, opened);
-    let mut out = Vec::new();
-    trace::write(&[], steps, false, &mut out).expect("a vector takes it");
-    let out = String::from_utf8(out).expect("text");
+    let out = traced(&[], &steps, false);
     let shown = "   tried   with the keys before the call: U0 R0\n   lock    0 grants";
     assert!(out.contains(shown), "{out}");
 }
@@ -551,11 +556,7 @@ fn the_terminal_shows_it() {
     entries[15].note = Some("\x1b[2J".to_string());
     let steps: Vec<Step> = steps::explain(entries).collect();
     let introduction = ["A route.".to_string(), "\x1b[2J".to_string()];
-    let text = |colour| {
-        let mut out = Vec::new();
-        trace::write(&introduction, steps.clone(), colour, &mut out).expect("a vector takes it");
-        String::from_utf8(out).expect("text")
-    };
+    let text = |colour| traced(&introduction, &steps, colour);
     let plain = text(false);
     for line in [
         "13  A 1 2 4        thread 1 writes segment 2        no 15 0  refused: no way in (15)",
@@ -576,6 +577,22 @@ fn the_terminal_shows_it() {
     );
     assert!(!plain.contains('\x1b') && text(true).contains("\x1b[31m"));
     assert!(plain.contains("    note    \\u{1b}[2J\n"), "{plain}");
+}
+
+/// As long as it hands over the same keys.
+#[test]
+fn the_terminal_says_a_repeated_call_once() {
+    let steps = explained("U; N 0 0; K 0; L 0 0 1 U0; S 0; C 0 0; C 0 0; G 0 0 0; C 0 0; E 0");
+    let text = traced(&[], &steps, false);
+    let open = "thread 0 [U0 R0] > segment 0 [S0], 2 times > segment 0 [S0 D0]";
+    let closed = "thread 0 > segment 0 [S0], 2 times > segment 0 [S0 D0]";
+    for line in [
+        format!("stack   {open}  (just called)"),
+        format!("closed  {closed}"),
+    ] {
+        let is_shown = text.lines().any(|shown| shown.trim_start() == line);
+        assert!(is_shown, "{line}\n{text}");
+    }
 }
 
 #[test]

@@ -374,7 +374,7 @@ impl<'a> Caller<'a> {
     }
 
     /// Gives a call a shape that no call has.
-    fn misshape(&mut self, record: &mut Record) {
+    pub(crate) fn misshape(&mut self, record: &mut Record) {
         match self.random.below(4) {
             0 => record.letter = self.random.bits() as u8,
             1 => record.letter = record.letter.to_ascii_lowercase(),

@@ -103,16 +103,12 @@ impl Details {
         let (said, number, user) = (&thread.said, thread.number, thread.user);
         if let Change::Ended(closed) = &thread.change {
             if !closed.is_empty() {
-                let closed: Vec<String> = closed.iter().map(open_call).collect();
-                let text = format!("{said} > {}", closed.join(" > "));
+                let text = format!("{said}{}", open_calls(closed));
                 self.line("closed", Look::Plain, &text);
             }
             return;
         }
-        let mut stack = format!("{said} [U{user} R{number}]");
-        for call in &thread.calls {
-            stack += &format!(" > {}", open_call(call));
-        }
+        let mut stack = format!("{said} [U{user} R{number}]{}", open_calls(&thread.calls));
         match &thread.change {
             Change::Called => stack += "  (just called)",
             Change::Left(left) => stack += &format!("  (just left: {})", open_call(left)),
@@ -132,6 +128,16 @@ impl Details {
 
 fn open_call(call: &OpenCall) -> String {
     format!("{} [{}]", call.said, shown_keys(&call.keys))
+}
+
+/// ` > segment 0 [S0] > segment 1 [S1], 15 times`
+fn open_calls(calls: &[OpenCall]) -> String {
+    let runs = calls.chunk_by(|call, next| call == next);
+    let shown = runs.map(|run| match run.len() {
+        1 => format!(" > {}", open_call(&run[0])),
+        times => format!(" > {}, {times} times", open_call(&run[0])),
+    });
+    shown.collect()
 }
 
 fn lock(lock: &Lock) -> String {

@@ -1,11 +1,13 @@
 //! Guards for the lessons: a small one that does what document 01 says of the
-//! calls that the lessons make, and the same with one of nine faults. It judges
-//! no owner and no limit.
+//! calls that the lessons make, and the same with one of thirteen faults. It
+//! judges no owner, and of the limits only that of a thread's open calls.
 
 use reference::formula::{Literal, Product, compile};
+use reference::limits::MAX_FRAMES;
 use reference::{Issued, Key, Kind};
 use rotundaaloe::{Call, Defined, Lock, Operations, Record, Segment, Thread, User};
 use std::collections::BTreeMap;
+use std::slice;
 
 /// The fault that a lesson catches.
 #[derive(Clone, Copy, Debug, PartialEq, Eq)]
@@ -29,6 +31,14 @@ pub enum Fault {
     WantsAnotherKey,
     /// Lesson 7: a key that is taken is gone from open calls too.
     TakesFromOpenCalls,
+    /// Lesson 8: a return closes the newest open call of every thread.
+    ReturnsForAll,
+    /// Lesson 8: the keys of all threads' open calls are held by each.
+    SharesKeys,
+    /// Lesson 8: a check looks at the thread in the next place, if there is one.
+    ChecksTheNext,
+    /// Lesson 8: the limit is for the open calls of all threads together.
+    SharesTheLimit,
 }
 
 impl Fault {
@@ -47,6 +57,14 @@ impl Fault {
         Fault::LetsAGrantOutvote,
         Fault::WantsAnotherKey,
         Fault::TakesFromOpenCalls,
+    ];
+
+    /// Those of lesson 8, in its order.
+    pub const NEIGHBOURS: [Fault; 4] = [
+        Fault::ReturnsForAll,
+        Fault::SharesKeys,
+        Fault::ChecksTheNext,
+        Fault::SharesTheLimit,
     ];
 }
 
@@ -200,6 +218,9 @@ impl Guard {
 
     fn enter(&mut self, thread: Thread, segment: Segment) -> Answer {
         let lock = self.check(thread, segment, EXECUTE)?;
+        if self.open_calls(thread, Fault::SharesTheLimit).count() >= MAX_FRAMES {
+            return Err((10, 0));
+        }
         let keys = self.list(segment).clone();
         let thread = self.running(thread);
         thread.flat.extend(&keys);
@@ -208,16 +229,27 @@ impl Guard {
     }
 
     fn leave(&mut self, thread: Thread) -> Answer {
-        let leaves_keys = self.fault == Some(Fault::LeavesAKeyBehind);
-        let thread = self.running(thread);
-        let OpenCall { segment, keys } = thread.open_calls.pop().ok_or((9, 0))?;
-        if !leaves_keys {
-            thread.flat.retain(|key| !keys.contains(key));
+        let fault = self.fault;
+        let running = self.running(thread);
+        let OpenCall { segment, keys } = running.open_calls.pop().ok_or((9, 0))?;
+        if fault != Some(Fault::LeavesAKeyBehind) {
+            running.flat.retain(|key| !keys.contains(key));
+        }
+        if fault == Some(Fault::ReturnsForAll) {
+            self.close_newest_of_others(thread);
         }
         Ok(segment.0)
     }
 
+    fn close_newest_of_others(&mut self, Thread(thread): Thread) {
+        let (before, rest) = self.threads.split_at_mut(usize::from(thread));
+        for other in before.iter_mut().chain(&mut rest[1..]) {
+            other.open_calls.pop();
+        }
+    }
+
     fn check(&self, thread: Thread, segment: Segment, operation: u16) -> Answer {
+        let thread = self.looked_at(thread);
         let opening = self.standing.iter().filter(|(_, lock)| {
             let stands = lock.segment == segment && lock.operations & operation != 0;
             stands && lock.products.iter().any(|p| self.opens(thread, p))
@@ -233,6 +265,16 @@ impl Guard {
         match opening.iter().find(|(_, denies)| *denies) {
             Some((number, _)) => Err((14, *number)),
             None => opening.first().map(|(number, _)| *number).ok_or((15, 0)),
+        }
+    }
+
+    /// The thread that a check of this one looks at.
+    fn looked_at(&self, thread: Thread) -> Thread {
+        let next = Thread(thread.0 + 1);
+        let is_there = usize::from(next.0) < self.threads.len();
+        match self.fault {
+            Some(Fault::ChecksTheNext) if is_there => next,
+            _ => thread,
         }
     }
 
@@ -259,19 +301,26 @@ impl Guard {
         }
     }
 
-    /// The keys that the open calls handed over, the oldest call's first.
-    fn handed_over(&self, Thread(thread): Thread) -> Vec<Key> {
-        let thread = &self.threads[usize::from(thread)];
-        let calls = match self.fault {
-            Some(Fault::LeavesAKeyBehind | Fault::CollectsAKeyTooEarly) => {
-                return thread.flat.clone();
-            }
-            Some(Fault::LosesKeysOnTheWayDown) => {
-                &thread.open_calls[thread.open_calls.len().saturating_sub(1)..]
-            }
-            _ => &thread.open_calls[..],
+    /// The thread's open calls, the oldest first. A guard that shares them has
+    /// those of all threads.
+    fn open_calls(&self, Thread(thread): Thread, shares: Fault) -> impl Iterator<Item = &OpenCall> {
+        let threads = match self.fault == Some(shares) {
+            true => &self.threads[..],
+            false => slice::from_ref(&self.threads[usize::from(thread)]),
         };
-        calls.iter().flat_map(|call| call.keys.clone()).collect()
+        threads.iter().flat_map(|thread| &thread.open_calls)
+    }
+
+    /// The keys that the open calls handed over, the oldest call's first.
+    fn handed_over(&self, thread: Thread) -> Vec<Key> {
+        let flat = &self.threads[usize::from(thread.0)].flat;
+        let open_calls = self.open_calls(thread, Fault::SharesKeys);
+        let keys = |call: &OpenCall| call.keys.clone();
+        match self.fault {
+            Some(Fault::LeavesAKeyBehind | Fault::CollectsAKeyTooEarly) => flat.clone(),
+            Some(Fault::LosesKeysOnTheWayDown) => open_calls.last().map(keys).unwrap_or_default(),
+            _ => open_calls.flat_map(keys).collect(),
+        }
     }
 
     /// Whether the product's segment keys were handed over in its order.

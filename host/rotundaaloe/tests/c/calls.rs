@@ -38,7 +38,7 @@ fn lessons() {
         assert_eq!(printed_text(output), lines, "{}", path.display());
         tried += 1;
     }
-    assert!(tried >= 7, "{tried} lessons");
+    assert!(tried >= 9, "{tried} lessons");
 }
 
 /// Each letter is accepted in them and refused, and a deny lock opens.

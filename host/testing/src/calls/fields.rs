@@ -11,7 +11,7 @@ const PLACES: u16 = MAX_LIVE_THREADS as u16;
 impl Caller<'_> {
     /// The right value, or now and then one beside it: around `count`, around a
     /// number that would share its place, or anything.
-    pub(super) fn or_stray(&mut self, right: u16, count: usize) -> u16 {
+    pub(crate) fn or_stray(&mut self, right: u16, count: usize) -> u16 {
         if !self.random.one_in(self.world.stray) {
             return right;
         }
@@ -30,7 +30,7 @@ impl Caller<'_> {
         self.or_stray(user, self.users)
     }
 
-    pub(super) fn thread(&mut self) -> u16 {
+    pub(crate) fn thread(&mut self) -> u16 {
         let thread = match self.live.as_slice() {
             [] => 0,
             live => self.random.pick(live),
@@ -39,7 +39,7 @@ impl Caller<'_> {
     }
 
     /// A segment, of this kind if there is one.
-    pub(super) fn segment(&mut self, sheet: Option<bool>) -> u16 {
+    pub(crate) fn segment(&mut self, sheet: Option<bool>) -> u16 {
         let count = self.segments.len();
         if count == 0 {
             return 0;

@@ -1,0 +1,3 @@
+pub mod Erased
+pub mod OneCall
+pub mod EveryList

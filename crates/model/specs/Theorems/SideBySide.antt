@@ -1,0 +1,188 @@
+-- A worked example for `Neighbours`: two lists of calls that become equal once the C, R and A records of threads other
+-- than 1 are struck out. They differ in dozens of struck calls, accepted and refused ones. Thread 1 comes to grants and
+-- to 15, 14, 10, 18 and 2, in both alike. Of all that is left only the E of threads 0 and 2 answer otherwise. Proved in
+-- `proofs/Computed/SideBySide.antt`, by computing.
+use mathlib.Core.Path.{_≡_}
+use mathlib.Core.List.{List, [], _∷_, _++_, map}
+use Prim.Native.Nat.{ℕ}
+use lib.ListN.{replicate}
+use Rattle.base.specs.Bytes.{bytes}
+use Rattle.formula.specs.Outcome.{outcomeOf}
+use Rattle.call.specs.Letters as letters
+use Rattle.call.specs.Calls.{callWith}
+use Rattle.model.specs.Replay.{events}
+use Rattle.model.specs.Notation.{Expected, U, S, E, N, K, G, T, L, D, C, R, A, ok, no, callsOf, got, Happens}
+use Rattle.model.specs.Theorems.Neighbours.{strike, answersTo, answersLeft}
+
+-- Segments 0 (the rate loader), 1 (the recalculation) and 2 (the totals sheet). Everybody may call the two, user 0 may
+-- read the totals, but nobody from inside the recalculation, and they are saved only by way of both. Threads 0 and 1
+-- are user 0's, thread 2 is user 1's.
+abbrev pub office : List Expected
+office =
+    ok U 0
+    ∷ ok U 1
+    ∷ ok (N 0 0) 0
+    ∷ ok (N 0 0) 1
+    ∷ ok (N 0 1) 2
+    ∷ ok (L 0 0 1 (bytes "U0|U1")) 0
+    ∷ ok (L 0 1 1 (bytes "U0|U1")) 1
+    ∷ ok (L 0 2 4 (bytes "S0&S1")) 2
+    ∷ ok (L 0 2 2 (bytes "U0")) 3
+    ∷ ok (L 0 2 10 (bytes "S1")) 4
+    ∷ ok (S 0) 0
+    ∷ ok (S 0) 1
+    ∷ ok (S 1) 2
+    ∷ []
+
+-- ---- thread 1
+
+-- it calls the rate loader: it has S0, so it may read and not yet save
+abbrev pub loading : List Expected
+loading = ok (C 1 0) 0 ∷ no (A 1 2 4) 15 0 ∷ ok (A 1 2 2) 3 ∷ []
+
+-- which calls the recalculation: with S1 it may save and no longer read
+abbrev pub recalculating : List Expected
+recalculating = ok (C 1 1) 1 ∷ ok (A 1 2 4) 2 ∷ no (A 1 2 2) 14 4 ∷ []
+
+-- sixteen open calls, one too many, a return, and two that are not well formed
+abbrev pub nesting : List Expected
+nesting =
+    replicate 14 (ok (C 1 1) 1)
+    ++ no (C 1 1) 10 0
+    ∷ ok (R 1) 1
+    ∷ no (callWith letters.R 1 0 9 []) 18 0
+    ∷ no (callWith letters.A 1 2 4 (bytes "U0")) 18 0
+    ∷ []
+
+-- it saves once more and is ended with fifteen open calls
+abbrev pub ending : List Expected
+ending = ok (A 1 2 4) 2 ∷ ok (E 1) 15 ∷ no (A 1 2 4) 2 0 ∷ no (E 1) 2 0 ∷ []
+
+abbrev pub own : List Expected
+own = loading ++ recalculating ++ nesting ++ ending
+
+-- ---- what else is left
+
+-- a new user; user 0 makes a segment and two keys, gives both, takes one, and makes a lock and drops it
+abbrev pub editing : List Expected
+editing =
+    ok U 2
+    ∷ ok (N 0 1) 3
+    ∷ ok (K 0) 0
+    ∷ ok (K 0) 1
+    ∷ ok (G 0 1 0) 2
+    ∷ ok (G 0 1 1) 3
+    ∷ ok (T 0 1 0) 2
+    ∷ ok (L 0 2 2 (bytes "U2&R1|U2&R0")) 5
+    ∷ ok (D 0 5) 2
+    ∷ []
+
+-- threads 0 and 2 end, with so many open calls, and what isn't live can't; another starts
+abbrev pub changing : ℕ → ℕ → List Expected
+changing closed₀ closed₂ =
+    no (E 65) 2 0
+    ∷ no (callWith letters.E 0 1 0 []) 18 0
+    ∷ ok (E 0) closed₀
+    ∷ ok (E 2) closed₂
+    ∷ ok (S 1) 3
+    ∷ []
+
+-- all that is left of both lists, without the two numbers
+abbrev pub whatIsLeft : List Expected
+whatIsLeft = office ++ loading ++ recalculating ++ editing ++ nesting ++ changing 0 0 ++ ending
+
+-- ---- its neighbours, on a busy day
+
+-- thread 0 is sixteen calls deep in the recalculation, thread 2 one
+abbrev pub busy₁ : List Expected
+busy₁ =
+    replicate 16 (ok (C 0 1) 1)
+    ++ no (C 0 1) 10 0
+    ∷ no (A 0 2 4) 15 0
+    ∷ no (A 0 2 2) 14 4
+    ∷ ok (C 2 1) 1
+    ∷ no (A 2 2 4) 15 0
+    ∷ no (A 2 2 2) 14 4
+    ∷ []
+
+-- thread 0 returns ten times, thread 2 once and once too often
+abbrev pub busy₂ : List Expected
+busy₂ =
+    replicate 10 (ok (R 0) 1)
+    ++ ok (R 2) 1
+    ∷ no (R 2) 9 0
+    ∷ no (C 0 2) 7 0
+    ∷ no (C 0 3) 3 0
+    ∷ no (callWith letters.R 0 1 0 []) 18 0
+    ∷ []
+
+-- thread 0 calls the rate loader too and saves; user 1 calls it, and may neither save nor read. There is no thread 65,
+-- whose place would be thread 1's.
+abbrev pub busy₃ : List Expected
+busy₃ =
+    ok (C 0 0) 0
+    ∷ ok (A 0 2 4) 2
+    ∷ no (A 0 2 2) 14 4
+    ∷ ok (C 2 0) 0
+    ∷ no (A 2 2 4) 15 0
+    ∷ no (A 2 2 2) 15 0
+    ∷ no (A 0 9 4) 3 0
+    ∷ no (A 0 0 4) 7 0
+    ∷ no (callWith letters.A 0 2 4 (bytes "U0")) 18 0
+    ∷ no (callWith letters.C 2 0 5 []) 18 0
+    ∷ no (C 65 0) 2 0
+    ∷ no (R 65) 2 0
+    ∷ no (A 65 2 4) 2 0
+    ∷ []
+
+-- thread 0 has five calls open when it ends, thread 2 one
+abbrev pub busy₄ : List Expected
+busy₄ = ok (R 0) 0 ∷ ok (R 0) 1 ∷ changing 5 1 ++ no (C 0 0) 2 0 ∷ no (R 2) 2 0 ∷ []
+
+abbrev pub busy : List Expected
+busy =
+    office
+    ++ busy₁
+    ++ loading
+    ++ busy₂
+    ++ recalculating
+    ++ busy₃
+    ++ editing
+    ++ nesting
+    ++ busy₄
+    ++ ending
+
+-- ---- and on a quieter one
+
+-- thread 0 stays in the rate loader and has one call open when it ends, thread 2 sixteen; thread 3 calls before it is
+-- started, and after
+abbrev pub quiet : List Expected
+quiet =
+    office
+    ++ ok (C 0 0) 0
+    ∷ ok (C 0 0) 0
+    ∷ no (A 0 2 4) 15 0
+    ∷ no (C 3 0) 2 0
+    ∷ loading
+    ++ no (R 2) 9 0
+    ∷ no (A 2 2 2) 15 0
+    ∷ recalculating
+    ++ replicate 16 (ok (C 2 0) 0)
+    ++ no (C 2 1) 10 0
+    ∷ editing
+    ++ nesting
+    ++ ok (R 0) 0
+    ∷ changing 1 16
+    ++ ok (C 3 1) 1
+    ∷ ending
+
+pub record SideBySide : Type 0 where
+  pub busyHappens : Happens busy
+  pub quietHappens : Happens quiet
+  pub busyStruck : strike 1 (callsOf busy) ≡ callsOf whatIsLeft
+  pub quietStruck : strike 1 (callsOf quiet) ≡ callsOf whatIsLeft
+  pub busyOwn : map got (answersTo 1 (events outcomeOf (callsOf busy))) ≡ own
+  pub quietOwn : map got (answersTo 1 (events outcomeOf (callsOf quiet))) ≡ own
+  -- the E of threads 0 and 2 without their numbers
+  pub busyLeft : map got (answersLeft 1 (events outcomeOf (callsOf busy))) ≡ whatIsLeft
+  pub quietLeft : map got (answersLeft 1 (events outcomeOf (callsOf quiet))) ≡ whatIsLeft
