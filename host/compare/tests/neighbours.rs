@@ -3,7 +3,7 @@
 //! one thread the same answers, and every call that is left the same, but for how
 //! many open calls an E of another thread closes.
 //!
-//! A guard that lets a neighbour through, in one of five ways, is told from them.
+//! Five faulty guards, each with an answer in which a neighbour shows, are found.
 //! With `-- --nocapture` it also prints how often calls came to each outcome.
 
 #[path = "guards/faulty.rs"]
@@ -23,7 +23,7 @@ use testing::trials::{self, TRIALS};
 
 /// Lists of each kind, each with two others that are the same once struck.
 const LISTS: usize = 2_000;
-/// As many for each faulty guard.
+/// Fewer are enough for each faulty guard.
 const FAULTY_LISTS: usize = 60;
 /// The one thread is one that was never started in one of this many.
 const NEVER_STARTED: usize = 12;

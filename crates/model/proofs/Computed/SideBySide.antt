@@ -2,12 +2,18 @@
 -- holds two of them.
 use mathlib.Core.Path.{_≡_, refl}
 use mathlib.Core.List.{map}
+use Rattle.base.specs.Lists.{keep}
 use Rattle.formula.specs.Outcome.{outcomeOf}
+use Rattle.call.specs.Calls.{table}
 use Rattle.model.specs.Replay.{events}
 use Rattle.model.specs.Notation.{Happens, callsOf, got}
-use Rattle.model.specs.Theorems.Neighbours.{answersTo, answersLeft}
-use Rattle.model.specs.Theorems.SideBySide.{busy, quiet, own, whatIsLeft, SideBySide}
+use Rattle.model.specs.Theorems.Neighbours.{threadLetters, answersTo, answersLeft}
+use Rattle.model.specs.Theorems.SideBySide.{namesThread, busy, quiet, own, whatIsLeft, SideBySide}
 use Rattle.model.proofs.Unfoldings.{computing}
+
+every-letter : map (λ r. r .letter) (keep namesThread (table 0 0 0)) ≡ threadLetters
+unfolding computing
+every-letter = refl
 
 busy-happens : Happens busy
 unfolding computing
@@ -36,6 +42,7 @@ quiet-left = refl
 pub side-by-side : SideBySide
 side-by-side =
     record {
+      everyThreadLetter = every-letter;
       busyHappens = busy-happens;
       quietHappens = quiet-happens;
       busyStruck = refl;

@@ -1,6 +1,6 @@
 -- Request P2. A list and what is left of it, from two states that thread n sees alike: what is struck out leaves them
--- alike, and so does every other call, which is answered alike. The demand's own words are the part of it that the one
--- thread asks.
+-- alike, and so does every other call, which is answered alike. The request's own words are the part of it that the
+-- one thread asks.
 use mathlib.Core.Path.{_≡_, refl, sym, ap, ap₂, _∙_}
 use mathlib.Core.Bool.{true, not, and-false}
 use mathlib.Core.List.{List, [], _∷_, map}

@@ -29,9 +29,9 @@ isStruck n x = hasLetter (letters.C ∷ letters.R ∷ letters.A ∷ []) x && not
 abbrev pub strike : ℕ → List Call → List Call
 strike n xs = keep (λ x. not (isStruck n x)) xs
 
--- the letters whose field a names a thread
+-- the letters whose field a names a thread, in the table's order; `everyThreadLetter` of `SideBySide` has all of them
 abbrev pub threadLetters : List ℕ
-threadLetters = letters.C ∷ letters.R ∷ letters.A ∷ letters.E ∷ []
+threadLetters = letters.E ∷ letters.C ∷ letters.R ∷ letters.A ∷ []
 
 -- the one thread's own calls
 abbrev pub isOwn : ℕ → Call → Bool
@@ -53,12 +53,12 @@ withoutNumber (Refused r) = Refused r
 abbrev pub seen : ℕ → Event → Event
 seen n e = event (e .call) (cond (endsAnother n (e .call)) (withoutNumber (e .answer)) (e .answer))
 
--- the answers to all calls that are left, each with its call
+-- the answers to all calls that are left, each with its call, but for that number
 abbrev pub answersLeft : ℕ → List Event → List Event
 answersLeft n es = map (seen n) (keep (λ e. not (isStruck n (e .call))) es)
 
 -- The request's own words, and what they follow from: not the one thread's calls alone but all that are left are
--- answered alike.
+-- answered alike, but for that number.
 pub record Undisturbed (n : ℕ) (es fs : List Event) : Type 0 where
   pub own : answersTo n es ≡ answersTo n fs
   pub left : answersLeft n es ≡ answersLeft n fs

@@ -1,22 +1,31 @@
 -- A worked example for `Neighbours`: two lists of calls that become equal once the C, R and A records of threads other
--- than 1 are struck out. They differ in dozens of struck calls, accepted and refused ones. Thread 1 comes to grants and
--- to 15, 14, 10, 18 and 2, in both alike. Of all that is left only the E of threads 0 and 2 answer otherwise. Proved in
--- `proofs/Computed/SideBySide.antt`, by computing.
+-- than 1 are struck out, 55 of them in the one, 33 accepted and 22 refused, and 25 in the other, 20 and 5. Thread 1
+-- comes to grants and to 15, 14, 10, 18 and 2, in both alike. Of all that is left only the E of threads 0 and 2 answer
+-- otherwise. Proved in `proofs/Computed/SideBySide.antt`, by computing.
 use mathlib.Core.Path.{_≡_}
+use mathlib.Core.Bool.{Bool}
 use mathlib.Core.List.{List, [], _∷_, _++_, map}
 use Prim.Native.Nat.{ℕ}
+use lib.Dec.{eqb}
 use lib.ListN.{replicate}
 use Rattle.base.specs.Bytes.{bytes}
+use Rattle.base.specs.Lists.{keep}
 use Rattle.formula.specs.Outcome.{outcomeOf}
 use Rattle.call.specs.Letters as letters
-use Rattle.call.specs.Calls.{callWith}
-use Rattle.model.specs.Replay.{events}
+use Rattle.call.specs.Calls.{callWith, TableRow, table}
+use Rattle.call.specs.Requests.{callOf}
+use Rattle.model.specs.Answers.{answerNumber}
+use Rattle.model.specs.Replay.{events, answerTo}
 use Rattle.model.specs.Notation.{Expected, U, S, E, N, K, G, T, L, D, C, R, A, ok, no, callsOf, got, Happens}
-use Rattle.model.specs.Theorems.Neighbours.{strike, answersTo, answersLeft}
+use Rattle.model.specs.Theorems.Neighbours.{strike, threadLetters, answersTo, answersLeft}
 
--- Segments 0 (the rate loader), 1 (the recalculation) and 2 (the totals sheet). Everybody may call the two, user 0 may
--- read the totals, but nobody from inside the recalculation, and they are saved only by way of both. Threads 0 and 1
--- are user 0's, thread 2 is user 1's.
+-- A letter whose field a names a thread is refused by 2 in the empty state, which has none.
+abbrev pub namesThread : TableRow → Bool
+namesThread r = eqb (answerNumber (answerTo outcomeOf [] (callOf (r .request) []))) 2
+
+-- Segments 0 (the rate loader), 1 (the recalculation) and 2 (the totals sheet). Users 0 and 1 may call the two, user 0
+-- may read the totals, but nobody from inside the recalculation, and they are saved only by way of both. Threads 0 and
+-- 1 are user 0's, thread 2 is user 1's.
 abbrev pub office : List Expected
 office =
     ok U 0
@@ -44,26 +53,28 @@ loading = ok (C 1 0) 0 ∷ no (A 1 2 4) 15 0 ∷ ok (A 1 2 2) 3 ∷ []
 abbrev pub recalculating : List Expected
 recalculating = ok (C 1 1) 1 ∷ ok (A 1 2 4) 2 ∷ no (A 1 2 2) 14 4 ∷ []
 
--- sixteen open calls, one too many, a return, and two that are not well formed
+-- sixteen open calls, one too many, a return, and three that are not well formed
 abbrev pub nesting : List Expected
 nesting =
     replicate 14 (ok (C 1 1) 1)
     ++ no (C 1 1) 10 0
     ∷ ok (R 1) 1
+    ∷ no (callWith letters.C 1 0 5 []) 18 0
     ∷ no (callWith letters.R 1 0 9 []) 18 0
     ∷ no (callWith letters.A 1 2 4 (bytes "U0")) 18 0
     ∷ []
 
--- it saves once more and is ended with fifteen open calls
+-- it saves once more, also on the sheet that D1 opens, and is ended with fifteen open calls
 abbrev pub ending : List Expected
-ending = ok (A 1 2 4) 2 ∷ ok (E 1) 15 ∷ no (A 1 2 4) 2 0 ∷ no (E 1) 2 0 ∷ []
+ending = ok (A 1 2 4) 2 ∷ ok (A 1 3 4) 5 ∷ ok (E 1) 15 ∷ no (A 1 2 4) 2 0 ∷ no (E 1) 2 0 ∷ []
 
 abbrev pub own : List Expected
 own = loading ++ recalculating ++ nesting ++ ending
 
 -- ---- what else is left
 
--- a new user; user 0 makes a segment and two keys, gives both, takes one, and makes a lock and drops it
+-- A new user. User 0 makes a sheet and two keys, gives the recalculation both, takes D0 and locks the sheet by D1,
+-- which thread 1 gets by its later calls; another lock is made and dropped. There is no call with the letter c.
 abbrev pub editing : List Expected
 editing =
     ok U 2
@@ -73,11 +84,14 @@ editing =
     ∷ ok (G 0 1 0) 2
     ∷ ok (G 0 1 1) 3
     ∷ ok (T 0 1 0) 2
-    ∷ ok (L 0 2 2 (bytes "U2&R1|U2&R0")) 5
-    ∷ ok (D 0 5) 2
+    ∷ ok (L 0 3 4 (bytes "D1")) 5
+    ∷ ok (L 0 2 2 (bytes "U2&R1|U2&R0")) 6
+    ∷ ok (D 0 6) 2
+    ∷ no (callWith 99 0 1 0 []) 18 0
     ∷ []
 
--- threads 0 and 2 end, with so many open calls, and what isn't live can't; another starts
+-- an E of no live thread and one that is not well formed are refused; threads 0 and 2 end, with so many open calls;
+-- another starts
 abbrev pub changing : ℕ → ℕ → List Expected
 changing closed₀ closed₂ =
     no (E 65) 2 0
@@ -117,7 +131,7 @@ busy₂ =
     ∷ []
 
 -- thread 0 calls the rate loader too and saves; user 1 calls it, and may neither save nor read. There is no thread 65,
--- whose place would be thread 1's.
+-- whose place would be thread 1's, and no thread with the last number.
 abbrev pub busy₃ : List Expected
 busy₃ =
     ok (C 0 0) 0
@@ -133,6 +147,7 @@ busy₃ =
     ∷ no (C 65 0) 2 0
     ∷ no (R 65) 2 0
     ∷ no (A 65 2 4) 2 0
+    ∷ no (A 65535 2 4) 2 0
     ∷ []
 
 -- thread 0 has five calls open when it ends, thread 2 one
@@ -177,6 +192,7 @@ quiet =
     ∷ ending
 
 pub record SideBySide : Type 0 where
+  pub everyThreadLetter : map (λ r. r .letter) (keep namesThread (table 0 0 0)) ≡ threadLetters
   pub busyHappens : Happens busy
   pub quietHappens : Happens quiet
   pub busyStruck : strike 1 (callsOf busy) ≡ callsOf whatIsLeft
