@@ -2,6 +2,7 @@
 use mathlib.Core.Path.{_≡_, refl}
 use Prim.Native.Nat.{ℕ, _+_, _*_, _/_, _%_, _<_}
 use native.Mathlib.Omega.{arith}
+use Rattle.product.specs.Code.{keyAt}
 use Rattle.model.specs.Answers.{answerNumber, answerValue}
 use Rattle.abi.specs.Theorems.Examples.{CodeTakenApart, Examples}
 
@@ -12,6 +13,7 @@ pub code-taken-apart : CodeTakenApart
 code-taken-apart r h = apart (answerNumber r) (answerValue r) h
 
 pub examples : Examples
+unfolding keyAt
 examples =
     record {
       lock-seven = refl;
@@ -19,6 +21,14 @@ examples =
       full = refl;
       denied = refl;
       corrupt = refl;
+      last-place = refl;
+      no-place = refl;
+      no-run = refl;
+      user-key = refl;
+      thread-key = refl;
+      segment-key = refl;
+      defined-key = refl;
+      no-key = refl;
       two-products = refl;
       malformed-number = refl;
       wide-number = refl;

@@ -1,6 +1,7 @@
 pub mod Answers
 pub mod Files
 pub mod Calls
+pub mod KeySearch
 pub mod Left
 pub mod LockList
 pub mod Version

@@ -3,6 +3,7 @@
 pub mod calls;
 pub mod file;
 pub mod held;
+pub mod key_search;
 pub mod left;
 pub mod lock_list;
 pub mod text;

@@ -21,7 +21,7 @@ use Rattle.model.specs.Cells.{Row, Table, cell, rowAt, numberCell, userCell, no
 use Rattle.model.proofs.Refinement.Literals.{keyIn-segment, keyIn-defined}
 use Rattle.base.proofs.Lists.{caseBool, same-truth, any-map, any-keep, each-suc}
 use Rattle.checking.specs.Deciding.{keysAt}
-use Rattle.checking.specs.Internal.{hasCode, inherited, listable}
+use Rattle.checking.specs.Internal.{hasCode, newestRow, inherited, listable}
 
 -- ---- the eight comparisons of a row
 
@@ -52,7 +52,7 @@ eight-cells w code l =
 
 -- ---- equal keys
 
-same-key : (j k : Key) → sameKey j k ≡ true → j ≡ k
+pub same-key : (j k : Key) → sameKey j k ≡ true → j ≡ k
 same-key j k e = compare-equal j k (is-equal (compareAtoms j k) e)
 
 key-same : (j k : Key) → j ≡ k → sameKey j k ≡ true
@@ -88,11 +88,11 @@ module _ (x n : ℕ) where
   unfolding compareAtoms orderOf
   listed-not-thread = caseBool (ltb x mostSegments) (λ e. simp e) (λ e. simp e)
 
-  user-not-listed : sameKey (User n) (keyIn x) ≡ false
+  pub user-not-listed : sameKey (User n) (keyIn x) ≡ false
   unfolding compareAtoms orderOf
   user-not-listed = caseBool (ltb x mostSegments) (λ e. simp e) (λ e. simp e)
 
-  thread-not-listed : sameKey (ThreadKey n) (keyIn x) ≡ false
+  pub thread-not-listed : sameKey (ThreadKey n) (keyIn x) ≡ false
   unfolding compareAtoms orderOf
   thread-not-listed = caseBool (ltb x mostSegments) (λ e. simp e) (λ e. simp e)
 
@@ -115,7 +115,7 @@ any-never p h [] = refl
 any-never p h (x ∷ xs) = simp (h x) (any-never p h xs)
 
 -- a key that is no code of a list stands in none
-not-listed : (k : Key) → ((x : ℕ) → sameKey k (keyIn x) ≡ false) → (t : Table) (n : ℕ) → any (λ f. isIn k (f .keys)) (framesOf t n) ≡ false
+pub not-listed : (k : Key) → ((x : ℕ) → sameKey k (keyIn x) ≡ false) → (t : Table) (n : ℕ) → any (λ f. isIn k (f .keys)) (framesOf t n) ≡ false
 not-listed k h t zero = refl
 not-listed k h t (suc n) =
     let here : isIn k (keysIn (rowAt t (suc n))) ≡ false =
@@ -129,16 +129,21 @@ module _ (code : ℕ) (low : code < noKey) where
       (λ e. let q = eqb-true x noKey e in let other : eqb x code ≡ false = ne-eqb x code (λ z. omega arith) in simp (e, other))
       (λ e. simp e (same-codes code x))
 
-  in-row : (w : Row) → isIn (keyIn code) (keysIn w) ≡ hasCode w code
+  pub in-row : (w : Row) → isIn (keyIn code) (keysIn w) ≡ hasCode w code
   in-row w =
       any-map (sameKey (keyIn code)) keyIn (keep hasKey w)
       ∙ any-keep (λ x. sameKey (keyIn code) (keyIn x)) hasKey w
       ∙ any-agree (λ x. hasKey x && sameKey (keyIn code) (keyIn x)) (λ x. eqb x code) has-key w
 
   in-frames : (t : Table) (n : ℕ) → any (λ f. isIn (keyIn code) (f .keys)) (framesOf t n) ≡ inherited t n code
-  unfolding inherited
+  unfolding newestRow
   in-frames t zero = refl
-  in-frames t (suc n) = ap₂ (λ (a b : Bool). a || b) (in-row (rowAt t (suc n))) (in-frames t n)
+  in-frames t (suc n) =
+      ap₂ (λ (a b : Bool). a || b) (in-row (rowAt t (suc n))) (in-frames t n)
+      ∙ caseBool (hasCode (rowAt t (suc n)) code) (λ e. let some-row = ne-eqb (suc n) 0 (λ z. omega arith) in rw (e, some-row) refl) (λ e. rw e refl)
+
+held : (t : Table) (n code : ℕ) {row : ℕ} → row ≡ newestRow t n code → not (eqb row 0) ≡ inherited t n code
+held t n code h = ap (λ (r : ℕ). not (eqb r 0)) h
 
 -- ---- the key set
 
@@ -178,14 +183,14 @@ module _ (t : Table) (n : ℕ) where
     pub thread-key : k ≡ ThreadKey number → eqb (cell (rowAt t 0) numberCell) number ≡ keysAt t n k
     thread-key e = sym (ap (keysAt t n) e ∙ holds-thread number)
 
-    module _ {code : ℕ} {b : Bool} (l : listable k ≡ true) (h : b ≡ inherited t n code) where
-      pub segment-key : k ≡ SegmentKey number → code ≡ number → b ≡ keysAt t n k
-      segment-key e c = h ∙ ap (inherited t n) c ∙ sym (ap (keysAt t n) e ∙ holds-segment number (ap listable (sym e) ∙ l))
+    module _ {code row : ℕ} (l : listable k ≡ true) (h : row ≡ newestRow t n code) where
+      pub segment-key : k ≡ SegmentKey number → code ≡ number → not (eqb row 0) ≡ keysAt t n k
+      segment-key e c = held t n code h ∙ ap (inherited t n) c ∙ sym (ap (keysAt t n) e ∙ holds-segment number (ap listable (sym e) ∙ l))
 
-      pub defined-key : k ≡ Defined number → code ≡ number + mostSegments → b ≡ keysAt t n k
+      pub defined-key : k ≡ Defined number → code ≡ number + mostSegments → not (eqb row 0) ≡ keysAt t n k
       defined-key e c =
           let same : code ≡ definedCell number = omega (arith, c) in
-          h ∙ ap (inherited t n) same ∙ sym (ap (keysAt t n) e ∙ holds-defined number (ap listable (sym e) ∙ l))
+          held t n code h ∙ ap (inherited t n) same ∙ sym (ap (keysAt t n) e ∙ holds-defined number (ap listable (sym e) ∙ l))
 
   module _ {l : Literal} {k : Key} {b : Bool} (h : b ≡ keysAt t n k) where
     pub plain-agrees : l ≡ Plain k → b ≡ agrees (keysAt t n) l

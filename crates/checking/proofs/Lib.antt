@@ -1,4 +1,5 @@
 pub mod Examples
 pub mod DecidingRow
 pub mod KeyCells
+pub mod NewestFrames
 pub mod LoopSteps

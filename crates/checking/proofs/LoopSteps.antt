@@ -20,7 +20,7 @@ use Rattle.model.specs.Cells.{Row, Table, cell, rowAt, frameCount, literalIn, u
 use Rattle.base.proofs.Lists.{caseBool, clash, each-snoc}
 use Rattle.base.proofs.Scans.{Rest, rest-end, rest-next, Asks}
 use Rattle.checking.specs.Deciding.{keysAt}
-use Rattle.checking.specs.Internal.{hasCode, inherited, listable, isDeny, deniesFrom, opensRow, headOf, openingOf}
+use Rattle.checking.specs.Internal.{hasCode, newestRow, listable, isDeny, deniesFrom, opensRow, headOf, openingOf}
 use Rattle.checking.proofs.KeyCells.{literal-listable}
 
 step-down : (i : ℕ) → 0 < i → i ≡ suc (i - 1)
@@ -28,23 +28,23 @@ step-down i h = omega arith
 
 -- ---- frames
 
-pub record Asked (r : Bool) (t : Table) (code i : ℕ) : Type 0 where
-  pub rest : r ≡ inherited t i code
+pub record Asked (r : ℕ) (t : Table) (code i : ℕ) : Type 0 where
+  pub rest : r ≡ newestRow t i code
 
-pub asked-start : (t : Table) (n code : ℕ) → Asked (inherited t n code) t code n
+pub asked-start : (t : Table) (n code : ℕ) → Asked (newestRow t n code) t code n
 asked-start t n code = record { rest = refl }
 
-module _ {r : Bool} {t : Table} {code i : ℕ} (a : Asked r t code i) where
-  pub asked-end : i ≤ 0 → false ≡ r
-  unfolding inherited
-  asked-end h = let z : i ≡ 0 = omega arith in sym (a .rest ∙ ap (λ (k : ℕ). inherited t k code) z)
+module _ {r : ℕ} {t : Table} {code i : ℕ} (a : Asked r t code i) where
+  pub asked-end : i ≤ 0 → 0 ≡ r
+  unfolding newestRow
+  asked-end h = let z : i ≡ 0 = omega arith in sym (a .rest ∙ ap (λ (k : ℕ). newestRow t k code) z)
 
   module _ (h : 0 < i) where
-    split : inherited t i code ≡ (hasCode (rowAt t i) code || inherited t (i - 1) code)
-    unfolding inherited
-    split = ap (λ (k : ℕ). inherited t k code) (step-down i h) ∙ ap (λ (k : ℕ). hasCode (rowAt t k) code || inherited t (i - 1) code) (sym (step-down i h))
+    split : newestRow t i code ≡ cond (hasCode (rowAt t i) code) i (newestRow t (i - 1) code)
+    unfolding newestRow
+    split = ap (λ (k : ℕ). newestRow t k code) (step-down i h) ∙ ap (λ (k : ℕ). cond (hasCode (rowAt t k) code) k (newestRow t (i - 1) code)) (sym (step-down i h))
 
-    pub asked-hit : (b : Bool) → b ≡ hasCode (rowAt t i) code → b ≡ true → true ≡ r
+    pub asked-hit : (b : Bool) → b ≡ hasCode (rowAt t i) code → b ≡ true → i ≡ r
     asked-hit b e q = sym (a .rest ∙ split ∙ rw (sym e ∙ q))
 
     pub asked-miss : (b : Bool) → b ≡ hasCode (rowAt t i) code → b ≡ false → Asked r t code (i - 1)

@@ -1,7 +1,7 @@
 -- What the crate's private functions promise each other. Nothing here is part of what a reader must believe.
 use mathlib.Core.Bool.{Bool, true, false, _&&_, _||_, not, cond}
 use mathlib.Core.Option.{Option}
-use Prim.Native.Nat.{ℕ, zero, suc, _-_, _/_}
+use Prim.Native.Nat.{ℕ, zero, suc, _-_, _/_, _≤_, _<_}
 use lib.Dec.{eqb, ltb}
 use lib.ListN.{drop}
 use Rattle.product.specs.Product.{opens}
@@ -20,10 +20,28 @@ use Rattle.checking.specs.Deciding.{keysOf}
 abbrev pub hasCode : Row → ℕ → Bool
 hasCode w code = any (λ x. eqb x code) w
 
--- one of the oldest n frames has it
-unfoldable pub inherited : Table → ℕ → ℕ → Bool
-inherited t zero code = false
-inherited t (suc n) code = hasCode (rowAt t (suc n)) code || inherited t n code
+-- the row of the newest of the oldest n frames that has it, 0 for none
+unfoldable pub newestRow : Table → ℕ → ℕ → ℕ
+newestRow t zero code = 0
+newestRow t (suc n) code = cond (hasCode (rowAt t (suc n)) code) (suc n) (newestRow t n code)
+
+-- one of them has it
+abbrev pub inherited : Table → ℕ → ℕ → Bool
+inherited t n code = not (eqb (newestRow t n code) 0)
+
+-- the code that a key has in key lists, and for none that of a cell without a key
+abbrev pub listCode : Key → ℕ
+listCode (User n) = noKey
+listCode (ThreadKey n) = noKey
+listCode (SegmentKey n) = cond (ltb n mostSegments) n noKey
+listCode (Defined n) = cond (ltb (definedCell n) noKey) (definedCell n) noKey
+
+-- each cell is a number of 16 bits, and so in each of the oldest n frames
+abbrev pub RowFits : Row → Type 0
+RowFits w = (j : ℕ) → cell w j < 65536
+
+abbrev pub FramesFit : Table → ℕ → Type 0
+FramesFit t n = (i : ℕ) → 0 < i → i ≤ n → RowFits (rowAt t i)
 
 -- an S or a D key has a code of its own in key lists
 abbrev pub listable : Key → Bool

@@ -1,3 +1,4 @@
 pub mod Deciding
+pub mod Newest
 pub mod Theorems
 pub mod Internal

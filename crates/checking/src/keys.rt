@@ -6,13 +6,13 @@ ghost use Rattle.product.specs.Atom.{agrees, atomOf};
 ghost use Rattle.model.specs.Limits.{mostFrames};
 ghost use Rattle.model.specs.Cells.{literalIn};
 ghost use Rattle.checking.specs.Deciding.{keysAt};
-ghost use Rattle.checking.specs.Internal.{hasCode, inherited, listable};
+ghost use Rattle.checking.specs.Internal.{listable};
+use crate::newest::newest_row;
 use model::arrays::BARRED_LISTED;
 use model::arrays::BARRED_OWN;
 use model::arrays::DEFINED_CODES;
 use model::arrays::LISTED_CELLS;
 use model::arrays::NUMBER;
-use model::arrays::Row;
 use model::arrays::THREAD_CELLS;
 use model::arrays::Thread;
 use model::arrays::USER;
@@ -74,7 +74,7 @@ pub(crate) fn agrees(thread: &Thread, depth: usize, literal: Literal) -> bool
                 Key::Segment(n) => n,
                 Key::Defined(n) => n + DEFINED_CODES,
             };
-            inherits(thread, depth, code)
+            newest_row(thread, depth, code) != 0
         }
         Literal::Barred(key) => {
             let code = match key {
@@ -87,38 +87,7 @@ pub(crate) fn agrees(thread: &Thread, depth: usize, literal: Literal) -> bool
                 Key::Segment(n) => n,
                 Key::Defined(n) => n + DEFINED_CODES,
             };
-            !inherits(thread, depth, code)
+            newest_row(thread, depth, code) == 0
         }
     }
-}
-
-// Whether one of the frames handed the key over (the thread inherits it), the newest asked first.
-fn inherits(thread: &Thread, depth: usize, code: u16) -> bool
-    requires { ⌜ depth ≤ mostFrames ⌝ }
-    ensures { λ r. ⌜ r ≡ inherited (now (thread .entry)) depth code ⌝ }
-{
-    let mut i = depth;
-    while 0 < i {
-        if has(&thread[i], code) {
-            return true;
-        }
-        i -= 1;
-    }
-    false
-}
-
-// Whether a cell of the row has the code: joined without a way out, so that it is one comparison of eight cells.
-fn has(row: &Row, code: u16) -> bool
-    ensures { λ r. ⌜ r ≡ hasCode (now (row .entry)) code ⌝ }
-{
-    // an array behind a reference has its length where it is lent as a slice
-    let cells: &[u16] = row;
-    (cells[0] == code)
-        | (cells[1] == code)
-        | (cells[2] == code)
-        | (cells[3] == code)
-        | (cells[4] == code)
-        | (cells[5] == code)
-        | (cells[6] == code)
-        | (cells[7] == code)
 }

@@ -21,6 +21,7 @@ use model::operations::Operations;
 use model::operations::is_access;
 
 pub mod keys;
+pub mod newest;
 
 // What the check answers; `checkedNumber` and `checkedValue` give document 01's number and value for each.
 pub enum Checked {

@@ -1,6 +1,8 @@
 -- The literal says its sign and the key its kind.
-use mathlib.Core.Path.{refl}
+use mathlib.Core.Path.{sym, _∙_}
+use mathlib.Core.Bool.{Bool·not-not}
 use mathlib.Core.Logic.{⊎-elim}
+use lib.Dec.{eqb}
 use borrow.Author.Needs.{needs}
 use Rattle.checking.proofs.KeyCells.{user-key, thread-key, segment-key, defined-key, plain-agrees, barred-agrees, plain-listable, barred-listable, defined-low}
 use Rattle.checking.proofs.keys.agrees.Statement.{statement}
@@ -57,8 +59,8 @@ returns-5 c =
     let args = literal .before .before .args in
     plain-agrees (args .thread .now) (args .depth)
     (⊎-elim
-    (λ w. segment-key (args .thread .now) (args .depth) low (c .inherits .ensures) (w .1 .given .1) (w .3))
-    (λ w. defined-key (args .thread .now) (args .depth) low (c .inherits .ensures) (w .1 .given .1) (w .3))
+    (λ w. segment-key (args .thread .now) (args .depth) low (c .newest-row .ensures) (w .1 .given .1) (w .3))
+    (λ w. defined-key (args .thread .now) (args .depth) low (c .newest-row .ensures) (w .1 .given .1) (w .3))
     (found .came))
     sign
 
@@ -69,10 +71,11 @@ returns-6 c =
     let sign = literal .literal2 .given .1 in
     let low = barred-listable (literal .before .before .pre .1) sign in
     let args = literal .before .before .args in
-    barred-agrees (args .thread .now) (args .depth)
+    sym (Bool·not-not (eqb (c .newest-row2 .result) 0))
+    ∙ barred-agrees (args .thread .now) (args .depth)
     (⊎-elim
-    (λ w. segment-key (args .thread .now) (args .depth) low (c .inherits2 .ensures) (w .1 .given .1) (w .3))
-    (λ w. defined-key (args .thread .now) (args .depth) low (c .inherits2 .ensures) (w .1 .given .1) (w .3))
+    (λ w. segment-key (args .thread .now) (args .depth) low (c .newest-row2 .ensures) (w .1 .given .1) (w .3))
+    (λ w. defined-key (args .thread .now) (args .depth) low (c .newest-row2 .ensures) (w .1 .given .1) (w .3))
     (found .came))
     sign
 
@@ -92,7 +95,7 @@ agrees-spec =
     (λ c. search needs)  -- enum-known-key-3
     (λ c. search needs)  -- enum-known-key-4
     add-code
-    (λ c κs. search needs)  -- inherits-requires
+    (λ c κs. search needs)  -- newest-row-requires
     (λ c. search needs)  -- enum-known-literal-2
     (λ c. search needs)  -- enum-known-key-5
     (λ c. search needs)  -- index-1-result-3
@@ -105,6 +108,6 @@ agrees-spec =
     (λ c. search needs)  -- enum-known-key-7
     (λ c. search needs)  -- enum-known-key-8
     add-code-2
-    (λ c κs. search needs)  -- inherits-requires-2
+    (λ c κs. search needs)  -- newest-row-requires-2
     returns-5
     returns-6)

@@ -1,13 +1,13 @@
--- A frame hands the key over exactly when one of those still to be asked does.
+-- The newest frame with the code is the newest of those still to be asked.
 use Prim.Native.Nat.{_≤_}
 use borrow.Author.Needs.{needs}
-use Rattle.checking.specs.Internal.{inherited}
+use Rattle.checking.specs.Internal.{newestRow}
 use Rattle.checking.proofs.LoopSteps.{Asked, asked-start, asked-hit, asked-miss, asked-end}
-use Rattle.checking.proofs.keys.inherits.Statement.{statement}
-use Rattle.checking.proofs.keys.inherits.Tie as tie
+use Rattle.checking.proofs.newest.newest_row.Statement.{statement}
+use Rattle.checking.proofs.newest.newest_row.Tie as tie
 
 abbrev Inv-loop : tie.InvT-loop
-Inv-loop thread depth code i₀ i = (i ≤ 16) × Asked (inherited thread depth code) thread code i
+Inv-loop thread depth code i₀ i = (i ≤ 16) × Asked (newestRow thread depth code) thread code i
 
 abbrev μ-loop : tie.MeasureT-loop
 μ-loop thread depth code i₀ i = i
@@ -28,8 +28,8 @@ loop-again c =
 returns-2 : tie.Need-returns-2 Inv-loop μ-loop
 returns-2 c = asked-end (c .before .loop .inv .1) (c .loop-test .left)
 
-pub inherits-spec : {M : Type 1} → statement M
-inherits-spec =
+pub newest-row-spec : {M : Type 1} → statement M
+newest-row-spec =
     tie.close
     (tie.spec
     Inv-loop

@@ -4,8 +4,8 @@ use borrow.Author.Needs.{needs}
 use lib.ListN.{length}
 use Rattle.model.specs.Cells.{Row}
 use Rattle.checking.proofs.KeyCells.{eight-cells}
-use Rattle.checking.proofs.keys.has.Statement.{statement}
-use Rattle.checking.proofs.keys.has.Tie as tie
+use Rattle.checking.proofs.newest.has.Statement.{statement}
+use Rattle.checking.proofs.newest.has.Tie as tie
 
 returns : tie.Need-returns
 returns c =

@@ -1,0 +1,5 @@
+pub mod Exactly
+pub mod Examples
+pub mod FromHistory
+pub mod KeySets
+pub mod Neighbours

@@ -1,0 +1,42 @@
+-- Request P3 in words: 'the place, 0 for the newest, of the newest open call that hands the key over, or none exactly
+-- when no open call does', and 2 exactly when the thread is not live. It is so in every state, of every number of a
+-- thread and every key. Proved in `proofs/Exactly.antt`.
+use mathlib.Core.Path.{_≡_}
+use mathlib.Core.Bool.{true, false}
+use mathlib.Core.List.{List, []}
+use mathlib.Core.Logic.{_↔_}
+use Prim.Native.Nat.{ℕ, _<_}
+use lib.ListN.{length, getD}
+use Rattle.product.specs.declared.literal.Key.{Key}
+use Rattle.model.specs.declared.answer.Refusal.{Refusal}
+use Rattle.model.specs.declared.answer.Refusal.the-variants.{NoThread}
+use Rattle.model.specs.Threads.{Frame, hands}
+use Rattle.model.specs.State.{State, isLive, threadAt}
+use Rattle.search.specs.declared.Searched.{Searched}
+use Rattle.search.specs.declared.Searched.the-variants.{At, Nowhere, Refused}
+use Rattle.search.specs.Searching.{searched}
+
+abbrev pub noFrame : Frame
+noFrame = record { segment = 0; keys = [] }
+
+-- the open call at place p, of those whose newest is the first
+abbrev pub callAt : List Frame → ℕ → Frame
+callAt fs p = getD fs p noFrame
+
+-- 'at p exactly when call p hands it over and no newer one does'
+pub record NewestAt (k : Key) (fs : List Frame) (p : ℕ) : Type 0 where
+  pub inside : p < length fs
+  pub handsOver : hands (callAt fs p) k ≡ true
+  pub newer : (q : ℕ) → q < p → hands (callAt fs q) k ≡ false
+
+-- 'none exactly when none does'
+abbrev pub NoneHandsOver : Key → List Frame → Type 0
+NoneHandsOver k fs = (p : ℕ) → p < length fs → hands (callAt fs p) k ≡ false
+
+pub record Exact (d : State) (n : ℕ) (k : Key) : Type 0 where
+  pub at : (p : ℕ) → (searched d n k ≡ At p) ↔ ((isLive d n ≡ true) × NewestAt k (threadAt d n .frames) p)
+  pub nowhere : (searched d n k ≡ Nowhere) ↔ ((isLive d n ≡ true) × NoneHandsOver k (threadAt d n .frames))
+  pub refused : (r : Refusal) → (searched d n k ≡ Refused r) ↔ ((isLive d n ≡ false) × (r ≡ NoThread))
+
+abbrev pub Exactly : Type 0
+Exactly = (d : State) (n : ℕ) (k : Key) → Exact d n k
