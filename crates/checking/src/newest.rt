@@ -59,8 +59,8 @@ pub(crate) fn newest_row(thread: &Thread, depth: usize, code: u16) -> usize
     0
 }
 
-// No frame has a number of more than 16 bits in a cell, so none has a D key whose code would be one. The proofs learn it
-// of a row that is read; nothing is left of the loop when it is compiled.
+// No cell of a frame has a number of more than 16 bits, so none has a D key whose code would be one. The proofs learn
+// it of a row that is read; nothing is left of the loop when it is compiled.
 fn frames_fit(thread: &Thread, depth: usize)
     requires { ⌜ depth ≤ mostFrames ⌝ }
     ensures { λ _. ⌜ FramesFit (now (thread .entry)) depth ⌝ }

@@ -17,8 +17,8 @@ use Rattle.search.specs.declared.Searched.{Searched}
 use Rattle.search.specs.declared.Searched.the-variants.{At, Nowhere, Refused}
 use Rattle.search.specs.Searching.{searched}
 
--- Users 0 and 1; code segments 0, 1 and 2 of user 0, who may call them; segment 0 hands over S0 and D0, segment 1 S1, D0
--- and D1, segment 2 S2. Threads 0 to 2 are user 0's; thread 2 has ended, and there is no thread 3.
+-- Users 0 and 1; code segments 0, 1 and 2 of user 0, who may call them; segment 0 hands over S0 and D0, segment 1 S1,
+-- D0 and D1, segment 2 S2. Threads 0 to 2 are user 0's; thread 2 has ended, and there is no thread 3.
 abbrev pub office : List Expected
 office =
     ok U 0

@@ -1,5 +1,5 @@
--- A key is in a thread's key set exactly when it is its own U or R key or the search finds it; and the two are never the
--- same, whatever numbers are in the arrays: no open call hands a U or R key over. Proved in `proofs/KeySets.antt`.
+-- A key is in a thread's key set exactly when it is its own U or R key or the search finds it; and it is never both,
+-- whatever numbers are in the arrays: no open call hands a U or R key over. Proved in `proofs/KeySets.antt`.
 use mathlib.Core.Path.{_≡_}
 use mathlib.Core.Bool.{Bool, true, _||_}
 use mathlib.Core.List.{List}
