@@ -1,24 +1,28 @@
 -- The first frame that hands the key over, in words: by the frames, one after the other.
 use mathlib.Core.Path.{_≡_, refl, sym, ap, _∙_}
 use mathlib.Core.Bool.{Bool, true, false, cond}
-use mathlib.Core.List.{List, [], _∷_}
+use mathlib.Core.List.{List, [], _∷_, map}
 use mathlib.Core.Logic.{_↔_}
 use mathlib.Core.Option.{Option, none, some}
-use Prim.Native.Nat.{ℕ, zero, suc, _<_}
+use Prim.Native.Nat.{ℕ, zero, suc, _≤_, _<_}
 use native.Mathlib.Omega.{arith}
+use lib.Dec.{eqb}
 use lib.ListN.{length, getD}
-use Rattle.base.specs.Lists.{mapOption}
+use Rattle.base.specs.Lists.{mapOption, orDefault}
 use Rattle.base.proofs.Lists.{caseBool, clash, some-inj, some≢none}
 use Rattle.product.specs.declared.literal.Key.{Key}
 use Rattle.model.specs.declared.answer.Refusal.{Refusal}
 use Rattle.model.specs.declared.answer.Refusal.the-variants.{NoThread}
 use Rattle.model.specs.Threads.{Frame, hands}
-use Rattle.model.specs.State.{State, isLive, threadAt}
+use Rattle.model.specs.State.{State, placeOf, threadIn, isLive, blankThread, threadAt}
+use Rattle.model.specs.Cells.{Table, cell, rowAt, tableAt, liveCell, depthOf, placeIn, stateOf}
+use Rattle.model.proofs.Refinement.ThreadTables.{length-frames}
+use Rattle.threads.proofs.PlaceScan.{place-at}
 use Rattle.checking.specs.Newest.{newestFrom}
 use Rattle.search.specs.declared.Searched.{Searched}
 use Rattle.search.specs.declared.Searched.the-variants.{At, Nowhere, Refused}
 use Rattle.search.specs.Searching.{answered, searched}
-use Rattle.search.specs.Theorems.Exactly.{callAt, NewestAt, NoneHandsOver, Exact, Exactly}
+use Rattle.search.specs.Theorems.Exactly.{callAt, NewestAt, NoneHandsOver, Exact, Exactly, LowPlaces}
 
 -- ---- frames
 
@@ -125,3 +129,19 @@ unfolding searched
 exactly d n k =
     let fs = threadAt d n .frames in
     record { at = judged-at k fs (isLive d n); nowhere = judged-none k fs (isLive d n); refused = judged-refused k fs (isLive d n) }
+
+-- ---- a place of any arrays
+
+few-frames : (t : Table) → length (orDefault blankThread (λ t. t) (threadIn (placeIn t)) .frames) ≤ 16
+few-frames t =
+    caseBool (eqb (cell (rowAt t 0) liveCell) 0)
+    (λ e. rw e (omega arith))
+    (λ e. rw e (let l = length-frames t (depthOf t) in omega (arith, l)))
+
+pub low-places : LowPlaces
+unfolding stateOf
+low-places d n k p e =
+    let i = placeOf n (map placeIn (d .threads)) in
+    let few : length (threadAt (stateOf d) n .frames) ≤ 16 = rw (place-at (d .threads) i) (few-frames (tableAt (d .threads) i)) in
+    let inside = exactly (stateOf d) n k .at p .0 e .1 .inside in
+    omega (arith, few, inside)

@@ -12,6 +12,7 @@ use Rattle.model.specs.declared.answer.Refusal.{Refusal}
 use Rattle.model.specs.declared.answer.Refusal.the-variants.{NoThread}
 use Rattle.model.specs.Threads.{Frame, hands}
 use Rattle.model.specs.State.{State, isLive, threadAt}
+use Rattle.model.specs.Cells.{Cells, stateOf}
 use Rattle.search.specs.declared.Searched.{Searched}
 use Rattle.search.specs.declared.Searched.the-variants.{At, Nowhere, Refused}
 use Rattle.search.specs.Searching.{searched}
@@ -40,3 +41,7 @@ pub record Exact (d : State) (n : ℕ) (k : Key) : Type 0 where
 
 abbrev pub Exactly : Type 0
 Exactly = (d : State) (n : ℕ) (k : Key) → Exact d n k
+
+-- a place is below 16, whatever numbers are in the arrays
+abbrev pub LowPlaces : Type 0
+LowPlaces = (d : Cells) (n : ℕ) (k : Key) (p : ℕ) → searched (stateOf d) n k ≡ At p → p < 16
