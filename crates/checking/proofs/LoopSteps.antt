@@ -1,7 +1,7 @@
 -- One turn of each of the four loops: what is left to ask answers what the whole does. Frames and literals are asked
 -- downwards, rows upwards with the first grant row found on the way, which decides where no deny row is to come.
 use mathlib.Core.Path.{_≡_, refl, sym, ap, subst, _∙_}
-use mathlib.Core.Bool.{Bool, true, false, _&&_, _||_, not, cond}
+use mathlib.Core.Bool.{Bool, true, false, _&&_, not, cond}
 use mathlib.Core.List.{[], _∷_, _++_}
 use mathlib.Core.Option.{none}
 use Prim.Native.Nat.{ℕ, suc, _+_, _-_, _/_, _%_, _≤_, _<_, min}

@@ -1,21 +1,20 @@
 -- The newest frame that hands a key over, by the key's code: the newest row that has it. A key without a code stands in
 -- no list, since a list's cells are numbers of 16 bits.
-use mathlib.Core.Path.{_≡_, refl, sym, ap, ap₂, _∙_}
-use mathlib.Core.Bool.{Bool, true, false, _&&_, _||_, not, cond}
+use mathlib.Core.Path.{_≡_, refl, sym, ap, _∙_}
+use mathlib.Core.Bool.{Bool, false, _&&_, cond}
 use mathlib.Core.List.{List, [], _∷_}
 use mathlib.Core.Option.{Option, none, some}
 use Prim.Native.Nat.{ℕ, zero, suc, _+_, _-_, _≤_, _<_}
 use native.Mathlib.Omega.{arith}
 use lib.Dec.{eqb, ltb}
-use lib.ListN.{length, getD}
-use borrow.Author.Tests.{lt-ltb, le-ltb, ltb-true, ltb-false, eq-eqb, ne-eqb, eqb-true, eqb-false, not-true}
+use lib.ListN.{length}
+use borrow.Author.Tests.{lt-ltb, le-ltb, ltb-true, ltb-false, eq-eqb, ne-eqb, eqb-false}
 use Rattle.product.specs.declared.literal.Key.{Key}
 use Rattle.product.specs.declared.literal.Key.the-variants.{User, Thread as ThreadKey, Segment as SegmentKey, Defined}
 use Rattle.base.specs.Lists.{any, keep, mapOption, orDefault, isSome}
-use Rattle.base.proofs.Lists.{caseBool, clash, any-map, any-keep}
-use Rattle.base.proofs.Truth.{and-left, and-right}
+use Rattle.base.proofs.Lists.{caseBool, any-map, any-keep}
 use Rattle.model.specs.Limits.{mostSegments, mostFrames}
-use Rattle.model.specs.Threads.{Frame, sameKey, isIn, hands}
+use Rattle.model.specs.Threads.{Frame, sameKey, hands}
 use Rattle.model.specs.Cells.{Row, Table, cell, rowAt, noKey, keyIn, hasKey, keysIn, definedCell, framesOf, depthOf}
 use Rattle.model.proofs.Refinement.Literals.{keyIn-segment, keyIn-defined}
 use Rattle.checking.specs.Newest.{newestFrom, Found}

@@ -1,5 +1,5 @@
 -- What the crate's private functions promise each other. Nothing here is part of what a reader must believe.
-use mathlib.Core.Bool.{Bool, true, false, _&&_, _||_, not, cond}
+use mathlib.Core.Bool.{Bool, true, _&&_, not, cond}
 use mathlib.Core.Option.{Option}
 use Prim.Native.Nat.{ℕ, zero, suc, _-_, _/_, _≤_, _<_}
 use lib.Dec.{eqb, ltb}

@@ -7,14 +7,14 @@ use mathlib.Core.Option.{Option, none, some}
 use Prim.Native.Nat.{ℕ, zero, suc, _≤_, _<_}
 use native.Mathlib.Omega.{arith}
 use lib.Dec.{eqb}
-use lib.ListN.{length, getD}
+use lib.ListN.{length}
 use Rattle.base.specs.Lists.{mapOption, orDefault}
 use Rattle.base.proofs.Lists.{caseBool, clash, some-inj, some≢none}
 use Rattle.product.specs.declared.literal.Key.{Key}
 use Rattle.model.specs.declared.answer.Refusal.{Refusal}
 use Rattle.model.specs.declared.answer.Refusal.the-variants.{NoThread}
 use Rattle.model.specs.Threads.{Frame, hands}
-use Rattle.model.specs.State.{State, placeOf, threadIn, isLive, blankThread, threadAt}
+use Rattle.model.specs.State.{placeOf, threadIn, isLive, blankThread, threadAt}
 use Rattle.model.specs.Cells.{Table, cell, rowAt, tableAt, liveCell, depthOf, placeIn, stateOf}
 use Rattle.model.proofs.Refinement.ThreadTables.{length-frames}
 use Rattle.threads.proofs.PlaceScan.{place-at}
@@ -22,7 +22,7 @@ use Rattle.checking.specs.Newest.{newestFrom}
 use Rattle.search.specs.declared.Searched.{Searched}
 use Rattle.search.specs.declared.Searched.the-variants.{At, Nowhere, Refused}
 use Rattle.search.specs.Searching.{answered, searched}
-use Rattle.search.specs.Theorems.Exactly.{callAt, NewestAt, NoneHandsOver, Exact, Exactly, LowPlaces}
+use Rattle.search.specs.Theorems.Exactly.{callAt, NewestAt, NoneHandsOver, Exactly, LowPlaces}
 
 -- ---- frames
 

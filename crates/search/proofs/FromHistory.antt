@@ -1,13 +1,12 @@
 -- The state is what the history says (`Mirror`): which threads are live, and their open calls.
 use mathlib.Core.Path.{_≡_, refl, sym, ap, _∙_}
-use mathlib.Core.Bool.{Bool, true, false, cond}
 use mathlib.Core.List.{List}
 use mathlib.Core.Logic.{_↔_}
 use mathlib.Core.Option.{Option, none, some}
 use Prim.Native.Nat.{ℕ}
 use native.Mathlib.Omega.{arith}
 use Rattle.base.specs.Lists.{isSome, orDefault}
-use Rattle.base.proofs.Lists.{some-inj, some≢none}
+use Rattle.base.proofs.Lists.{some≢none}
 use Rattle.product.specs.declared.literal.Key.{Key}
 use Rattle.formula.specs.Outcome.{outcomeOf}
 use Rattle.call.specs.Calls.{Call}

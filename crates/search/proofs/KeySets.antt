@@ -1,19 +1,18 @@
 -- The key set asks the frames in any order, the search the newest first: both find a key or neither does.
 use mathlib.Core.Path.{_≡_, refl, sym, ap, _∙_}
-use mathlib.Core.Bool.{Bool, true, false, _||_, cond}
-use mathlib.Core.List.{List, [], map}
+use mathlib.Core.Bool.{Bool, true, false, _||_}
+use mathlib.Core.List.{List, map}
 use mathlib.Core.Option.{Option, none, some}
 use Prim.Native.Nat.{ℕ}
 use lib.Dec.{eqb}
-use lib.ListN.{getD}
 use Rattle.base.specs.Lists.{any, isSome, orDefault}
 use Rattle.base.proofs.Lists.{caseBool, clash}
 use Rattle.product.specs.declared.literal.Key.{Key}
 use Rattle.product.specs.declared.literal.Key.the-variants.{User, Thread as ThreadKey}
 use Rattle.formula.specs.Outcome.{outcomeOf}
 use Rattle.call.specs.Calls.{Call}
-use Rattle.model.specs.Threads.{Frame, Thread, hands, sameKey, isIn, keySet}
-use Rattle.model.specs.State.{State, free, placeOf, threadIn, isLive, blankThread, threadAt}
+use Rattle.model.specs.Threads.{Thread, hands, sameKey, keySet}
+use Rattle.model.specs.State.{State, placeOf, threadIn, isLive, blankThread, threadAt}
 use Rattle.model.specs.Cells.{Table, Cells, cell, rowAt, tableAt, liveCell, keyIn, framesOf, depthOf, placeIn, stateOf}
 use Rattle.model.specs.Replay.{reached, historyOf}
 use Rattle.model.proofs.Agreement.Mirror.{mirror}

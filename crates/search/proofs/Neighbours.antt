@@ -1,9 +1,7 @@
 -- Thread n sees both states alike (`Neighbours/OneCall`), and finds itself in what it sees.
 use mathlib.Core.Path.{_≡_, refl, sym, ap, _∙_}
-use mathlib.Core.Bool.{cond}
 use mathlib.Core.List.{List, [], _∷_}
 use Prim.Native.Nat.{ℕ}
-use Rattle.base.specs.Lists.{isSome, orDefault}
 use Rattle.base.proofs.Lists.{caseBool}
 use Rattle.product.specs.declared.literal.Key.{Key}
 use Rattle.formula.specs.Outcome.{outcomeOf}
@@ -11,14 +9,12 @@ use Rattle.formula.specs.Compiler.{Compiler}
 use Rattle.call.specs.Calls.{Call}
 use Rattle.model.specs.State.{State, emptyState}
 use Rattle.model.specs.Model.{step}
-use Rattle.model.specs.Cells.{stateOf}
-use Rattle.model.specs.Replay.{stateAfter, reached}
+use Rattle.model.specs.Replay.{stateAfter}
 use Rattle.model.specs.Theorems.Neighbours.{isStruck, strike}
 use Rattle.model.proofs.Refinement.EveryCall.{refinement}
 use Rattle.model.proofs.Neighbours.Erased.{view, own-kept}
 use Rattle.model.proofs.Neighbours.OneCall.{struck-unseen, left-alike}
 use Rattle.search.specs.Searching.{searched}
-use Rattle.search.specs.Theorems.FromHistory.{searchedAfter}
 use Rattle.search.specs.Theorems.Neighbours.{Neighbours}
 
 module _ (compile : Compiler) (n : ℕ) where

@@ -1,6 +1,5 @@
 -- What the code finds of a thread's place and on its table, as the search asks it of the state that the arrays hold.
 use mathlib.Core.Path.{_≡_, refl, sym, ap, _∙_}
-use mathlib.Core.Bool.{true, false, cond}
 use mathlib.Core.List.{List}
 use mathlib.Core.Option.{Option, none, some}
 use Prim.Native.Nat.{ℕ, _≤_, _<_}
@@ -12,12 +11,11 @@ use Rattle.model.specs.declared.answer.Refusal.the-variants.{NoThread}
 use Rattle.model.specs.Limits.{mostThreads, mostFrames}
 use Rattle.model.specs.Threads.{Frame}
 use Rattle.model.specs.State.{isThread}
-use Rattle.model.specs.Cells.{Table, Cells, tableAt, framesOf, depthOf, stateOf}
+use Rattle.model.specs.Cells.{Cells, tableAt, framesOf, depthOf, stateOf}
 use Rattle.model.proofs.Refinement.ThreadTables.{length-frames}
 use Rattle.threads.specs.Places.{Placed}
-use Rattle.threads.proofs.FoundThread.{Standing, stands, not-live}
+use Rattle.threads.proofs.FoundThread.{stands, not-live}
 use Rattle.checking.specs.Newest.{newestFrom, Found}
-use Rattle.search.specs.declared.Searched.{Searched}
 use Rattle.search.specs.declared.Searched.the-variants.{At, Nowhere, Refused}
 use Rattle.search.specs.Searching.{answered, searched}
 use Rattle.search.proofs.Exactly.{is-newest}

@@ -13,7 +13,6 @@ use Rattle.model.specs.declared.answer.Refusal.the-variants.{NoThread}
 use Rattle.model.specs.Threads.{Frame, hands}
 use Rattle.model.specs.State.{State, isLive, threadAt}
 use Rattle.model.specs.Cells.{Cells, stateOf}
-use Rattle.search.specs.declared.Searched.{Searched}
 use Rattle.search.specs.declared.Searched.the-variants.{At, Nowhere, Refused}
 use Rattle.search.specs.Searching.{searched}
 

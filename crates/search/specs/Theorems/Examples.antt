@@ -2,10 +2,8 @@
 -- Proved in `proofs/Examples.antt`, by computing.
 use mathlib.Core.Path.{_≡_}
 use mathlib.Core.List.{List, [], _∷_, _++_}
-use Prim.Native.Nat.{ℕ}
 use lib.ListN.{replicate}
 use Rattle.base.specs.Bytes.{bytes}
-use Rattle.product.specs.declared.literal.Key.{Key}
 use Rattle.product.specs.declared.literal.Key.the-variants.{User, Thread, Segment, Defined}
 use Rattle.formula.specs.Outcome.{outcomeOf}
 use Rattle.model.specs.declared.answer.Refusal.the-variants.{NoThread}
@@ -13,7 +11,6 @@ use Rattle.model.specs.State.{State}
 use Rattle.model.specs.Cells.{stateOf}
 use Rattle.model.specs.Replay.{reached}
 use Rattle.model.specs.Notation.{Expected, U, S, E, N, K, G, T, L, C, R, ok, no, Happens, callsOf}
-use Rattle.search.specs.declared.Searched.{Searched}
 use Rattle.search.specs.declared.Searched.the-variants.{At, Nowhere, Refused}
 use Rattle.search.specs.Searching.{searched}
 

@@ -1,5 +1,4 @@
 -- The cases of `listCode`.
-use mathlib.Core.Path.{sym, ap}
 use native.Mathlib.Omega.{arith}
 use borrow.Author.Needs.{needs}
 use Rattle.checking.specs.Internal.{listCode}

@@ -1,5 +1,4 @@
 -- A key with a code is where the code is, one without is nowhere.
-use native.Mathlib.Omega.{arith}
 use borrow.Author.Needs.{needs}
 use Rattle.checking.proofs.NewestFrames.{found-none, found-nowhere, found-at, row-inside}
 use Rattle.checking.proofs.newest.newest_call.Statement.{statement}
