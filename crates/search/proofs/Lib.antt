@@ -1,6 +1,8 @@
 pub mod Exactly
 pub mod Examples
 pub mod FromHistory
+pub mod HandedOut
 pub mod KeySets
+pub mod ListedKeys
 pub mod Neighbours
 pub mod ThreadSearched
