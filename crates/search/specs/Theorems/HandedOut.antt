@@ -1,7 +1,6 @@
--- Request P3: 'A key never handed out is none too; there is no 4.' After every list of calls from the empty state a key
--- that the search finds was handed out: it is the S key of a segment that an accepted N handed out, or a D key that an
--- accepted K handed out. So a U or R key, and a key never handed out, is found nowhere. Proved in
--- `proofs/HandedOut.antt`.
+-- After every list of calls from the empty state a key that the search finds was handed out: it is the S key of a
+-- segment that an accepted N handed out, or a D key that an accepted K handed out. So a key never handed out is found
+-- nowhere, and there is no need of a 4. Proved in `proofs/HandedOut.antt`.
 use mathlib.Core.Path.{_≡_}
 use mathlib.Core.Bool.{Bool, true, false}
 use mathlib.Core.List.{List}
