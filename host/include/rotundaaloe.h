@@ -448,6 +448,50 @@ ROTUNDAALOE_CHECKED unsigned rotundaaloe_list_locks(const struct rotundaaloe_sta
     return rotundaaloe_private_answer(number, filled, NULL);
 }
 
+/* ---- Keys ---- */
+
+/* The keys U, R, S and D of a number, for a key search and for a key set. */
+static inline uint32_t rotundaaloe_key_of_user(uint16_t user)
+{
+    return user;
+}
+
+static inline uint32_t rotundaaloe_key_of_thread(uint16_t thread)
+{
+    return 0x10000u + thread;
+}
+
+static inline uint32_t rotundaaloe_key_of_segment(uint16_t segment)
+{
+    return 0x20000u + segment;
+}
+
+static inline uint32_t rotundaaloe_key_defined(uint16_t key)
+{
+    return 0x30000u + key;
+}
+
+/* ---- The key search ---- */
+
+/*
+ * Which open call of the thread hands the key over, the newest of several. found: whether one does.
+ * place: 0 for the thread's newest open call, 1 for the one before it, and written only where one
+ * does. The thread's U and R keys are held, but no call hands them over. Refused: 2.
+ */
+ROTUNDAALOE_CHECKED unsigned rotundaaloe_find_key(const struct rotundaaloe_state *state,
+                                                  uint16_t thread, uint32_t key, bool *found,
+                                                  uint16_t *place)
+{
+    uint16_t answer = ROTUNDAALOE_NO_PLACE;
+    const unsigned refusal = rotundaaloe_private_answer(
+        rotundaaloe_raw_find_key(state->threads, thread, key), &answer, NULL);
+    if (refusal == ROTUNDAALOE_ACCEPTED && found != NULL)
+        *found = answer != ROTUNDAALOE_NO_PLACE;
+    if (answer != ROTUNDAALOE_NO_PLACE && place != NULL)
+        *place = answer;
+    return refusal;
+}
+
 /* ---- Formulas, without a lock ---- */
 
 /* What a lock's text compiles to. It knows how many products it has; all 0, no keys open it. */
@@ -474,27 +518,6 @@ ROTUNDAALOE_CHECKED unsigned rotundaaloe_compile(const struct rotundaaloe_state 
     if (formula != NULL)
         *formula = compiled;
     return ROTUNDAALOE_ACCEPTED;
-}
-
-/* The keys U, R, S and D of a number, for a key set. */
-static inline uint32_t rotundaaloe_key_of_user(uint16_t user)
-{
-    return user;
-}
-
-static inline uint32_t rotundaaloe_key_of_thread(uint16_t thread)
-{
-    return 0x10000u + thread;
-}
-
-static inline uint32_t rotundaaloe_key_of_segment(uint16_t segment)
-{
-    return 0x20000u + segment;
-}
-
-static inline uint32_t rotundaaloe_key_defined(uint16_t key)
-{
-    return 0x30000u + key;
 }
 
 /* Whether a set of so many keys, in any order, opens the formula. */

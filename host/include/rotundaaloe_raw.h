@@ -136,6 +136,22 @@ uint32_t rotundaaloe_raw_list_locks(
     uint16_t user, uint16_t segment,
     uint16_t rows[][1 + ROTUNDAALOE_MOST_LITERALS][3], size_t lent);
 
+/* What a key search answers where no open call hands the key over. */
+#define ROTUNDAALOE_NO_PLACE 65535
+
+/*
+ * The newest open call of thread a that hands a key over. key is the key's number,
+ * kind * 65536 + number, with kind 0 user, 1 thread, 2 segment, 3 defined. No call hands over a
+ * user's key or a thread's, though they are held, nor a number from 262144 on, which is no key's.
+ *
+ * Answer: below 65536 the call's place among all open calls of the thread, 0 for the newest, or
+ * 65535 where none hands the key over. Any other is refusal * 65536: 2 (no live thread).
+ */
+uint32_t rotundaaloe_raw_find_key(
+    const uint16_t threads[ROTUNDAALOE_MOST_THREADS][1 + ROTUNDAALOE_MOST_OPEN_CALLS]
+                          [ROTUNDAALOE_ROW],
+    uint16_t a, uint32_t key);
+
 /*
  * The products of a formula text (document 01: lock text). users, threads, segments and defined
  * say how many keys of each kind were handed out.

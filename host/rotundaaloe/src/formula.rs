@@ -17,7 +17,7 @@ pub enum Key {
 
 impl Key {
     /// The number that the proved functions know it by.
-    fn code(self) -> u32 {
+    pub(crate) fn code(self) -> u32 {
         let (kind, number) = match self {
             Key::User(User(number)) => (0, number),
             Key::Thread(Thread(number)) => (1, number),

@@ -185,6 +185,8 @@ mod c {
             rows: *mut [[u16; 3]; 7],
             lent: usize,
         ) -> u32;
+
+        pub fn rotundaaloe_raw_find_key(threads: *const [[u16; 8]; 17], a: u16, key: u32) -> u32;
     }
 }
 
@@ -290,6 +292,13 @@ pub fn list_locks(cells: &Cells, user: u16, segment: u16, rows: &mut [LockRow]) 
             rows.len(),
         )
     }
+}
+
+/// The place of the thread's newest open call that hands the key over, by the
+/// key's number.
+#[inline]
+pub fn find_key(cells: &Cells, a: u16, key: u32) -> u32 {
+    unsafe { c::rotundaaloe_raw_find_key(cells.threads.as_ptr(), a, key) }
 }
 
 /// The products of a text, where so many users, threads, segments and defined

@@ -175,6 +175,8 @@ some_of_them! {
     Locks { UnknownUser, NoSegment }
     /// Why [`Guard::list_locks`](crate::Guard::list_locks) is refused.
     ListLocks { UnknownUser, NoSegment, TooFewRows }
+    /// Why [`Guard::find_key`](crate::Guard::find_key) is refused.
+    FindKey { NoThread }
     /// Why [`formula::compile`](crate::formula::compile) is refused.
     Compile { Malformed, TooWide, Unsatisfiable }
     /// Why [`Journal::from_bytes`](crate::Journal::from_bytes) and

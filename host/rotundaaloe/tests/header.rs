@@ -182,7 +182,7 @@ fn declared() -> Functions {
 fn exported_functions() {
     let imported = imported();
     assert_eq!(declared(), imported);
-    assert_eq!(imported.len(), 14, "as the page for hosts says");
+    assert_eq!(imported.len(), 15, "as the page for hosts says");
 }
 
 /// The numbers in a comment's `Refused: 1, 10.`, for each function after one.
@@ -221,6 +221,7 @@ fn refusals_of_each_call() {
         "ReturnCall",
         "Access",
         "ListLocks",
+        "FindKey",
         "Compile",
     ] {
         let start = format!("\n    {call} {{");

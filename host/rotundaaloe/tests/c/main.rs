@@ -7,6 +7,7 @@ mod contract;
 mod examples;
 mod install;
 mod journals;
+mod key_search;
 mod locks;
 mod page;
 mod state;
