@@ -5,6 +5,7 @@
 //! number. Each call's method asks its conditions in the order of document 01's
 //! table and then makes its change, so a refusal changes nothing.
 
+mod key_search;
 mod listing;
 mod refusal;
 

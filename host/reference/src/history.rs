@@ -3,6 +3,7 @@
 //! call. It sees no guard. A lock is its formula here, asked of a whole key set;
 //! no products are made to judge it.
 
+mod key_search;
 mod listing;
 
 use crate::call::Call;

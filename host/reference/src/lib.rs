@@ -7,7 +7,8 @@
 //! Two layers know nothing of each other: [`formula`], from a formula text to a
 //! sum of products, and [`journal`], the file of call records. Over the first
 //! stands the [`guard`], and [`replay`] joins the two. The [`history`] is a second
-//! opinion on what a guard grants and lists, read from calls and answers alone.
+//! opinion on what a guard grants, lists and finds, read from calls and answers
+//! alone.
 //!
 //! All of them know a [`call`] by its [`letter`], the [`operations`] by their
 //! numbers, and the same [`limits`]. A [`listing`] has rows, which guard and history

@@ -1,7 +1,8 @@
-//! Why the guard refuses a call or a listing, and document 01's numbers for it.
+//! Why the guard refuses a call, a listing or a key search, and document 01's
+//! numbers for it.
 
-/// Why a call or a listing is refused, in the order of document 01's table, with
-/// what document 02 adds to it.
+/// Why a call, a listing or a key search is refused, in the order of document
+/// 01's table, with what document 02 adds to it.
 #[derive(Clone, Copy, Debug, PartialEq, Eq)]
 pub enum Refusal {
     /// Document 01: stranger.
