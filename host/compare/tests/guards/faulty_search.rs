@@ -27,17 +27,19 @@ pub enum Fault {
     SegmentForDefined,
     /// Takes the last numbers of defined keys for segments: D65472 for S0.
     DefinedForSegment,
-    /// Finds D65471, the one between these, in every list that isn't full.
+    /// Finds D65471, the last before those, in every list that isn't full.
     BlankForDefined,
     /// Asks the live thread with the next number.
     NextThread,
-    /// Answers none for a thread that isn't live.
-    NoneWithoutThread,
+    /// Answers none for a thread that has ended.
+    NoneForEnded,
+    /// Answers none for a thread that was never started.
+    NoneForNeverStarted,
     /// Refuses a key that was never handed out.
     RefusesTheKey,
 }
 
-pub const FAULTS: [Fault; 13] = [
+pub const FAULTS: [Fault; 14] = [
     Fault::OldestFirst,
     Fault::CountsFromOldest,
     Fault::CountsCallsWithKey,
@@ -49,12 +51,14 @@ pub const FAULTS: [Fault; 13] = [
     Fault::DefinedForSegment,
     Fault::BlankForDefined,
     Fault::NextThread,
-    Fault::NoneWithoutThread,
+    Fault::NoneForEnded,
+    Fault::NoneForNeverStarted,
     Fault::RefusesTheKey,
 ];
 
-/// Were segments and defined keys in one row of numbers, with the segments first.
+/// Where defined keys would begin, were segments and they in one row of numbers.
 const SEGMENTS: u16 = MAX_SEGMENTS as u16;
+/// The defined key that would be the last number of that row.
 const BLANK: u16 = u16::MAX - SEGMENTS;
 
 pub struct Faulty<'a> {
@@ -69,7 +73,7 @@ impl Faulty<'_> {
         let right = self.right(thread, key);
         match self.fault {
             Fault::OldestFirst => right.map(|_| self.oldest(thread, key)),
-            Fault::CountsFromOldest => right.map(|place| self.from_oldest(thread, place?)),
+            Fault::CountsFromOldest => right.map(|place| self.counted_from_oldest(thread, place?)),
             Fault::CountsCallsWithKey => right.map(|place| place.and(Some(0))),
             Fault::NewestAlone => right.map(|place| place.filter(|place| *place == 0)),
             Fault::LeavesOutTheLast => {
@@ -81,7 +85,9 @@ impl Faulty<'_> {
             Fault::DefinedForSegment => self.right(thread, defined_for_segment(key)),
             Fault::BlankForDefined => right.map(|place| place.or(self.blank(thread, key))),
             Fault::NextThread => right.and(self.right(self.next(thread), key)),
-            Fault::NoneWithoutThread => right.or(Ok(None)),
+            Fault::NoneForEnded if self.was_started(thread) => right.or(Ok(None)),
+            Fault::NoneForNeverStarted if !self.was_started(thread) => right.or(Ok(None)),
+            Fault::NoneForEnded | Fault::NoneForNeverStarted => right,
             Fault::RefusesTheKey => right.and_then(|place| self.known(key).and(Ok(place))),
         }
     }
@@ -103,14 +109,14 @@ impl Faulty<'_> {
     }
 
     /// A place counted from the other end.
-    fn from_oldest(&self, thread: u16, place: usize) -> Option<usize> {
+    fn counted_from_oldest(&self, thread: u16, place: usize) -> Option<usize> {
         self.calls(thread).len().checked_sub(place + 1)
     }
 
     fn oldest(&self, thread: u16, key: Key) -> Option<usize> {
         let mut calls = self.calls(thread).iter();
         let older = calls.position(|call| call.list.contains(&key))?;
-        self.from_oldest(thread, older)
+        self.counted_from_oldest(thread, older)
     }
 
     fn by_lists_of_now(&self, thread: u16, key: Key) -> Option<usize> {
@@ -141,6 +147,10 @@ impl Faulty<'_> {
     fn next(&self, thread: u16) -> u16 {
         let mut live = self.history.live_threads();
         live.find(|next| *next > thread).unwrap_or(thread)
+    }
+
+    fn was_started(&self, thread: u16) -> bool {
+        u32::from(thread) < self.history.issued().threads
     }
 
     fn known(&self, key: Key) -> Result<(), u32> {
