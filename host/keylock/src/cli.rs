@@ -9,6 +9,7 @@ mod expected;
 mod failure;
 mod help;
 mod input;
+mod key;
 mod locks;
 mod mistakes;
 mod output;
@@ -46,6 +47,11 @@ fn obey(command: Command) -> Result<Status, Failure> {
             segment,
             rows,
         } => locks::locks(&source, user, segment, rows),
+        Command::Key {
+            source,
+            thread,
+            key,
+        } => key::key(&source, thread, key),
         Command::State { source, target } => state::state(&source, &target),
         Command::Trace {
             html,

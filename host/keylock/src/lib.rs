@@ -3,12 +3,13 @@
 //!
 //! [`text`] is the text of a journal, [`damage`] says where a file is broken.
 //! [`steps`] explains each call; [`trace`] shows the steps on a terminal, [`page`]
-//! in a browser. [`listing`] shows a segment's lock list, [`state`] a state file. The
-//! rest is what these share.
+//! in a browser. [`listing`] shows a segment's lock list, [`key_search`] which open
+//! call hands a key over, [`state`] a state file. The rest is what these share.
 
 pub mod answer;
 pub mod damage;
 pub mod figures;
+pub mod key_search;
 pub mod letters;
 pub mod listing;
 pub mod names;

@@ -1,6 +1,7 @@
 //! A journal explained: for each call its answer, why it is so, and where the
-//! thread then stands. The proved guard gives the answers and the lock lists; the
-//! rest is read from the history of calls and answers.
+//! thread then stands. The proved guard gives the answers and the lock lists, and
+//! finds the open call that handed a key over; the rest is read from the history
+//! of calls and answers.
 
 mod accepted;
 mod check;
@@ -149,13 +150,14 @@ struct Teller {
 impl Teller {
     fn step<'a>(&mut self, place: usize, entry: Entry<'a>) -> Step<'a> {
         let record = entry.record;
+        let judgement = judgement::of(&self.state, &self.guard, &record);
         let answer = self.guard.call(record);
+        let judgement = judgement.map(|judgement| judgement.answered(answer));
         let call_in_words = words::call_by_name(&record, &self.state.kept.names);
         if let Ok(answer) = answer {
             self.state.kept.learn(&entry, answer);
         }
         let state = &self.state;
-        let judgement = judgement::of(state, &record, answer);
         let reason = match answer {
             Ok(answer) => accepted::reason(state, &record, answer, judgement.as_ref()),
             Err(refusal) => refused::reason(state, &record, refusal, judgement.as_ref()),

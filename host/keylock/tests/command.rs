@@ -275,15 +275,23 @@ fn help_and_version() {
         &["dis", "-h"],
         &["run", "-h"],
         &["locks", "--rows", "1", "-h"],
+        &["key", "x", "-h"],
         &["state", "-h"],
     ] {
         seen.push(keylock(arguments, b""));
     }
     seen.push(keylock(&["trace", "x", "--help", "--nonsense"], b""));
-    for (ran, usage) in
-        seen.iter()
-            .zip(["SUBCOMMAND", "asm", "dis", "run", "locks", "state", "trace"])
-    {
+    let usages = [
+        "SUBCOMMAND",
+        "asm",
+        "dis",
+        "run",
+        "locks",
+        "key",
+        "state",
+        "trace",
+    ];
+    for (ran, usage) in seen.iter().zip(usages) {
         fine(ran, &ran.printed());
         let printed = ran.printed();
         assert!(printed.starts_with(&format!("Usage: keylock {usage} ")));
@@ -299,8 +307,9 @@ fn help_and_version() {
     }
 }
 
-/// The refusals in `keylock run --help` are those of document 01's table, and in
-/// `keylock locks --help` those of a lock list.
+/// The refusals in `keylock run --help` are those of document 01's table, in
+/// `keylock locks --help` those of a lock list, and in `keylock key --help` that of
+/// a key search.
 #[test]
 fn the_help_names_the_refusals() {
     let help = keylock(&["run", "--help"], b"").printed();
@@ -323,9 +332,41 @@ fn the_help_names_the_refusals() {
     ] {
         assert!(help.contains(&format!(" {refusal}")), "{refusal}");
     }
-    let help = keylock(&["locks", "--help"], b"").printed();
-    let help = help.replace('\n', " ");
-    assert!(help.contains(" 1 stranger, 3 no segment, 19 too few rows. "));
+    for (topic, refusals) in [
+        ("locks", "1 stranger, 3 no segment, 19 too few rows"),
+        ("key", "2 no run"),
+    ] {
+        let help = keylock(&[topic, "--help"], b"").printed();
+        let help = help.replace('\n', " ");
+        assert!(
+            help.contains(&format!("after 'no': {refusals}. ")),
+            "{topic}"
+        );
+    }
+}
+
+/// Every subcommand stands in the help of the command, and in what it asks who
+/// names none.
+#[test]
+fn the_subcommands_are_listed() {
+    let help = keylock(&["--help"], b"").printed();
+    let listed = help
+        .lines()
+        .skip_while(|line| *line != "Subcommands:")
+        .skip(1)
+        .take_while(|line| !line.is_empty());
+    let listed: Vec<&str> = listed
+        .filter_map(|line| line.split_whitespace().next())
+        .collect();
+    let all = ["asm", "dis", "run", "trace", "locks", "key", "state"];
+    assert_eq!(listed, all);
+    for name in all {
+        let help = keylock(&[name, "--help"], b"").printed();
+        assert!(
+            help.starts_with(&format!("Usage: keylock {name} ")),
+            "{name}"
+        );
+    }
 }
 
 /// The calls in `keylock asm --help` have the fields that they need.
@@ -354,7 +395,8 @@ fn called_wrongly() {
         let right = format!("keylock: {message}\n{}", see(topic));
         refused(&keylock(arguments, b"U"), 2, &right);
     };
-    wrong(&[], "", "what to do? asm, dis, run, trace, locks or state");
+    let all = "what to do? asm, dis, run, trace, locks, key or state";
+    wrong(&[], "", all);
     wrong(
         &["asn"],
         "",
@@ -375,6 +417,19 @@ fn called_wrongly() {
         "",
         "no subcommand is called 'lock'; is 'locks' meant?",
     );
+    wrong(
+        &["keys"],
+        "",
+        "no subcommand is called 'keys'; is 'key' meant?",
+    );
+    wrong(
+        &["help", "kye"],
+        "",
+        "no subcommand is called 'kye'; is 'key' meant?",
+    );
+    // As many letters would change as they have.
+    wrong(&["k"], "", "no subcommand is called 'k'");
+    wrong(&["sy"], "", "no subcommand is called 'sy'");
     wrong(&["frobnicate"], "", "no subcommand is called 'frobnicate'");
     wrong(&["help", "me"], "", "no subcommand is called 'me'");
     wrong(&["--frob"], "", "unknown option '--frob'");

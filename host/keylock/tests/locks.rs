@@ -3,15 +3,17 @@
 
 #[expect(dead_code, reason = "other tests use the rest")]
 mod commands;
+#[expect(dead_code, reason = "other tests use the rest")]
+mod journals;
 
 use commands::{Directory, fine, keylock, refused};
+use journals::random_journal;
 use reference::formula::Literal;
 use reference::guard::Guard;
 use reference::listing::Row;
-use rotundaaloe::{Journal, Record};
 use std::collections::BTreeMap;
 use std::fs;
-use testing::calls::{Caller, WORLDS, World};
+use testing::calls::WORLDS;
 use testing::random::Random;
 
 /// User 0 owns code 0 and sheet 1, and user 1 code 2. On the sheet stand locks 1,
@@ -215,30 +217,6 @@ fn expected(guard: &Guard, user: u16, segment: u16, lent: usize) -> (String, Str
     }
 }
 
-/// A journal of random calls, and the reference after them.
-fn random_journal(random: &mut Random, world: &World) -> (Journal, Guard) {
-    let (mut journal, mut guard) = (Journal::new(), Guard::new());
-    let mut caller = Caller::new(random, world);
-    for _ in 0..caller.length() {
-        let call = caller.next_call();
-        let record = Record {
-            letter: call.letter,
-            a: call.a,
-            b: call.b,
-            c: call.c,
-            text: &call.text,
-        };
-        // Calls without a shape stand in no journal, and a full one takes no more.
-        if journal.append(record).is_err() {
-            continue;
-        }
-        if let Ok(answer) = guard.call(call.letter, call.a, call.b, call.c, &call.text) {
-            caller.learn(&call, answer);
-        }
-    }
-    (journal, guard)
-}
-
 /// Users and segments that are there mostly, and rows around what is needed.
 #[test]
 fn random_journals_against_the_reference() {
@@ -246,7 +224,11 @@ fn random_journals_against_the_reference() {
     let mut seen = BTreeMap::new();
     for (world, journals) in WORLDS.iter().zip([120, 60, 15, 60, 60]) {
         for place in 0..journals {
-            let (journal, guard) = random_journal(&mut random, world);
+            let mut guard = Guard::new();
+            let journal = random_journal(&mut random, world, |call| {
+                let answer = guard.call(call.letter, call.a, call.b, call.c, &call.text);
+                answer.ok()
+            });
             for _ in 0..4 {
                 let [user, segment] = [4, 8].map(|most| random.between(0, most));
                 let lent = random.between(0, 9);

@@ -1,15 +1,18 @@
 //! Explanations written down by hand, and explanations of random lists against
 //! the proved guard's answers.
 
+#[expect(dead_code, reason = "other tests use the rest")]
+mod journals;
 mod lesson;
 
+use journals::{borrowed, random_list};
 use keylock::answer::Answer;
 use keylock::steps::{self, Change, Entry, Holder, Step, Tried, shown_keys};
 use keylock::trace;
 use lesson::{ROUTE, explained};
-use rotundaaloe::{Guard, Letter, Record};
+use rotundaaloe::Letter;
 use std::collections::{BTreeMap, BTreeSet};
-use testing::calls::{Caller, WORLDS};
+use testing::calls::WORLDS;
 use testing::random::Random;
 
 /// A step's lock with this number.
@@ -650,31 +653,4 @@ fn random_lists() {
     assert!(judged.keys().eq(&[0, 10, 14, 15]), "{judged:?}");
     assert!(judged.values().all(|count| *count > 1_000), "{judged:?}");
     assert!(listed > 1_000, "{listed}");
-}
-
-fn random_list(
-    random: &mut Random,
-    world: &testing::calls::World,
-) -> Vec<reference::journal::Record> {
-    let mut guard = Guard::new();
-    let mut caller = Caller::new(random, world);
-    let mut records = Vec::new();
-    for _ in 0..caller.length() {
-        let record = caller.next_call();
-        if let Ok(answer) = guard.call(borrowed(&record)) {
-            caller.learn(&record, answer);
-        }
-        records.push(record);
-    }
-    records
-}
-
-fn borrowed(record: &reference::journal::Record) -> Record<'_> {
-    Record {
-        letter: record.letter,
-        a: record.a,
-        b: record.b,
-        c: record.c,
-        text: &record.text,
-    }
 }

@@ -1,12 +1,15 @@
 //! What the command is asked for.
 
+mod key;
 mod locks;
+mod question;
 
 use super::failure::Failure;
 use super::output::Target;
 use super::source::Source;
 use keylock::shown::escaped;
-use rotundaaloe::{Segment, User};
+use rotundaaloe::formula::Key;
+use rotundaaloe::{Segment, Thread, User};
 use std::ffi::{OsStr, OsString};
 use std::os::unix::ffi::OsStrExt;
 
@@ -17,16 +20,18 @@ pub enum Topic {
     Run,
     Trace,
     Locks,
+    Key,
     State,
 }
 
 impl Topic {
-    pub const ALL: [Topic; 6] = [
+    pub const ALL: [Topic; 7] = [
         Topic::Asm,
         Topic::Dis,
         Topic::Run,
         Topic::Trace,
         Topic::Locks,
+        Topic::Key,
         Topic::State,
     ];
 
@@ -37,6 +42,7 @@ impl Topic {
             Topic::Run => "run",
             Topic::Trace => "trace",
             Topic::Locks => "locks",
+            Topic::Key => "key",
             Topic::State => "state",
         }
     }
@@ -72,6 +78,11 @@ pub enum Command {
         /// How many rows are lent, enough if it is left out.
         rows: Option<usize>,
     },
+    Key {
+        source: Source,
+        thread: Thread,
+        key: Key,
+    },
     State {
         source: Source,
         target: Target,
@@ -82,7 +93,7 @@ pub fn parse(mut arguments: impl Iterator<Item = OsString>) -> Result<Command, F
     let Some(first) = arguments.next() else {
         return Err(Failure::usage(
             None,
-            "what to do? asm, dis, run, trace, locks or state",
+            "what to do? asm, dis, run, trace, locks, key or state",
         ));
     };
     match first.as_bytes() {
@@ -155,9 +166,11 @@ impl Rest {
         arguments: &mut impl Iterator<Item = OsString>,
     ) -> Result<(), Failure> {
         match self.topic {
-            Topic::Run => Err(unknown_option(Some(self.topic), option)),
+            Topic::Run | Topic::Key => Err(unknown_option(Some(self.topic), option)),
             Topic::Locks => self.rows_option(option, arguments),
-            _ => self.output_option(option, arguments),
+            Topic::Asm | Topic::Dis | Topic::Trace | Topic::State => {
+                self.output_option(option, arguments)
+            }
         }
     }
 
@@ -183,29 +196,35 @@ impl Rest {
         }
     }
 
-    fn command(mut self) -> Result<Command, Failure> {
+    fn command(self) -> Result<Command, Failure> {
+        let html = self.html;
         match self.topic {
-            Topic::Run => return self.run(),
-            Topic::Locks => return self.locks(),
-            _ => {}
+            Topic::Run => self.run(),
+            Topic::Locks => self.locks(),
+            Topic::Key => self.key(),
+            Topic::Asm => self.one_file(|source, target| Command::Asm { source, target }),
+            Topic::Dis => self.one_file(|source, target| Command::Dis { source, target }),
+            Topic::State => self.one_file(|source, target| Command::State { source, target }),
+            Topic::Trace => self.one_file(|source, target| Command::Trace {
+                html,
+                source,
+                target,
+            }),
         }
+    }
+
+    /// One file is read, and one is written.
+    fn one_file(
+        mut self,
+        command: impl FnOnce(Source, Target) -> Command,
+    ) -> Result<Command, Failure> {
         if self.files.len() > 1 {
             let second = shown(&self.files[1]);
             let message = format!("{} takes one file, {second} is one more", self.topic.name());
             return Err(self.wrong(&message));
         }
         let source = Source::of(self.files.pop());
-        let target = Target::of(self.output);
-        Ok(match self.topic {
-            Topic::Asm => Command::Asm { source, target },
-            Topic::Dis => Command::Dis { source, target },
-            Topic::State => Command::State { source, target },
-            _ => Command::Trace {
-                html: self.html,
-                source,
-                target,
-            },
-        })
+        Ok(command(source, Target::of(self.output)))
     }
 
     fn run(mut self) -> Result<Command, Failure> {
@@ -234,11 +253,12 @@ fn unknown_option(topic: Option<Topic>, option: &OsStr) -> Failure {
 
 fn unknown_subcommand(name: &OsStr) -> Failure {
     let word = name.to_string_lossy().to_lowercase();
+    let letters = word.chars().count();
     let near = Topic::ALL
         .into_iter()
         .map(|topic| (distance(&word, topic.name()), topic.name()))
         .min()
-        .filter(|(distance, name)| *distance <= 2 && *distance < name.len());
+        .filter(|(distance, name)| *distance <= 2 && *distance < name.len().min(letters));
     let hint = near.map_or(String::new(), |(_, name)| format!("; is '{name}' meant?"));
     let message = format!("no subcommand is called {}{hint}", shown(name));
     Failure::usage(None, message)

@@ -11,6 +11,7 @@ pub fn text(topic: Option<Topic>) -> String {
         Some(Topic::Run) => RUN,
         Some(Topic::Trace) => TRACE,
         Some(Topic::Locks) => LOCKS,
+        Some(Topic::Key) => KEY,
         Some(Topic::State) => STATE,
     };
     text.replace("{LETTERS}", &letters::table())
@@ -27,8 +28,8 @@ const OPTIONS: &str = "  \
 const COMMAND: &str = "\
 Usage: keylock SUBCOMMAND [OPTION]... [FILE]...
 
-Writes, reads, replays and explains the guard's journals, and shows lock lists
-and state files. Every answer is the proved guard's.
+Writes, reads, replays and explains the guard's journals, shows lock lists and
+state files, and finds keys. Every answer is the proved guard's.
 
 Subcommands:
   asm    a text journal to a journal
@@ -36,14 +37,15 @@ Subcommands:
   run    the guard's answer to each call
   trace  each call explained, as text or as a page
   locks  a segment's lock list, as a user sees it after a journal
+  key    which open call of a thread hands a key over after a journal
   state  what stands in a state file
 
 Options:
   -h, --help     show this; 'keylock SUBCOMMAND --help' tells more
   -V, --version  show the version
 
-A FILE that is missing or '-' is standard input; locks needs one. '--' ends the
-options.
+A FILE that is missing or '-' is standard input; locks and key need one. '--'
+ends the options.
 
 Exit status:
   0  fine
@@ -180,6 +182,34 @@ nothing is printed), 2 called wrongly, or couldn't read or write.
 
 Example:
   keylock locks office.txt 0 2
+";
+
+const KEY: &str = "\
+Usage: keylock key FILE THREAD KEY
+
+Replays a journal or a text journal from the empty state, and prints which open
+call of a thread then hands a key over: 'ok N' with the place of the newest one
+that does, 'none' where no open call does, or 'no 2 0'. Place 0 is the thread's
+newest open call, 1 the one before it, and all open calls count.
+
+A thread holds its user's U key and its own R key, but no call hands them over,
+so they are 'none'. So is a key that was never handed out.
+
+Refusals, the first number after 'no': 2 no run. Answers that a text expects
+aren't compared here: 'keylock run' does that.
+
+A FILE that is '-' is standard input. THREAD is a number from 0 to 65535. KEY is
+spelt as in a formula: U, R, S or D and such a number.
+
+Options:
+  -h, --help     show this
+  -V, --version  show the version
+
+Exit status: 0 fine, whatever the guard answers, 1 the input is at fault (then
+nothing is printed), 2 called wrongly, or couldn't read or write.
+
+Example:
+  keylock key office.txt 0 S1
 ";
 
 const STATE: &str = "\

@@ -7,9 +7,9 @@ use super::source::{Name, Source};
 use keylock::damage;
 use keylock::progress::Progress;
 use keylock::text::{self, Mistakes, Text};
-use rotundaaloe::Journal;
 use rotundaaloe::journal::MARK;
 use rotundaaloe::state;
+use rotundaaloe::{Guard, Journal};
 
 /// A journal in either form.
 pub struct Input {
@@ -40,6 +40,18 @@ impl Input {
             }),
             Err(mistakes) => Err(wrong(&name, &bytes, &mistakes)),
         }
+    }
+
+    /// The guard after the journal's calls on the empty state.
+    pub fn replayed(&self) -> Guard {
+        let mut guard = Guard::new();
+        let mut progress = Progress::new(self.journal.records().count(), "records");
+        for (place, record) in self.journal.records().enumerate() {
+            // A refused call changes nothing, and the next one follows.
+            let _ = guard.call(record);
+            progress.at(place);
+        }
+        guard
     }
 }
 

@@ -4,10 +4,10 @@
 use super::judgement::Judgement;
 use super::product::Literal;
 use super::shown_keys;
-use super::state::{State, for_history};
+use super::state::{State, for_history, for_reference};
 use super::view::{self, SegmentView};
 use rotundaaloe::limits::MOST_OPEN_CALLS;
-use rotundaaloe::{Lock, LockRow, Operations, Record, Refusal};
+use rotundaaloe::{Lock, LockRow, Operations, Record, Refusal, Thread};
 
 /// What the explanation of an answered call and the answer differ in. Asked
 /// before the call is taken in.
@@ -30,7 +30,31 @@ pub fn disagreement(
         }
     }
     let drawn = drawn(state, judgement);
-    (drawn != answer).then(|| format!("the locks say {drawn:?}, the guard says {answer:?}"))
+    if drawn != answer {
+        return Some(format!(
+            "the locks say {drawn:?}, the guard says {answer:?}"
+        ));
+    }
+    misplaced(state, judgement)
+}
+
+/// A key whose newest open call is another by the history than by the guard.
+fn misplaced(state: &State, judgement: &Judgement) -> Option<String> {
+    let products = judgement.locks.iter().flat_map(|tried| &tried.products);
+    let mut literals = products.flat_map(|product| &product.literals);
+    literals.find_map(|literal| {
+        let (found, read) = (literal.place, newest(state, judgement.thread, literal));
+        let key = literal.literal.key();
+        let differs = || format!("the history has {key} from {read:?}, the guard from {found:?}");
+        (found != read).then(differs)
+    })
+}
+
+/// The place of the newest open call that handed a literal's key over.
+fn newest(state: &State, thread: Thread, literal: &Literal) -> Option<usize> {
+    let key = for_reference(literal.literal.key());
+    let mut newest_first = state.open_calls(thread).iter().rev();
+    newest_first.position(|call| call.list.contains(&key))
 }
 
 /// The answer that follows from the locks.
@@ -129,5 +153,29 @@ mod tests {
             assert!(wrong.starts_with("the locks say [LockRow "), "{wrong}");
             assert!(wrong.contains(", the guard lists "), "{wrong}");
         }
+    }
+
+    /// Two parts, each of which hands over its own key and D0, and a sheet that
+    /// S0 and D0 open.
+    const PARTS: &str = "U\nN 0 0\nN 0 0\nN 0 1\nK 0\nG 0 0 0\nG 0 1 0\nS 0\n\
+                         L 0 0 1 U0\nL 0 1 1 U0\nL 0 2 2 S0&D0\n";
+
+    /// A guard whose open calls stand the other way round: it answers alike, and
+    /// finds D0 in the newest too, but S0 elsewhere.
+    #[test]
+    fn a_key_found_elsewhere_is_told() {
+        let calls = |order: &str| told(&format!("{PARTS}{order}"));
+        let mut teller = calls("C 0 0\nC 0 1\n");
+        assert_eq!(wrong(&mut teller, "A 0 2 2"), None);
+        teller.guard = calls("C 0 1\nC 0 0\n").guard;
+        let differs = "the history has S0 from Some(1), the guard from Some(0)";
+        assert_eq!(wrong(&mut teller, "A 0 2 2").as_deref(), Some(differs));
+        // One without the open call of segment 0 finds S0 nowhere.
+        teller.guard = calls("C 0 1\n").guard;
+        let differs = wrong(&mut teller, "A 0 2 2").expect("a key that isn't found");
+        assert!(
+            differs.starts_with("lock 2's literals and products"),
+            "{differs}"
+        );
     }
 }

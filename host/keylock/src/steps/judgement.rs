@@ -1,11 +1,11 @@
 //! How the locks decide a C or an A: each standing lock for the operation, and
 //! what the thread's keys do to each of its products.
 
-use super::product::{self, Product, wanted};
+use super::product::{Product, Tester, wanted};
 use super::state::{State, for_history};
 use super::view::{self, Lock};
 use rotundaaloe::formula::Key;
-use rotundaaloe::{Call, Record, Refusal, Segment, Thread};
+use rotundaaloe::{Call, Guard, Record, Refusal, Segment, Thread};
 
 /// A C or an A of a live thread that its segment takes.
 #[derive(Clone, Debug)]
@@ -21,7 +21,8 @@ pub struct Judgement {
     pub keys: Vec<Key>,
     /// The standing locks for the operation, by rising number.
     pub locks: Vec<Tried>,
-    /// The lock in the answer: the one that granted or denied.
+    /// The lock in the answer: the one that granted or denied. None before it is
+    /// answered.
     pub decided: Option<u16>,
 }
 
@@ -33,6 +34,16 @@ pub struct Tried {
 }
 
 impl Judgement {
+    /// With the lock in the answer.
+    pub fn answered(self, answer: Result<u16, Refusal>) -> Judgement {
+        let decided = match answer {
+            Ok(lock) => Some(lock),
+            Err(Refusal::Denied(lock)) => Some(lock.0),
+            Err(_) => None,
+        };
+        Judgement { decided, ..self }
+    }
+
     pub fn grants(&self) -> impl Iterator<Item = &Tried> {
         self.locks.iter().filter(|tried| !tried.lock.denies())
     }
@@ -83,13 +94,19 @@ pub fn asked(record: &Record) -> Option<(Thread, Segment)> {
     }
 }
 
-/// How the locks decide an answered call. Asked before it is taken in.
-pub fn of(state: &State, record: &Record, answer: Result<u16, Refusal>) -> Option<Judgement> {
+/// How the locks decide a call. Asked before the guard is asked the call, of
+/// what stands then.
+pub fn of(state: &State, guard: &Guard, record: &Record) -> Option<Judgement> {
     let (thread, segment) = asked(record)?;
     let operation = state.history.operation(&for_history(record))?;
     let keys = state.key_set(thread);
+    let tester = Tester {
+        state,
+        guard,
+        thread,
+    };
     let locks = view::locks(state, segment, operation).into_iter();
-    let locks = locks.map(|lock| tried(state, thread, &keys, lock));
+    let locks = locks.map(|lock| tried(tester, &keys, lock));
     Some(Judgement {
         thread,
         segment,
@@ -98,19 +115,15 @@ pub fn of(state: &State, record: &Record, answer: Result<u16, Refusal>) -> Optio
         operation,
         locks: locks.collect(),
         keys,
-        decided: match answer {
-            Ok(lock) => Some(lock),
-            Err(Refusal::Denied(lock)) => Some(lock.0),
-            Err(_) => None,
-        },
+        decided: None,
     })
 }
 
-fn tried(state: &State, thread: Thread, keys: &[Key], lock: Lock) -> Tried {
+fn tried(tester: Tester, keys: &[Key], lock: Lock) -> Tried {
     let products = lock.products.iter();
     Tried {
         products: products
-            .map(|tried| product::tried(state, thread, keys, tried))
+            .map(|product| tester.tried(keys, product))
             .collect(),
         lock,
     }

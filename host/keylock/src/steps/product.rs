@@ -5,7 +5,7 @@ use super::lack;
 use super::state::{State, for_reference};
 use crate::words;
 use rotundaaloe::formula::{self, Key};
-use rotundaaloe::{Segment, Thread};
+use rotundaaloe::{Guard, Segment, Thread};
 
 #[derive(Clone, Debug)]
 pub struct Product {
@@ -22,8 +22,10 @@ pub struct Literal {
     said: String,
     /// The newest first. Empty if the key isn't held.
     pub held_by: Vec<Holder>,
-    /// The segment of the newest that brought it, by its name, or the one that
-    /// would bring it.
+    /// The place of the newest open call that brought it, 0 for the newest of
+    /// all, as the guard finds it.
+    pub place: Option<usize>,
+    /// The segment of that call, by its name, or the one that would bring it.
     pub from: Option<String>,
     /// Why the key isn't held, if it isn't.
     lack: String,
@@ -179,30 +181,76 @@ pub fn wanted(product: &formula::Product, holds: &str, lacks: &str) -> String {
     }
 }
 
-/// A product, tried with a thread's key set.
-pub fn tried(state: &State, thread: Thread, keys: &[Key], product: &formula::Product) -> Product {
-    let literals = product.literals().iter();
-    Product {
-        literals: literals
-            .map(|tried| literal(state, thread, *tried))
-            .collect(),
-        opens: product.opens(keys),
-    }
+/// A thread whose keys are tried, with what stands before its call: what the
+/// history tells, and the guard, which isn't asked the call yet.
+#[derive(Clone, Copy)]
+pub struct Tester<'a> {
+    pub state: &'a State,
+    pub guard: &'a Guard,
+    pub thread: Thread,
 }
 
-fn literal(state: &State, thread: Thread, literal: formula::Literal) -> Literal {
-    let held_by = holders(state, thread, literal.key());
-    let (from, lack) = match held_by.first() {
-        Some(Holder::Identity) => (None, String::new()),
-        Some(Holder::Call(segment)) => (Some(state.said(Segment(*segment))), String::new()),
-        None => lack::of(state, thread, literal.key()),
-    };
-    Literal {
-        literal,
-        said: said(state, literal.key()),
-        held_by,
-        from,
-        lack,
+impl Tester<'_> {
+    /// A product, tried with the thread's key set.
+    pub fn tried(self, keys: &[Key], product: &formula::Product) -> Product {
+        let literals = product.literals().iter();
+        Product {
+            literals: literals.map(|tried| self.literal(*tried)).collect(),
+            opens: product.opens(keys),
+        }
+    }
+
+    fn literal(self, literal: formula::Literal) -> Literal {
+        let Tester { state, thread, .. } = self;
+        let key = literal.key();
+        let place = self.place(key);
+        let held_by = self.holders(key, place);
+        let (from, lack) = match held_by.first() {
+            Some(Holder::Identity) => (None, String::new()),
+            Some(Holder::Call(segment)) => (Some(state.said(Segment(*segment))), String::new()),
+            None => lack::of(state, thread, key),
+        };
+        Literal {
+            literal,
+            said: said(state, key),
+            held_by,
+            place,
+            from,
+            lack,
+        }
+    }
+
+    /// The place of the newest open call that handed the key over. A thread that
+    /// the guard didn't take for live would be told as a disagreement.
+    fn place(self, key: Key) -> Option<usize> {
+        self.guard.find_key(self.thread, key).unwrap_or(None)
+    }
+
+    /// The open call at that place, and the older ones that handed the key over.
+    fn holders(self, key: Key, place: Option<usize>) -> Vec<Holder> {
+        if self.is_identity(key) {
+            return vec![Holder::Identity];
+        }
+        let Some(newest) = place else {
+            return Vec::new();
+        };
+        let key = for_reference(key);
+        let newest_first = self.state.open_calls(self.thread).iter().rev();
+        newest_first
+            .enumerate()
+            .skip(newest)
+            .filter(|(place, call)| *place == newest || call.list.contains(&key))
+            .map(|(_, call)| Holder::Call(call.segment))
+            .collect()
+    }
+
+    /// Whether it is the thread's user's key, or its own.
+    fn is_identity(self, key: Key) -> bool {
+        match key {
+            Key::User(user) => self.state.kept.user_of(self.thread) == Some(user),
+            Key::Thread(thread) => thread == self.thread,
+            Key::Segment(_) | Key::Defined(_) => false,
+        }
     }
 }
 
@@ -217,21 +265,4 @@ fn said(state: &State, key: Key) -> String {
         Some(name) => format!("{key}, {name},"),
         None => key.to_string(),
     }
-}
-
-fn holders(state: &State, thread: Thread, wanted: Key) -> Vec<Holder> {
-    let identity = match wanted {
-        Key::User(user) => state.kept.user_of(thread) == Some(user),
-        Key::Thread(other) => other == thread,
-        Key::Segment(_) | Key::Defined(_) => false,
-    };
-    if identity {
-        return vec![Holder::Identity];
-    }
-    let wanted = for_reference(wanted);
-    let newest_first = state.open_calls(thread).iter().rev();
-    newest_first
-        .filter(|call| call.list.contains(&wanted))
-        .map(|call| Holder::Call(call.segment))
-        .collect()
 }

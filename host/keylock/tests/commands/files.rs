@@ -54,6 +54,8 @@ fn the_input_is_not_written_over_by_any_name() {
         ("trace text 1<> text", "standard output"),
         ("locks text 0 0 >> text", "standard output"),
         ("locks - 0 0 < text >> soft", "standard output"),
+        ("key text 0 U0 >> text", "standard output"),
+        ("key - 0 U0 < text >> soft", "standard output"),
     ] {
         let ran = shell(&format!("keylock {arguments}"), directory.path());
         let (complaint, status) = (ran.complaint.as_str(), ran.status);

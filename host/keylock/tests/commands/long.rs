@@ -35,6 +35,7 @@ fn refused_by_all(bytes: &[u8], complaint: &str) {
         &["trace"],
         &["trace", "--html"],
         &["locks", "-", "0", "0"],
+        &["key", "-", "0", "U0"],
     ] {
         let ran = limited(arguments, bytes);
         assert_eq!((ran.printed().as_str(), ran.status), ("", 1));

@@ -6,7 +6,12 @@ use std::process::{Command, Stdio};
 
 #[test]
 fn a_reader_that_goes_away() {
-    for arguments in [&["run"][..], &["trace"], &["locks", "-", "0", "0"]] {
+    for arguments in [
+        &["run"][..],
+        &["trace"],
+        &["locks", "-", "0", "0"],
+        &["key", "-", "0", "U0"],
+    ] {
         let mut child = Command::new(env!("CARGO_BIN_EXE_keylock"))
             .args(arguments)
             .stdin(Stdio::piped())
@@ -33,6 +38,7 @@ fn a_full_disk() {
         &["trace", &text],
         &["trace", "--html", &text],
         &["locks", &text, "0", "0"],
+        &["key", &text, "0", "U0"],
         &["--help"],
         &["--version"],
     ] {
@@ -66,6 +72,7 @@ fn an_output_that_is_not_open() {
         "trace text",
         "trace --html text",
         "locks text 0 0",
+        "key text 0 U0",
         "--help",
         "help asm",
         "run --help",
@@ -91,6 +98,7 @@ fn an_input_that_is_not_open() {
         "trace",
         "trace --html",
         "locks - 0 0",
+        "key - 0 U0",
     ] {
         // Closed, and open for writing only.
         for input in ["<&-", "0> none"] {
