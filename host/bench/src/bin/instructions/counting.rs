@@ -20,6 +20,13 @@ pub fn count_name(guard: &str, scene: &str) -> String {
     format!("{guard}: {scene}")
 }
 
+/// The names of both guards' counts, as callgrind takes them: the proved guard's
+/// and the reference's.
+pub fn count_names(scene: &str) -> [CString; 2] {
+    [PROVED, REFERENCE]
+        .map(|guard| CString::new(count_name(guard, scene)).expect("a name without a 0"))
+}
+
 fn asserted(scene: &Scene, answers: [u32; 2]) {
     assert_eq!(answers, [u32::from(scene.expected); 2], "{}", scene.name);
 }
@@ -73,8 +80,7 @@ pub fn count_nothing() {
 /// through, so that they aren't made for the arguments at hand. It can't see
 /// through the proved guard's either.
 pub fn count(scene: &Scene) {
-    let [proved_name, reference_name] = [PROVED, REFERENCE]
-        .map(|guard| CString::new(count_name(guard, &scene.name)).expect("a name without a 0"));
+    let [proved_name, reference_name] = count_names(&scene.name);
     let mut stage = Stage::after(&scene.before);
     let answers = match &scene.counted {
         Counted::Check(asked) => {

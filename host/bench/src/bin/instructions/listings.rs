@@ -3,7 +3,7 @@
 //! their instructions counted.
 
 use crate::callgrind;
-use crate::counting::{PROVED, REFERENCE, count_name};
+use crate::counting::count_names;
 use bench::stage::Stage;
 use compare::guard::coded;
 use compare::listing::numbers;
@@ -13,7 +13,6 @@ use reference::journal::Record;
 use reference::listing::Row;
 use reference::operations::WRITE;
 use rotundaaloe::raw::LockRow;
-use std::ffi::CString;
 use std::hint::black_box;
 use testing::calls::{call, lock};
 
@@ -156,9 +155,7 @@ impl Listing {
     pub fn count(self) {
         type List = fn(&Guard, u16, u16, &mut [Row]) -> Result<usize, Refusal>;
         let list: List = black_box(Guard::list);
-        let [proved_name, reference_name] = [PROVED, REFERENCE].map(|guard| {
-            CString::new(count_name(guard, &self.name())).expect("a name without a 0")
-        });
+        let [proved_name, reference_name] = count_names(&self.name());
         let Stage { proved, reference } = &black_box(stage());
         let [user, segment] = black_box([self.user, self.segment]);
         let mut lent = self.lent();

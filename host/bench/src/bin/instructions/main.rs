@@ -2,11 +2,11 @@
 //! them with their ratios and limits. It fails where a limit is missed.
 //!
 //! `bench/run` at the top of the repository runs it. It starts itself twice more
-//! under valgrind, which must be installed, and there the scenes and the lock
-//! lists are counted. In one run these are the instructions from a call to its
-//! return, less those of counting itself; in the other, those of the proved
-//! guard's own check inside an access. With a file's name it writes the plot's
-//! points there.
+//! under valgrind, which must be installed, and there the scenes, the lock lists
+//! and the key searches are counted. In one run these are the instructions from a
+//! call to its return, less those of counting itself; in the other, those of the
+//! proved guard's own check inside an access. With a file's name it writes the
+//! plot's points there.
 
 #[cfg(target_arch = "x86_64")]
 mod callgrind;
@@ -22,21 +22,26 @@ mod listings;
 mod report;
 #[cfg(target_arch = "x86_64")]
 mod scenes;
+#[cfg(target_arch = "x86_64")]
+mod searches;
 
 #[cfg(target_arch = "x86_64")]
 use callgrind::Run;
 #[cfg(target_arch = "x86_64")]
 use listings::{LISTINGS, Listing};
+#[cfg(target_arch = "x86_64")]
+use searches::Search;
 use std::process::ExitCode;
 
 #[cfg(target_arch = "x86_64")]
 fn main() -> ExitCode {
-    let scenes = scenes::all();
+    let (scenes, searches) = (scenes::all(), searches::all());
     match Run::current() {
         Some(Run::Calls) => {
             counting::count_nothing();
             scenes.iter().for_each(counting::count);
             LISTINGS.into_iter().for_each(Listing::count);
+            searches.into_iter().for_each(Search::count);
             return ExitCode::SUCCESS;
         }
         Some(Run::Checks) => {
@@ -47,6 +52,7 @@ fn main() -> ExitCode {
     }
     scenes.iter().for_each(counting::tried);
     LISTINGS.into_iter().for_each(Listing::tried);
+    searches.into_iter().for_each(Search::tried);
     match reported() {
         Ok(0) => ExitCode::SUCCESS,
         Ok(_) => ExitCode::FAILURE,

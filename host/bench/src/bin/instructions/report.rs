@@ -6,6 +6,7 @@ use crate::counting::{EMPTY, PROVED, REFERENCE, count_name};
 use crate::limits::LIMITS;
 use crate::listings::LISTINGS;
 use crate::scenes::{AWAY, HOME, PAIRS, Pair, call_name, the_twelve, twelve_name};
+use crate::searches;
 use bench::points::{Panel, Point, Series};
 use bench::route::DEPTHS;
 use reference::letter::Letter;
@@ -138,6 +139,7 @@ impl Report {
         self.print_calls();
         self.print_the_twelve();
         self.print_listings();
+        self.print_searches();
         if self.missed.is_empty() {
             println!("\nEvery limit on instructions is kept.");
         } else {
@@ -396,6 +398,23 @@ impl Report {
         for listing in LISTINGS {
             let columns = listing.columns().join(" | ");
             let counts = self.counts(&listing.name());
+            println!("| {columns} | {} |", counts.columns());
+        }
+    }
+
+    /// The key searches have no limit: a host asks for one when it explains.
+    fn print_searches(&self) {
+        println!("\n### Key search\n");
+        println!(
+            "Counted is `rotundaaloe_raw_find_key`, of the reference `find_key`, from the call to \
+             its return. The oldest open call has handed over eight keys, any other its own alone. \
+             There is no limit.\n"
+        );
+        println!("| Open calls | Key | Answer | Proved | Reference | Ratio |");
+        println!("|---:|---|---:|---:|---:|---:|");
+        for search in searches::all() {
+            let columns = search.columns().join(" | ");
+            let counts = self.counts(&search.name());
             println!("| {columns} | {} |", counts.columns());
         }
     }
