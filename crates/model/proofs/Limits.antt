@@ -1,6 +1,7 @@
 pub mod AnsweredWidths
 pub mod Bounds
 pub mod FittingCells
+pub mod Invariants
 pub mod Kept
 pub mod LockWidths
 pub mod RequestWidths

@@ -1,9 +1,9 @@
 -- By the invariant of `ListedKeys`, which every accepted call keeps: N gives a segment its own S key, G a D key that
 -- was handed out, C copies a list into a frame, the others add no key, and the counts only grow.
-use mathlib.Core.Path.{_≡_, refl, sym, ap, _∙_}
+use mathlib.Core.Path.{_≡_, sym, ap, _∙_}
 use mathlib.Core.Bool.{not}
 use mathlib.Core.List.{List, [], _∷_, _++_}
-use mathlib.Core.Option.{Option, none, some}
+use mathlib.Core.Option.{none}
 use Prim.Native.Nat.{ℕ, suc}
 use native.Mathlib.Omega.{arith}
 use lib.ListN.{length, getD, set, length-set}
@@ -18,17 +18,13 @@ use Rattle.formula.specs.Outcome.{outcomeOf, sumIn}
 use Rattle.formula.specs.Compiler.{Compiler}
 use Rattle.call.specs.declared.request.Request.{Request}
 use Rattle.call.specs.declared.request.Request.the-variants as request
-use Rattle.call.specs.declared.request.Decoded.{Decoded}
-use Rattle.call.specs.declared.request.Decoded.the-variants.{WellFormed, Corrupt as NotWellFormed}
-use Rattle.call.specs.Calls.{Call, decoded}
-use Rattle.model.specs.declared.answer.Refusal.{Refusal}
 use Rattle.model.specs.Threads.{sameKey}
 use Rattle.model.specs.State.{State, emptyState, Segment, blankSegment, freshSegment, segmentAt, userOf, isKey, issued, Place, free, isFree, placeFor, placeOf, threadAt, lockSegment}
 use Rattle.model.specs.Refusals.{conditions}
 use Rattle.model.specs.Effects.{onSegment, onThread, atPlace, pushFrame, popFrame, giveKey, takeKey, addProducts, dropProducts, update}
-use Rattle.model.specs.Model.{judged, stepDecoded, step}
 use Rattle.model.specs.Cells.{stateOf}
-use Rattle.model.specs.Replay.{stateAfter, reached}
+use Rattle.model.specs.Replay.{reached}
+use Rattle.model.proofs.Limits.Invariants.{keep-calls}
 use Rattle.model.proofs.Refinement.EveryCall.{refinement}
 use Rattle.model.proofs.Agreement.Mirror.{mirror}
 use Rattle.search.specs.declared.Searched.the-variants.{At}
@@ -99,24 +95,6 @@ module _ (compile : Compiler) (d : State) (k : Kept d) (text : List ℕ) where
       at-place a (onThread popFrame) (place-pop _ _ (getD (d .places) i free) (k .places i))
   keep-accepted (request.Access a b c) e = k
 
-  -- ---- each call, accepted or not
-
-  keep-judged : (q : Request) (o : Option Refusal) → firstRefusal (conditions compile d q text) ≡ o → Kept (judged compile d q text o .state)
-  keep-judged q none e = keep-accepted q e
-  keep-judged q (some r) e = k
-
-  keep-decoded : (x : Decoded) → Kept (stepDecoded compile d x text .state)
-  keep-decoded NotWellFormed = k
-  keep-decoded (WellFormed q) = keep-judged q (firstRefusal (conditions compile d q text)) refl
-
-keep-step : (compile : Compiler) (d : State) → Kept d → (x : Call) → Kept (step compile d x .state)
-unfolding step
-keep-step compile d k x = keep-decoded compile d k (x .text) (decoded x)
-
-keep-calls : (compile : Compiler) (d : State) → Kept d → (xs : List Call) → Kept (stateAfter compile d xs)
-keep-calls compile d k [] = k
-keep-calls compile d k (x ∷ xs) = keep-calls compile (step compile d x .state) (keep-step compile d k x) xs
-
 -- ---- what the search finds
 
 found-listed : (d : State) → Kept d → (n : ℕ) (k : Key) (p : ℕ) → searched d n k ≡ At p
@@ -128,6 +106,6 @@ found-listed d kept n k p e =
 
 pub handed-out : HandedOut
 handed-out xs n k p e =
-    let kept : Kept (stateOf (reached outcomeOf xs)) = rw (refinement .list xs .state) (keep-calls outcomeOf emptyState kept-empty xs) in
+    let kept : Kept (stateOf (reached outcomeOf xs)) = rw (refinement .list xs .state) (keep-calls outcomeOf Kept (keep-accepted outcomeOf) emptyState kept-empty xs) in
     sym (ap (λ (i : Issued). canBeListed (i .segments) (i .defined) k) (mirror .state xs .handedOut))
     ∙ found-listed (stateOf (reached outcomeOf xs)) kept n k p e

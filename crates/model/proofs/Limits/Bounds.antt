@@ -1,8 +1,8 @@
 -- The limits, by an invariant that every accepted call keeps: a call that adds something was not refused by 10, which
 -- is its limit, and the others add nothing.
-use mathlib.Core.Path.{_≡_, refl}
+use mathlib.Core.Path.{_≡_}
 use mathlib.Core.List.{List, [], _∷_, _++_}
-use mathlib.Core.Option.{Option, none, some}
+use mathlib.Core.Option.{none}
 use Prim.Native.Nat.{ℕ, suc, _+_, _≤_, zero-le, suc-le-suc}
 use native.Mathlib.Omega.{arith}
 use lib.ListN.{length, getD}
@@ -12,23 +12,19 @@ use Rattle.formula.specs.Compiler.{Compiler}
 use Rattle.formula.proofs.Opening.{laws}
 use Rattle.call.specs.declared.request.Request.{Request}
 use Rattle.call.specs.declared.request.Request.the-variants as request
-use Rattle.call.specs.declared.request.Decoded.{Decoded}
-use Rattle.call.specs.declared.request.Decoded.the-variants.{WellFormed, Corrupt as NotWellFormed}
-use Rattle.call.specs.Calls.{Call, decoded}
 use Rattle.base.specs.Conditions.{firstRefusal}
 use Rattle.base.proofs.Conditions.{all-fail}
 use Rattle.base.proofs.Truth.{neither}
-use Rattle.model.specs.declared.answer.Refusal.{Refusal}
 use Rattle.model.specs.Limits.{mostUsers, mostThreads, mostSegments, mostDefined, mostListed, mostStanding, mostFrames, mostNumbers, passes}
 use Rattle.model.specs.State.{userOf, State, emptyState, Segment, segmentAt, Place, free, isFree, liveIn, placeFor, placeOf, threadAt, lockSegment, issued}
 use Rattle.model.specs.Refusals.{conditions}
 use Rattle.model.specs.Effects.{onSegment, onThread, atPlace, pushFrame, popFrame, giveKey, takeKey, dropProducts, update}
-use Rattle.model.specs.Model.{judged, stepDecoded, step}
 use Rattle.model.specs.Replay.{stateAfter}
 use Rattle.model.specs.Theorems.Bounds.{BoundsAlways, Bounds}
 use Rattle.base.proofs.Lists.{length-append-one}
 use Rattle.model.proofs.Refinement.Counts.{within}
 use Rattle.model.proofs.Refinement.EveryCall.{follows}
+use Rattle.model.proofs.Limits.Invariants.{keep-calls}
 use Rattle.model.proofs.Limits.Kept.{Shallow, SegmentKept, Kept, kept-empty, kept-within, with-users, with-thread-numbers, with-lock-numbers, with-makers, with-segments, with-places, places-set, shallow-push, shallow-pop, segments-set, segments-add, give-kept, take-kept, add-kept, drop-kept}
 
 -- ---- each request
@@ -86,26 +82,10 @@ module _ (compile : Compiler) (d : State) (k : Kept d) (text : List ℕ) where
       at-place a (onThread popFrame) (shallow-pop (getD (d .places) i free) (k .places .frames i))
   keep-accepted (request.Access a b c) e = k
 
-  -- ---- each call, accepted or not
-
-  keep-judged : (q : Request) (o : Option Refusal) → firstRefusal (conditions compile d q text) ≡ o → Kept (judged compile d q text o .state)
-  keep-judged q none e = keep-accepted q e
-  keep-judged q (some r) e = k
-
-  keep-decoded : (x : Decoded) → Kept (stepDecoded compile d x text .state)
-  keep-decoded NotWellFormed = k
-  keep-decoded (WellFormed q) = keep-judged q (firstRefusal (conditions compile d q text)) refl
-
-keep-step : (compile : Compiler) (d : State) → Kept d → (x : Call) → Kept (step compile d x .state)
-unfolding step
-keep-step compile d k x = keep-decoded compile d k (x .text) (decoded x)
-
-keep-calls : (compile : Compiler) (d : State) → Kept d → (xs : List Call) → Kept (stateAfter compile d xs)
-keep-calls compile d k [] = k
-keep-calls compile d k (x ∷ xs) = keep-calls compile (step compile d x .state) (keep-step compile d k x) xs
+-- ---- every list of calls
 
 pub bounds-always : BoundsAlways
-bounds-always compile xs = kept-within (stateAfter compile emptyState xs) (keep-calls compile emptyState kept-empty xs)
+bounds-always compile xs = kept-within (stateAfter compile emptyState xs) (keep-calls compile Kept (keep-accepted compile) emptyState kept-empty xs)
 
 pub bounds : Bounds
 bounds =
