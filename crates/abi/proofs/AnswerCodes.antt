@@ -1,7 +1,8 @@
--- An answer as a number.
+-- An answer as a number, and the number taken apart again.
 use mathlib.Core.Path.{_≡_, ap, _∙_}
 use mathlib.Core.List.{List}
-use Prim.Native.Nat.{ℕ}
+use Prim.Native.Nat.{ℕ, _+_, _*_, _/_, _%_, _<_}
+use native.Mathlib.Omega.{arith}
 use Rattle.model.specs.declared.answer.Answer.{Answer}
 use Rattle.model.specs.Cells.{Cells}
 use Rattle.model.specs.Serving.{Gives}
@@ -14,3 +15,6 @@ tells o r d n g e = record { number = e ∙ ap answerCode (g .answer); cells = g
 
 pub tells-rows : {X : Type 0} {o : Listed X} {r : Answer} {n : ℕ} {rows : List X} → Lists o r rows → n ≡ answerCode r → TellsRows o n rows
 tells-rows g e = record { number = e ∙ ap answerCode (g .answer); rows = g .rows }
+
+pub taken-apart : (m n : ℕ) → n < 65536 → ((m * 65536 + n) / 65536 ≡ m) × ((m * 65536 + n) % 65536 ≡ n)
+taken-apart m n h = (omega arith, omega arith)

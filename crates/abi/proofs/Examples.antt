@@ -1,19 +1,17 @@
 -- By computing, and by what division leaves.
-use mathlib.Core.Path.{_≡_, refl}
-use Prim.Native.Nat.{ℕ, _+_, _*_, _/_, _%_, _<_}
-use native.Mathlib.Omega.{arith}
+use mathlib.Core.Path.{refl}
+use Rattle.product.specs.Atom.{compareAtoms, orderOf}
 use Rattle.product.specs.Code.{keyAt}
 use Rattle.model.specs.Answers.{answerNumber, answerValue}
+use Rattle.search.specs.Searching.{searched}
+use Rattle.abi.proofs.AnswerCodes.{taken-apart}
 use Rattle.abi.specs.Theorems.Examples.{CodeTakenApart, Examples}
 
-apart : (m n : ℕ) → n < 65536 → ((m * 65536 + n) / 65536 ≡ m) × ((m * 65536 + n) % 65536 ≡ n)
-apart m n h = (omega arith, omega arith)
-
 pub code-taken-apart : CodeTakenApart
-code-taken-apart r h = apart (answerNumber r) (answerValue r) h
+code-taken-apart r h = taken-apart (answerNumber r) (answerValue r) h
 
 pub examples : Examples
-unfolding keyAt
+unfolding keyAt searched compareAtoms orderOf
 examples =
     record {
       lock-seven = refl;
@@ -23,12 +21,14 @@ examples =
       corrupt = refl;
       last-place = refl;
       no-place = refl;
-      no-run = refl;
-      user-key = refl;
-      thread-key = refl;
-      segment-key = refl;
-      defined-key = refl;
+      no-thread = refl;
+      finds-segment = refl;
+      finds-defined = refl;
+      lacks-user = refl;
+      lacks-segment = refl;
       no-key = refl;
+      no-key-again = refl;
+      no-key-of-none = refl;
       two-products = refl;
       malformed-number = refl;
       wide-number = refl;

@@ -1,25 +1,29 @@
--- The key of a number, by the first digit of the number; and the search for what is no key, as for a U key.
+-- The key of a number, by the first digit of the number; the search for what is no key, as for a U key; and the number
+-- of an answer.
 use mathlib.Core.Path.{_≡_, refl, sym, ap, _∙_}
-use mathlib.Core.Bool.{false, cond}
-use Prim.Native.Nat.{ℕ, _/_, _%_, _<_}
+use mathlib.Core.Bool.{true, false, cond}
+use Prim.Native.Nat.{ℕ, _/_, _%_, _≤_, _<_}
 use native.Mathlib.Omega.{arith}
 use lib.Dec.{ltb}
-use borrow.Author.Tests.{lt-ltb, ltb-true}
+use borrow.Author.Tests.{lt-ltb, le-ltb, ltb-true}
 use Rattle.base.proofs.Lists.{caseBool}
 use Rattle.product.specs.declared.literal.Key.{Key}
 use Rattle.product.specs.declared.literal.Key.the-variants.{User, Thread, Segment, Defined}
-use Rattle.product.specs.Code.{keyLimit, keyAt}
-use Rattle.product.proofs.Codes.{user-at, thread-at, segment-at, defined-at}
+use Rattle.product.specs.Atom.{numberOf}
+use Rattle.product.specs.Code.{numberLimit, keyLimit, keyCode, keyAt}
+use Rattle.product.proofs.Codes.{key-back, user-at, thread-at, segment-at, defined-at}
 use Rattle.model.specs.declared.answer.Refusal.the-variants.{NoThread}
-use Rattle.model.specs.State.{isLive}
+use Rattle.model.specs.State.{State, isLive}
 use Rattle.model.specs.Cells.{Cells, stateOf}
 use Rattle.search.specs.declared.Searched.{Searched}
 use Rattle.search.specs.declared.Searched.the-variants.{Nowhere, Refused}
-use Rattle.search.specs.Searching.{searched}
+use Rattle.search.specs.Searching.{searched, searchedNumber, searchedValue}
 use Rattle.search.proofs.Exactly.{exactly}
 use Rattle.search.proofs.KeySets.{key-sets}
-use Rattle.abi.specs.KeySearch.{searchCode, searchedNumber}
+use Rattle.abi.proofs.AnswerCodes.{taken-apart}
+use Rattle.abi.specs.KeySearch.{searchCode, searchedFor}
 use Rattle.abi.specs.Internal.{keyRead}
+use Rattle.abi.specs.Theorems.KeyNumbers.{KeyNumbers}
 
 module _ (x : ℕ) where
   as-key : {k : Key} → x < keyLimit → k ≡ keyAt x → k ≡ keyRead x
@@ -47,9 +51,27 @@ module _ (d : Cells) (n x : ℕ) where
       (λ live. rw live (key-sets .users d n (x % 65536) live))
       (λ live. rw live (exactly (stateOf d) n (User (x % 65536)) .refused NoThread .1 (live, refl)))
 
-  read-searched : searched (stateOf d) n (keyRead x) ≡ searchedNumber (stateOf d) n x
+  read-searched : searched (stateOf d) n (keyRead x) ≡ searchedFor (stateOf d) n x
   read-searched = caseBool (ltb x keyLimit) (λ e. rw e refl) (λ e. rw e (no-key e))
 
   pub as-number : {s : Searched} {k : Key} {r : ℕ} → k ≡ keyRead x → s ≡ searched (stateOf d) n k → r ≡ searchCode s
-      → r ≡ searchCode (searchedNumber (stateOf d) n x)
+      → r ≡ searchCode (searchedFor (stateOf d) n x)
   as-number key is code = code ∙ ap searchCode (is ∙ ap (searched (stateOf d) n) key ∙ read-searched)
+
+code-low : (k : Key) → numberOf k < numberLimit → keyCode k < keyLimit
+unfolding keyCode
+code-low (User n) h = omega arith
+code-low (Thread n) h = omega arith
+code-low (Segment n) h = omega arith
+code-low (Defined n) h = omega arith
+
+by-key : (d : State) (n : ℕ) (k : Key) → numberOf k < numberLimit → searchedFor d n (keyCode k) ≡ searched d n k
+by-key d n k h =
+    let low = lt-ltb (keyCode k) keyLimit (code-low k h) in
+    rw low (ap (searched d n) (key-back k (λ z. h)))
+
+beyond : (d : State) (n x : ℕ) → keyLimit ≤ x → isLive d n ≡ true → searchedFor d n x ≡ Nowhere
+beyond d n x h live = let high = le-ltb x keyLimit h in rw (high, live) refl
+
+pub key-numbers : KeyNumbers
+key-numbers = record { key = by-key; beyond = beyond; apart = λ s. taken-apart (searchedNumber s) (searchedValue s) }

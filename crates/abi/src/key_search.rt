@@ -10,13 +10,13 @@ use product::literal::Key;
 use search::Searched;
 use search::find_key;
 
-// The place of the newest open call of thread a that hands the key over, 0 for the newest and 65535 for none, or a
-// refusal's number * 65536. A key's number is kind * 65536 + its own number.
+// The place of the thread's newest open call that hands the key over, 0 for the newest and 65535 for none, or a
+// refusal's number * 65536. A key's number is kind * 65536 + its own number, with the kinds U 0, R 1, S 2 and D 3.
 #[no_mangle]
-pub extern "C" fn rotundaaloe_raw_find_key(threads: &Threads, a: u16, key: u32) -> u32
-    ensures { λ r. ⌜ TellsPlace (threadsAre (now (threads .entry))) a key r ⌝ }
+pub extern "C" fn rotundaaloe_raw_find_key(threads: &Threads, thread: u16, key: u32) -> u32
+    ensures { λ r. ⌜ TellsPlace (threadsAre (now (threads .entry))) thread key r ⌝ }
 {
-    search_code(find_key(threads, a, key_read(key)))
+    search_code(find_key(threads, thread, key_read(key)))
 }
 
 // The key of a number. What is no key's is read as a U key, which no open call hands over either.

@@ -21,7 +21,7 @@ use Rattle.model.specs.Cells.{Row, Table, cell, rowAt, numberCell, userCell, no
 use Rattle.model.proofs.Refinement.Literals.{keyIn-segment, keyIn-defined}
 use Rattle.base.proofs.Lists.{caseBool, same-truth, any-map, any-keep, each-suc}
 use Rattle.checking.specs.Deciding.{keysAt}
-use Rattle.checking.specs.Internal.{hasCode, newestRow, inherited, listable}
+use Rattle.checking.specs.Internal.{hasCode, newestRow, listable}
 
 -- ---- the eight comparisons of a row
 
@@ -105,6 +105,10 @@ unfolding compareAtoms orderOf
 thread-not-user n r = refl
 
 -- ---- the frames' lists
+
+-- one of the oldest n frames has the code
+abbrev inherited : Table → ℕ → ℕ → Bool
+inherited t n code = not (eqb (newestRow t n code) 0)
 
 any-agree : {A : Type 0} (p q : A → Bool) → ((x : A) → p x ≡ q x) → (xs : List A) → any p xs ≡ any q xs
 any-agree p q h [] = refl

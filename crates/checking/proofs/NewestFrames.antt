@@ -11,13 +11,14 @@ use lib.ListN.{length}
 use borrow.Author.Tests.{lt-ltb, le-ltb, ltb-true, ltb-false, eq-eqb, ne-eqb, eqb-false}
 use Rattle.product.specs.declared.literal.Key.{Key}
 use Rattle.product.specs.declared.literal.Key.the-variants.{User, Thread as ThreadKey, Segment as SegmentKey, Defined}
+use Rattle.product.specs.Code.{numberLimit}
 use Rattle.base.specs.Lists.{any, keep, mapOption, orDefault, isSome}
 use Rattle.base.proofs.Lists.{caseBool, any-map, any-keep}
 use Rattle.model.specs.Limits.{mostSegments, mostFrames}
 use Rattle.model.specs.Threads.{Frame, sameKey, hands}
 use Rattle.model.specs.Cells.{Row, Table, cell, rowAt, noKey, keyIn, hasKey, keysIn, definedCell, framesOf, depthOf}
 use Rattle.model.proofs.Refinement.Literals.{keyIn-segment, keyIn-defined}
-use Rattle.checking.specs.Newest.{newestFrom, Found}
+use Rattle.checking.specs.Newest.{newestFrom, NewestPlace}
 use Rattle.checking.specs.Internal.{hasCode, newestRow, listCode, RowFits, FramesFit}
 use Rattle.checking.proofs.KeyCells.{same-key, in-row}
 
@@ -107,7 +108,7 @@ any-cells p [] h = refl
 any-cells p (x ∷ w) h = simp (h 0 (omega arith)) (any-cells p w (λ j l. h (suc j) (omega arith)))
 
 module _ (k : Key) (uncoded : listCode k ≡ noKey) where
-  not-cell : (x : ℕ) → x < 65536 → hasKey x && sameKey k (keyIn x) ≡ false
+  not-cell : (x : ℕ) → x < numberLimit → hasKey x && sameKey k (keyIn x) ≡ false
   not-cell x fits =
       caseBool (eqb x noKey)
       (λ e. rw e refl)
@@ -136,7 +137,7 @@ abbrev orSixteen : Option ℕ → ℕ
 orSixteen o = orDefault mostFrames (λ p. p) o
 
 module _ (t : Table) (k : Key) {n code : ℕ} (depth : n ≡ depthOf t) (is : code ≡ listCode k) where
-  pub found-none : code ≡ noKey → FramesFit t n → Found t k mostFrames
+  pub found-none : code ≡ noKey → FramesFit t n → NewestPlace t k mostFrames
   found-none e fits =
       let nowhere : newestFrom k (framesOf t (depthOf t)) ≡ none = rw (← depth) (newest-uncoded k (sym is ∙ e) t n fits) in
       record { place = sym (ap orSixteen nowhere); low = omega arith }
@@ -148,8 +149,8 @@ module _ (t : Table) (k : Key) {n code : ℕ} (depth : n ≡ depthOf t) (is : co
         let same : keyIn code ≡ k = ap keyIn is ∙ back in
         rw (← depth, ← same, found) (newest-coded t code (rw (← is) at low) n)
 
-    pub found-nowhere : row ≡ 0 → Found t k mostFrames
+    pub found-nowhere : row ≡ 0 → NewestPlace t k mostFrames
     found-nowhere z = let nowhere : rowPlace n row ≡ none = rw (eq-eqb row 0 z) refl in record { place = sym (ap orSixteen (places ∙ nowhere)); low = omega arith }
 
-    pub found-at : (row ≡ 0 → ⊥) → n ≤ mostFrames → Found t k (n - row)
+    pub found-at : (row ≡ 0 → ⊥) → n ≤ mostFrames → NewestPlace t k (n - row)
     found-at z h = let here : rowPlace n row ≡ some (n - row) = rw (ne-eqb row 0 z) refl in record { place = sym (ap orSixteen (places ∙ here)); low = omega arith }

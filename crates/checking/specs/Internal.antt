@@ -4,6 +4,7 @@ use mathlib.Core.Option.{Option}
 use Prim.Native.Nat.{ℕ, zero, suc, _-_, _/_, _≤_, _<_}
 use lib.Dec.{eqb, ltb}
 use lib.ListN.{drop}
+use Rattle.product.specs.Code.{numberLimit}
 use Rattle.product.specs.Product.{opens}
 use Rattle.base.specs.Lists.{any, first, isSome, orDefault}
 use Rattle.product.specs.declared.literal.Key.{Key}
@@ -25,11 +26,7 @@ unfoldable pub newestRow : Table → ℕ → ℕ → ℕ
 newestRow t zero code = 0
 newestRow t (suc n) code = cond (hasCode (rowAt t (suc n)) code) (suc n) (newestRow t n code)
 
--- one of them has it
-abbrev pub inherited : Table → ℕ → ℕ → Bool
-inherited t n code = not (eqb (newestRow t n code) 0)
-
--- the code that a key has in key lists, and for none that of a cell without a key
+-- a key's code in key lists, `noKey` for a key that no list can hold
 abbrev pub listCode : Key → ℕ
 listCode (User n) = noKey
 listCode (ThreadKey n) = noKey
@@ -38,7 +35,7 @@ listCode (Defined n) = cond (ltb (definedCell n) noKey) (definedCell n) noKey
 
 -- each cell is a number of 16 bits, and so in each of the oldest n frames
 abbrev pub RowFits : Row → Type 0
-RowFits w = (j : ℕ) → cell w j < 65536
+RowFits w = (j : ℕ) → cell w j < numberLimit
 
 abbrev pub FramesFit : Table → ℕ → Type 0
 FramesFit t n = (i : ℕ) → 0 < i → i ≤ n → RowFits (rowAt t i)

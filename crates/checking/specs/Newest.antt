@@ -17,7 +17,7 @@ newestFrom k [] = none
 newestFrom k (f ∷ fs) = cond (hands f k) (some 0) (mapOption suc (newestFrom k fs))
 
 -- r is that place of the thread in the table, 16 for none
-pub record Found (t : Table) (k : Key) (r : ℕ) : Type 0 where
+pub record NewestPlace (t : Table) (k : Key) (r : ℕ) : Type 0 where
   pub place : r ≡ orDefault mostFrames (λ p. p) (newestFrom k (framesOf t (depthOf t)))
   -- follows from it, and is said so that callers find the bound
   pub low : r ≤ mostFrames

@@ -3,7 +3,7 @@
 ghost use mathlib.Core.Path.{_≡_};
 ghost use Prim.Native.Nat.{_≤_};
 ghost use Rattle.model.specs.Limits.{mostFrames};
-ghost use Rattle.checking.specs.Newest.{Found};
+ghost use Rattle.checking.specs.Newest.{NewestPlace};
 ghost use Rattle.checking.specs.Internal.{hasCode, newestRow, listCode, RowFits, FramesFit};
 use base::cells::count_in_u16;
 use model::arrays::DEFINED_CODES;
@@ -16,7 +16,7 @@ use product::literal::Key;
 
 // The place, 0 for the newest, of the newest frame that hands the key over, 16 for none.
 pub fn newest_call(thread: &Thread, key: Key) -> usize
-    ensures { λ r. ⌜ Found (now (thread .entry)) key r ⌝ }
+    ensures { λ r. ⌜ NewestPlace (now (thread .entry)) key r ⌝ }
 {
     let depth = count_in_u16(thread[0][FRAMES], MOST_FRAMES);
     let code = code_of(key);
@@ -28,7 +28,7 @@ pub fn newest_call(thread: &Thread, key: Key) -> usize
     if row == 0 { MOST_FRAMES } else { depth - row }
 }
 
-// The key's code in key lists, which U and R keys don't have, nor numbers that no list can hold.
+// The key's code in key lists; `NO_KEY` for U and R keys, and for numbers that no list can hold.
 fn code_of(key: Key) -> u16
     ensures { λ r. ⌜ r ≡ listCode key ⌝ }
 {
@@ -59,8 +59,8 @@ pub(crate) fn newest_row(thread: &Thread, depth: usize, code: u16) -> usize
     0
 }
 
-// No cell of a frame has a number of more than 16 bits, so none has a D key whose code would be one. The proofs learn
-// it of a row that is read; nothing is left of the loop when it is compiled.
+// Every cell of a frame is a number of 16 bits, so no frame has a D key whose code needs more. The proofs learn it of a
+// row that is read; nothing is left of the loop when it is compiled.
 fn frames_fit(thread: &Thread, depth: usize)
     requires { ⌜ depth ≤ mostFrames ⌝ }
     ensures { λ _. ⌜ FramesFit (now (thread .entry)) depth ⌝ }

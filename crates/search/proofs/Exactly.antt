@@ -13,6 +13,7 @@ use Rattle.base.proofs.Lists.{caseBool, clash, some-inj, some≢none}
 use Rattle.product.specs.declared.literal.Key.{Key}
 use Rattle.model.specs.declared.answer.Refusal.{Refusal}
 use Rattle.model.specs.declared.answer.Refusal.the-variants.{NoThread}
+use Rattle.model.specs.Limits.{mostFrames}
 use Rattle.model.specs.Threads.{Frame, hands}
 use Rattle.model.specs.State.{placeOf, threadIn, isLive, blankThread, threadAt}
 use Rattle.model.specs.Cells.{Table, cell, rowAt, tableAt, liveCell, depthOf, placeIn, stateOf}
@@ -21,7 +22,7 @@ use Rattle.threads.proofs.PlaceScan.{place-at}
 use Rattle.checking.specs.Newest.{newestFrom}
 use Rattle.search.specs.declared.Searched.{Searched}
 use Rattle.search.specs.declared.Searched.the-variants.{At, Nowhere, Refused}
-use Rattle.search.specs.Searching.{answered, searched}
+use Rattle.search.specs.Searching.{searchedBy, searched}
 use Rattle.search.specs.Theorems.Exactly.{callAt, NewestAt, NoneHandsOver, Exactly, LowPlaces}
 
 -- ---- frames
@@ -87,30 +88,30 @@ at-is e = cc
 pub refusal-is : {r s : Refusal} → _≡_ {A = Searched} (Refused r) (Refused s) → r ≡ s
 refusal-is e = cc
 
-pub answered-at : (o : Option ℕ) (p : ℕ) → answered o ≡ At p → o ≡ some p
+pub answered-at : (o : Option ℕ) (p : ℕ) → searchedBy o ≡ At p → o ≡ some p
 answered-at none p e = apart e (λ z. omega arith)
 answered-at (some q) p e = ap some (at-is e)
 
-pub answered-none : (o : Option ℕ) → answered o ≡ Nowhere → o ≡ none
+pub answered-none : (o : Option ℕ) → searchedBy o ≡ Nowhere → o ≡ none
 answered-none none e = refl
 answered-none (some q) e = apart e (λ z. omega arith)
 
-pub answered-unrefused : {A : Type 0} (o : Option ℕ) (r : Refusal) → answered o ≡ Refused r → A
+pub answered-unrefused : {A : Type 0} (o : Option ℕ) (r : Refusal) → searchedBy o ≡ Refused r → A
 answered-unrefused none r e = apart e (λ z. omega arith)
 answered-unrefused (some q) r e = apart e (λ z. omega arith)
 
 -- the search of frames, in words
 module _ (k : Key) (fs : List Frame) where
-  pub at-exactly : (p : ℕ) → (answered (newestFrom k fs) ≡ At p) ↔ NewestAt k fs p
-  at-exactly p = (λ e. is-newest k fs p (answered-at (newestFrom k fs) p e), λ w. ap answered (newest-is k fs p w))
+  pub at-exactly : (p : ℕ) → (searchedBy (newestFrom k fs) ≡ At p) ↔ NewestAt k fs p
+  at-exactly p = (λ e. is-newest k fs p (answered-at (newestFrom k fs) p e), λ w. ap searchedBy (newest-is k fs p w))
 
-  pub none-exactly : (answered (newestFrom k fs) ≡ Nowhere) ↔ NoneHandsOver k fs
-  none-exactly = (λ e. is-none k fs (answered-none (newestFrom k fs) e), λ h. ap answered (none-is k fs h))
+  pub none-exactly : (searchedBy (newestFrom k fs) ≡ Nowhere) ↔ NoneHandsOver k fs
+  none-exactly = (λ e. is-none k fs (answered-none (newestFrom k fs) e), λ h. ap searchedBy (none-is k fs h))
 
 -- of a thread that is live or not
 module _ (k : Key) (fs : List Frame) where
   abbrev judged : Bool → Searched
-  judged live = cond live (answered (newestFrom k fs)) (Refused NoThread)
+  judged live = cond live (searchedBy (newestFrom k fs)) (Refused NoThread)
 
   judged-at : (live : Bool) (p : ℕ) → (judged live ≡ At p) ↔ ((live ≡ true) × NewestAt k fs p)
   judged-at true p = (λ e. (refl, at-exactly k fs p .0 e), λ w. at-exactly k fs p .1 (w .1))
@@ -132,7 +133,7 @@ exactly d n k =
 
 -- ---- a place of any arrays
 
-few-frames : (t : Table) → length (orDefault blankThread (λ t. t) (threadIn (placeIn t)) .frames) ≤ 16
+few-frames : (t : Table) → length (orDefault blankThread (λ t. t) (threadIn (placeIn t)) .frames) ≤ mostFrames
 few-frames t =
     caseBool (eqb (cell (rowAt t 0) liveCell) 0)
     (λ e. rw e (omega arith))
@@ -142,6 +143,6 @@ pub low-places : LowPlaces
 unfolding stateOf
 low-places d n k p e =
     let i = placeOf n (map placeIn (d .threads)) in
-    let few : length (threadAt (stateOf d) n .frames) ≤ 16 = rw (place-at (d .threads) i) (few-frames (tableAt (d .threads) i)) in
+    let few : length (threadAt (stateOf d) n .frames) ≤ mostFrames = rw (place-at (d .threads) i) (few-frames (tableAt (d .threads) i)) in
     let inside = exactly (stateOf d) n k .at p .0 e .1 .inside in
     omega (arith, few, inside)

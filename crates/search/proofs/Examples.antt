@@ -48,4 +48,13 @@ examples =
       deepFirst = refl;
       deepShared = refl;
       deepLast = refl;
+      place = refl;
+      none = refl;
+      noThread = refl;
+      lastSegment = refl;
+      nextSegment = refl;
+      lastKey = refl;
+      nextKey = refl;
+      user = refl;
+      thread = refl;
     }

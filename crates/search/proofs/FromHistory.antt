@@ -20,7 +20,7 @@ use Rattle.model.proofs.Agreement.Mirror.{mirror}
 use Rattle.checking.specs.Newest.{newestFrom}
 use Rattle.search.specs.declared.Searched.{Searched}
 use Rattle.search.specs.declared.Searched.the-variants.{At, Nowhere, Refused}
-use Rattle.search.specs.Searching.{answered, searched}
+use Rattle.search.specs.Searching.{searchedBy, searched}
 use Rattle.search.specs.Theorems.Exactly.{NewestAt, NoneHandsOver}
 use Rattle.search.specs.Theorems.FromHistory.{searchedAfter, searchedFrom, ExactAfter, FromHistory}
 use Rattle.search.proofs.Exactly.{at-exactly, none-exactly, answered-unrefused, apart, refusal-is}
@@ -28,7 +28,7 @@ use Rattle.search.proofs.Exactly.{at-exactly, none-exactly, answered-un
 -- a state in which thread n is as the optional thread says
 module _ (d : State) (n : ℕ) (k : Key) where
   abbrev from : Option Thread → Searched
-  from o = orDefault (Refused NoThread) (λ t. answered (newestFrom k (t .frames))) o
+  from o = orDefault (Refused NoThread) (λ t. searchedBy (newestFrom k (t .frames))) o
 
   searched-as : (o : Option Thread) → isLive d n ≡ isSome o → ((t : Thread) → o ≡ some t → threadAt d n ≡ t) → searched d n k ≡ from o
   unfolding searched
@@ -38,7 +38,7 @@ module _ (d : State) (n : ℕ) (k : Key) where
 -- the answer by an optional thread, in words
 module _ (k : Key) where
   abbrev answer : Option Thread → Searched
-  answer o = orDefault (Refused NoThread) (λ t. answered (newestFrom k (t .frames))) o
+  answer o = orDefault (Refused NoThread) (λ t. searchedBy (newestFrom k (t .frames))) o
 
   from-at : (o : Option Thread) (p : ℕ) → (answer o ≡ At p) ↔ ((t : Thread) × (o ≡ some t) × NewestAt k (t .frames) p)
   from-at none p = (λ e. apart e (λ z. omega arith), λ w. absurd (some≢none (sym (w .1))))

@@ -21,11 +21,11 @@ use Rattle.checking.specs.Newest.{newestFrom}
 use Rattle.checking.proofs.KeyCells.{not-listed, user-not-listed, thread-not-listed}
 use Rattle.checking.proofs.NewestFrames.{some-hands}
 use Rattle.search.specs.declared.Searched.the-variants.{Nowhere}
-use Rattle.search.specs.Searching.{answered, searched, isFound}
+use Rattle.search.specs.Searching.{searchedBy, searched, isFound}
 use Rattle.search.specs.Theorems.FromHistory.{searchedAfter}
 use Rattle.search.specs.Theorems.KeySets.{isOwnKey, KeySets}
 
-found-some : (o : Option ℕ) → isFound (answered o) ≡ isSome o
+found-some : (o : Option ℕ) → isFound (searchedBy o) ≡ isSome o
 found-some none = refl
 found-some (some p) = refl
 

@@ -15,9 +15,9 @@ use Rattle.model.specs.Cells.{Cells, tableAt, framesOf, depthOf, stateOf}
 use Rattle.model.proofs.Refinement.ThreadTables.{length-frames}
 use Rattle.threads.specs.Places.{Placed}
 use Rattle.threads.proofs.FoundThread.{stands, not-live}
-use Rattle.checking.specs.Newest.{newestFrom, Found}
+use Rattle.checking.specs.Newest.{newestFrom, NewestPlace}
 use Rattle.search.specs.declared.Searched.the-variants.{At, Nowhere, Refused}
-use Rattle.search.specs.Searching.{answered, searched}
+use Rattle.search.specs.Searching.{searchedBy, searched}
 use Rattle.search.proofs.Exactly.{is-newest}
 
 -- a place is below the limit exactly where there is one
@@ -43,19 +43,19 @@ module _ (d : Cells) (n i : ℕ) (k : Key) (placed : Placed (d .threads) n (isTh
   unfolding searched
   missing h = let none-live = not-live d n i (placed .count) (placed .place) h in rw none-live refl
 
-  module _ (here : i < mostThreads) {r : ℕ} (found : Found (tableAt (d .threads) i) k r) where
+  module _ (here : i < mostThreads) {r : ℕ} (found : NewestPlace (tableAt (d .threads) i) k r) where
     abbrev frames : List Frame
     frames = framesOf (tableAt (d .threads) i) (depthOf (tableAt (d .threads) i))
 
     few : length frames ≤ mostFrames
     few = let l = length-frames (tableAt (d .threads) i) (depthOf (tableAt (d .threads) i)) in omega (arith, l)
 
-    by-table : answered (newestFrom k frames) ≡ searched (stateOf d) n k
+    by-table : searchedBy (newestFrom k frames) ≡ searched (stateOf d) n k
     unfolding searched
     by-table = let standing = stands d n i (placed .count) (placed .place) here in rw (standing .live, standing .thread) refl
 
     pub at-place : r < mostFrames → At r ≡ searched (stateOf d) n k
-    at-place low = sym (ap answered (placed-at k frames few (found .place) low)) ∙ by-table
+    at-place low = sym (ap searchedBy (placed-at k frames few (found .place) low)) ∙ by-table
 
     pub at-none : mostFrames ≤ r → Nowhere ≡ searched (stateOf d) n k
-    at-none high = sym (ap answered (placed-nowhere k frames few (found .place) high)) ∙ by-table
+    at-none high = sym (ap searchedBy (placed-nowhere k frames few (found .place) high)) ∙ by-table

@@ -5,20 +5,19 @@ use mathlib.Core.Bool.{true, false}
 use mathlib.Core.List.{[], _∷_}
 use Prim.Native.Nat.{_/_, _%_, _<_}
 use Rattle.product.specs.declared.literal.Literal.the-variants.{Plain, Barred}
-use Rattle.product.specs.declared.literal.Key.the-variants.{User, Thread, Segment, Defined}
-use Rattle.product.specs.Code.{keyAt}
+use Rattle.product.specs.declared.literal.Key.the-variants.{User, Segment, Defined}
 use Rattle.formula.specs.Outcome.{accepted, malformed, tooWide, unsatisfiable}
 use Rattle.journal.specs.declared.record.Found.the-variants.{Record, End, Damaged}
 use Rattle.model.specs.declared.answer.Refusal.the-variants.{UnknownUser, NoThread, Full, Denied, Corrupt}
 use Rattle.model.specs.declared.answer.Answer.{Answer}
 use Rattle.model.specs.declared.answer.Answer.the-variants.{Accepted, Refused}
 use Rattle.model.specs.Answers.{answerNumber, answerValue}
-use Rattle.model.specs.State.{emptyState}
+use Rattle.model.specs.State.{State, taken}
 use Rattle.search.specs.declared.Searched.the-variants.{At, Nowhere, Refused as RefusedSearch}
 use Rattle.abi.specs.Answers.{issuedWith, numberIn, rowsIn, bit}
 use Rattle.abi.specs.Calls.{answerCode}
 use Rattle.abi.specs.Files.{presentNumber, valuesIn}
-use Rattle.abi.specs.KeySearch.{searchCode, searchedNumber}
+use Rattle.abi.specs.KeySearch.{searchCode, searchedFor}
 use Rattle.abi.specs.Left.{leftIn}
 use Rattle.abi.specs.Version.{version}
 
@@ -28,6 +27,24 @@ CodeTakenApart =
     (r : Answer) → answerValue r < 65536 → (answerCode r / 65536 ≡ answerNumber r)
     × (answerCode r % 65536 ≡ answerValue r)
 
+-- thread 0 with one open call, of segment 0, which handed over S0 and D0
+abbrev pub oneCall : State
+oneCall =
+    record {
+      users = 1;
+      threadNumbers = 1;
+      lockNumbers = 0;
+      makers = 0 ∷ [];
+      segments = [];
+      places =
+          taken 0
+          (record {
+            user = 0;
+            frames = record { segment = 0; keys = Segment 0 ∷ Defined 0 ∷ [] } ∷ [];
+          })
+          ∷ [];
+    }
+
 pub record Examples : Type 0 where
   -- calls: lock 7; 1; 10; 14 by lock 3; 18
   pub lock-seven : answerCode (Accepted 7) ≡ 7
@@ -35,15 +52,18 @@ pub record Examples : Type 0 where
   pub full : answerCode (Refused Full) ≡ 655360
   pub denied : answerCode (Refused (Denied 3)) ≡ 917507
   pub corrupt : answerCode (Refused Corrupt) ≡ 1179648
-  -- the key search: the oldest of sixteen calls, none, and 2; the numbers of U0, R5, S0, the last D key, and of no key
+  -- the key search: the oldest of sixteen calls, none, and 2; of a thread whose one open call handed over S0 and D0 the
+  -- numbers of S0, D0, U0, S1, and of no key
   pub last-place : searchCode (At 15) ≡ 15
   pub no-place : searchCode Nowhere ≡ 65535
-  pub no-run : searchCode (RefusedSearch NoThread) ≡ 131072
-  pub user-key : keyAt 0 ≡ User 0
-  pub thread-key : keyAt 65541 ≡ Thread 5
-  pub segment-key : keyAt 131072 ≡ Segment 0
-  pub defined-key : keyAt 262143 ≡ Defined 65535
-  pub no-key : searchedNumber emptyState 0 262144 ≡ RefusedSearch NoThread
+  pub no-thread : searchCode (RefusedSearch NoThread) ≡ 131072
+  pub finds-segment : searchCode (searchedFor oneCall 0 131072) ≡ 0
+  pub finds-defined : searchCode (searchedFor oneCall 0 196608) ≡ 0
+  pub lacks-user : searchCode (searchedFor oneCall 0 0) ≡ 65535
+  pub lacks-segment : searchCode (searchedFor oneCall 0 131073) ≡ 65535
+  pub no-key : searchCode (searchedFor oneCall 0 262144) ≡ 65535
+  pub no-key-again : searchCode (searchedFor oneCall 0 458752) ≡ 65535
+  pub no-key-of-none : searchCode (searchedFor oneCall 1 262144) ≡ 131072
   -- texts: the number of products, or 11, 12 and 13; on a refusal the lent rows stay
   pub two-products : numberIn (accepted ((Plain (User 0) ∷ []) ∷ (Barred (Defined 1) ∷ []) ∷ [])) ≡ 2
   pub malformed-number : numberIn malformed ≡ 11

@@ -1,7 +1,9 @@
--- Searches worked out by hand, after calls of a day: which open call of a thread hands a key over, the newest first.
+-- Searches worked out by hand, after a list of calls: which open call of a thread hands a key over, the newest first.
 -- Proved in `proofs/Examples.antt`, by computing.
 use mathlib.Core.Path.{_≡_}
+use mathlib.Core.Bool.{true, false}
 use mathlib.Core.List.{List, [], _∷_, _++_}
+use Prim.Native.Nat.{ℕ}
 use lib.ListN.{replicate}
 use Rattle.base.specs.Bytes.{bytes}
 use Rattle.product.specs.declared.literal.Key.the-variants.{User, Thread, Segment, Defined}
@@ -9,10 +11,13 @@ use Rattle.formula.specs.Outcome.{outcomeOf}
 use Rattle.model.specs.declared.answer.Refusal.the-variants.{NoThread}
 use Rattle.model.specs.State.{State}
 use Rattle.model.specs.Cells.{stateOf}
-use Rattle.model.specs.Replay.{reached}
+use Rattle.model.specs.History.{Event}
+use Rattle.model.specs.Replay.{reached, events}
 use Rattle.model.specs.Notation.{Expected, U, S, E, N, K, G, T, L, C, R, ok, no, Happens, callsOf}
+use Rattle.search.specs.declared.Searched.{Searched}
 use Rattle.search.specs.declared.Searched.the-variants.{At, Nowhere, Refused}
-use Rattle.search.specs.Searching.{searched}
+use Rattle.search.specs.Searching.{searched, searchedNumber, searchedValue}
+use Rattle.search.specs.Theorems.HandedOut.{canBeListedAfter}
 
 -- Users 0 and 1; code segments 0, 1 and 2 of user 0, who may call them; segment 0 hands over S0 and D0, segment 1 S1,
 -- D0 and D1, segment 2 S2. Threads 0 to 2 are user 0's; thread 2 has ended, and there is no thread 3.
@@ -69,10 +74,16 @@ afterReturn = stateOf (reached outcomeOf (callsOf (office ++ route ++ return)))
 unfoldable pub atDepth : State
 atDepth = stateOf (reached outcomeOf (callsOf (office ++ route ++ deep)))
 
+abbrev pub numbers : Searched → ℕ × ℕ
+numbers s = (searchedNumber s, searchedValue s)
+
+abbrev pub dayEvents : List Event
+dayEvents = events outcomeOf (callsOf (office ++ route))
+
 pub record Examples : Type 0 where
   pub returnHappens : Happens (office ++ route ++ return)
   pub deepHappens : Happens (office ++ route ++ deep)
-  -- S1 and D0 are in two lists and three: the newest call's place; D1 in the older of the two calls of segment 1
+  -- S1 is in two lists, D0 in three: the newest one's place; D1 is only in the older call of segment 1
   pub newest : searched desk 0 (Segment 2) ≡ At 0
   pub second : searched desk 0 (Segment 1) ≡ At 1
   pub shared : searched desk 0 (Defined 0) ≡ At 1
@@ -80,7 +91,7 @@ pub record Examples : Type 0 where
   pub oldest : searched desk 0 (Segment 0) ≡ At 3
   -- given after the call was made
   pub given : searched desk 0 (Defined 2) ≡ Nowhere
-  -- held, and handed over by no call; and another's
+  -- its own U and R keys, held but handed over by no call; and another user's
   pub ownUser : searched desk 0 (User 0) ≡ Nowhere
   pub ownThread : searched desk 0 (Thread 0) ≡ Nowhere
   pub otherUser : searched desk 0 (User 1) ≡ Nowhere
@@ -101,10 +112,21 @@ pub record Examples : Type 0 where
   pub ended : searched desk 2 (Segment 0) ≡ Refused NoThread
   pub endedOwn : searched desk 2 (User 0) ≡ Refused NoThread
   pub unknown : searched desk 3 (Segment 64) ≡ Refused NoThread
-  -- places count all open calls, whatever they hand over
+  -- after the return, and at depth 16: places count all open calls, whatever they hand over
   pub returned : searched afterReturn 0 (Segment 2) ≡ Nowhere
   pub returnedFirst : searched afterReturn 0 (Defined 0) ≡ At 0
   pub returnedLast : searched afterReturn 0 (Segment 0) ≡ At 2
   pub deepFirst : searched atDepth 0 (Segment 2) ≡ At 0
   pub deepShared : searched atDepth 0 (Defined 0) ≡ At 13
   pub deepLast : searched atDepth 0 (Segment 0) ≡ At 15
+  -- the numbers of each kind of answer
+  pub place : numbers (At 3) ≡ (0, 3)
+  pub none : numbers Nowhere ≡ (0, 65535)
+  pub noThread : numbers (Refused NoThread) ≡ (2, 0)
+  -- three segments and three D keys are handed out
+  pub lastSegment : canBeListedAfter dayEvents (Segment 2) ≡ true
+  pub nextSegment : canBeListedAfter dayEvents (Segment 3) ≡ false
+  pub lastKey : canBeListedAfter dayEvents (Defined 2) ≡ true
+  pub nextKey : canBeListedAfter dayEvents (Defined 3) ≡ false
+  pub user : canBeListedAfter dayEvents (User 0) ≡ false
+  pub thread : canBeListedAfter dayEvents (Thread 0) ≡ false

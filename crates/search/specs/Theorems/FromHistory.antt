@@ -18,7 +18,7 @@ use Rattle.model.specs.Replay.{reached, events, historyOf}
 use Rattle.checking.specs.Newest.{newestFrom}
 use Rattle.search.specs.declared.Searched.{Searched}
 use Rattle.search.specs.declared.Searched.the-variants.{At, Nowhere, Refused}
-use Rattle.search.specs.Searching.{answered, searched}
+use Rattle.search.specs.Searching.{searchedBy, searched}
 use Rattle.search.specs.Theorems.Exactly.{NewestAt, NoneHandsOver}
 
 -- what the search answers after the list of calls
@@ -27,7 +27,7 @@ searchedAfter xs n k = searched (stateOf (reached outcomeOf xs)) n k
 
 -- the same from the calls with their answers
 abbrev pub searchedFrom : List Event → ℕ → Key → Searched
-searchedFrom es n k = orDefault (Refused NoThread) (λ t. answered (newestFrom k (t .frames))) (history es .threads n)
+searchedFrom es n k = orDefault (Refused NoThread) (λ t. searchedBy (newestFrom k (t .frames))) (history es .threads n)
 
 -- and in words
 pub record ExactAfter (xs : List Call) (n : ℕ) (k : Key) : Type 0 where
