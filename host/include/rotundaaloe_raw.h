@@ -142,7 +142,8 @@ uint32_t rotundaaloe_raw_list_locks(
 /*
  * The newest open call of thread a that hands a key over. key is the key's number,
  * kind * 65536 + number, with kind 0 user, 1 thread, 2 segment, 3 defined. No call hands over a
- * user's key or a thread's, though they are held, nor a number from 262144 on, which is no key's.
+ * user's key or a thread's, also where the thread holds it, nor a number from 262144 on, which is
+ * no key's.
  *
  * Answer: below 65536 the call's place among all open calls of the thread, 0 for the newest, or
  * 65535 where none hands the key over. Any other is refusal * 65536: 2 (no live thread).

@@ -16,7 +16,7 @@ use Rattle.model.specs.declared.answer.Refusal.the-variants.{NoThread}
 use Rattle.model.specs.State.{State, isLive}
 use Rattle.model.specs.Cells.{Cells, stateOf}
 use Rattle.search.specs.declared.Searched.{Searched}
-use Rattle.search.specs.declared.Searched.the-variants.{Nowhere, Refused}
+use Rattle.search.specs.declared.Searched.the-variants.{At, Nowhere, Refused}
 use Rattle.search.specs.Searching.{searched, searchedNumber, searchedValue}
 use Rattle.search.proofs.Exactly.{exactly}
 use Rattle.search.proofs.KeySets.{key-sets}
@@ -73,5 +73,21 @@ by-key d n k h =
 beyond : (d : State) (n x : ℕ) → keyLimit ≤ x → isLive d n ≡ true → searchedFor d n x ≡ Nowhere
 beyond d n x h live = let high = le-ltb x keyLimit h in rw (high, live) refl
 
+not-live : (d : State) (n x : ℕ) → isLive d n ≡ false → searchedFor d n x ≡ Refused NoThread
+not-live d n x dead =
+    caseBool (ltb x keyLimit)
+    (λ e. rw e (exactly d n (keyAt x) .refused NoThread .1 (dead, refl)))
+    (λ e. rw (e, dead) refl)
+
+own-number : (p : ℕ) → searchCode (At p) ≡ p
+own-number p = omega arith
+
 pub key-numbers : KeyNumbers
-key-numbers = record { key = by-key; beyond = beyond; apart = λ s. taken-apart (searchedNumber s) (searchedValue s) }
+key-numbers =
+    record {
+      key = by-key;
+      beyond = beyond;
+      refused = not-live;
+      place = own-number;
+      apart = λ s. taken-apart (searchedNumber s) (searchedValue s);
+    }

@@ -51,10 +51,11 @@ examples =
       place = refl;
       none = refl;
       noThread = refl;
-      lastSegment = refl;
-      nextSegment = refl;
-      lastKey = refl;
-      nextKey = refl;
-      user = refl;
-      thread = refl;
+      found = refl;
+      own = refl;
+      ofThree = refl;
+      ofFour = refl;
+      identity = refl;
+      listedSegments = refl;
+      listedKeys = refl;
     }

@@ -1,6 +1,6 @@
 -- The key set asks the frames in any order, the search the newest first: both find a key or neither does.
 use mathlib.Core.Path.{_≡_, refl, sym, ap, _∙_}
-use mathlib.Core.Bool.{Bool, true, false, _||_}
+use mathlib.Core.Bool.{Bool, true, false, _&&_, _||_}
 use mathlib.Core.List.{List, map}
 use mathlib.Core.Option.{Option, none, some}
 use Prim.Native.Nat.{ℕ}
@@ -18,7 +18,7 @@ use Rattle.model.specs.Replay.{reached, historyOf}
 use Rattle.model.proofs.Agreement.Mirror.{mirror}
 use Rattle.threads.proofs.PlaceScan.{place-at}
 use Rattle.checking.specs.Newest.{newestFrom}
-use Rattle.checking.proofs.KeyCells.{not-listed, user-not-listed, thread-not-listed}
+use Rattle.checking.proofs.KeyCells.{same-key, not-listed, user-not-listed, thread-not-listed}
 use Rattle.checking.proofs.NewestFrames.{some-hands}
 use Rattle.search.specs.declared.Searched.the-variants.{Nowhere}
 use Rattle.search.specs.Searching.{searchedBy, searched, isFound}
@@ -75,11 +75,30 @@ module _ (k : Key) (unlisted : (x : ℕ) → sameKey k (keyIn x) ≡ false) wher
   unfolding searched
   nowhere d n live = rw (live, in-cells d n) refl
 
+-- an own key is a U or an R key
+own-nowhere : (d : Cells) (n : ℕ) (k : Key) → isLive (stateOf d) n ≡ true → isOwnKey n (threadAt (stateOf d) n) k ≡ true
+    → searched (stateOf d) n k ≡ Nowhere
+own-nowhere d n k live own =
+    let u = threadAt (stateOf d) n .user in
+    caseBool (sameKey k (User u))
+    (λ e. ap (searched (stateOf d) n) (same-key k (User u) e) ∙ nowhere (User u) (λ x. user-not-listed x u) d n live)
+    (λ e.
+    let is : sameKey k (ThreadKey n) ≡ true = rw e at own in
+    ap (searched (stateOf d) n) (same-key k (ThreadKey n) is) ∙ nowhere (ThreadKey n) (λ x. thread-not-listed x n) d n live)
+
+not-both : (d : Cells) (n : ℕ) (k : Key) → isLive (stateOf d) n ≡ true
+    → (isOwnKey n (threadAt (stateOf d) n) k && isFound (searched (stateOf d) n k)) ≡ false
+not-both d n k live =
+    caseBool (isOwnKey n (threadAt (stateOf d) n) k)
+    (λ own. rw (own, own-nowhere d n k live own) refl)
+    (λ other. rw other refl)
+
 pub key-sets : KeySets
 key-sets =
     record {
       held = held;
       heldAfter = held-after;
+      notBoth = not-both;
       users = λ d n u. nowhere (User u) (λ x. user-not-listed x u) d n;
       threads = λ d n m. nowhere (ThreadKey m) (λ x. thread-not-listed x m) d n;
     }

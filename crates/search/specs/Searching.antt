@@ -25,8 +25,8 @@ searched d n k = cond (isLive d n) (searchedBy (newestFrom k (threadAt d n .fram
 abbrev pub SearchesLent : (Cells → Cells) → ℕ → Key → Searched → Type 0
 SearchesLent lent n k r = (d : Cells) → r ≡ searched (stateOf (lent d)) n k
 
--- document 01's number of each case, 0 where nothing is refused, and its value: the place. None has no number in the
--- documents; the greatest of 16 bits stands for it, which is no place (`LowPlaces` of `Exactly`).
+-- document 01's number of each case, 0 where nothing is refused, and its value: the place. None has no value in the
+-- documents; 65535 stands for it, which is no place (`LowPlaces` of `Exactly`).
 abbrev pub searchedNumber : Searched → ℕ
 searchedNumber (At p) = 0
 searchedNumber Nowhere = 0

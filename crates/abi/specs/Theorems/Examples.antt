@@ -27,20 +27,20 @@ CodeTakenApart =
     (r : Answer) → answerValue r < 65536 → (answerCode r / 65536 ≡ answerNumber r)
     × (answerCode r % 65536 ≡ answerValue r)
 
--- thread 0 with one open call, of segment 0, which handed over S0 and D0
+-- thread 0 with one open call, of segment 0, which handed over S0 and D1
 abbrev pub oneCall : State
 oneCall =
     record {
       users = 1;
       threadNumbers = 1;
       lockNumbers = 0;
-      makers = 0 ∷ [];
+      makers = 0 ∷ 0 ∷ [];
       segments = [];
       places =
           taken 0
           (record {
             user = 0;
-            frames = record { segment = 0; keys = Segment 0 ∷ Defined 0 ∷ [] } ∷ [];
+            frames = record { segment = 0; keys = Segment 0 ∷ Defined 1 ∷ [] } ∷ [];
           })
           ∷ [];
     }
@@ -52,15 +52,17 @@ pub record Examples : Type 0 where
   pub full : answerCode (Refused Full) ≡ 655360
   pub denied : answerCode (Refused (Denied 3)) ≡ 917507
   pub corrupt : answerCode (Refused Corrupt) ≡ 1179648
-  -- the key search: the oldest of sixteen calls, none, and 2; of a thread whose one open call handed over S0 and D0 the
-  -- numbers of S0, D0, U0, S1, and of no key
+  -- the key search: the oldest of sixteen calls, none, and 2; of a thread whose one open call handed over S0 and D1 the
+  -- numbers of S0, D1, U0, R1, S1 and D0, and of no key
   pub last-place : searchCode (At 15) ≡ 15
   pub no-place : searchCode Nowhere ≡ 65535
   pub no-thread : searchCode (RefusedSearch NoThread) ≡ 131072
   pub finds-segment : searchCode (searchedFor oneCall 0 131072) ≡ 0
-  pub finds-defined : searchCode (searchedFor oneCall 0 196608) ≡ 0
+  pub finds-defined : searchCode (searchedFor oneCall 0 196609) ≡ 0
   pub lacks-user : searchCode (searchedFor oneCall 0 0) ≡ 65535
+  pub lacks-thread : searchCode (searchedFor oneCall 0 65537) ≡ 65535
   pub lacks-segment : searchCode (searchedFor oneCall 0 131073) ≡ 65535
+  pub lacks-defined : searchCode (searchedFor oneCall 0 196608) ≡ 65535
   pub no-key : searchCode (searchedFor oneCall 0 262144) ≡ 65535
   pub no-key-again : searchCode (searchedFor oneCall 0 458752) ≡ 65535
   pub no-key-of-none : searchCode (searchedFor oneCall 1 262144) ≡ 131072

@@ -2,22 +2,23 @@
 -- Proved in `proofs/Examples.antt`, by computing.
 use mathlib.Core.Path.{_≡_}
 use mathlib.Core.Bool.{true, false}
-use mathlib.Core.List.{List, [], _∷_, _++_}
+use mathlib.Core.List.{List, [], _∷_, _++_, map}
 use Prim.Native.Nat.{ℕ}
 use lib.ListN.{replicate}
 use Rattle.base.specs.Bytes.{bytes}
 use Rattle.product.specs.declared.literal.Key.the-variants.{User, Thread, Segment, Defined}
 use Rattle.formula.specs.Outcome.{outcomeOf}
 use Rattle.model.specs.declared.answer.Refusal.the-variants.{NoThread}
-use Rattle.model.specs.State.{State}
+use Rattle.model.specs.State.{State, threadAt}
 use Rattle.model.specs.Cells.{stateOf}
 use Rattle.model.specs.History.{Event}
 use Rattle.model.specs.Replay.{reached, events}
 use Rattle.model.specs.Notation.{Expected, U, S, E, N, K, G, T, L, C, R, ok, no, Happens, callsOf}
 use Rattle.search.specs.declared.Searched.{Searched}
 use Rattle.search.specs.declared.Searched.the-variants.{At, Nowhere, Refused}
-use Rattle.search.specs.Searching.{searched, searchedNumber, searchedValue}
-use Rattle.search.specs.Theorems.HandedOut.{canBeListedAfter}
+use Rattle.search.specs.Searching.{searched, searchedNumber, searchedValue, isFound}
+use Rattle.search.specs.Theorems.KeySets.{isOwnKey}
+use Rattle.search.specs.Theorems.HandedOut.{canBeListed, canBeListedAfter}
 
 -- Users 0 and 1; code segments 0, 1 and 2 of user 0, who may call them; segment 0 hands over S0 and D0, segment 1 S1,
 -- D0 and D1, segment 2 S2. Threads 0 to 2 are user 0's; thread 2 has ended, and there is no thread 3.
@@ -31,6 +32,7 @@ office =
     ∷ ok (K 0) 0
     ∷ ok (K 0) 1
     ∷ ok (K 0) 2
+    ∷ ok (K 0) 3
     ∷ ok (G 0 0 0) 2
     ∷ ok (G 0 1 0) 2
     ∷ ok (G 0 1 1) 3
@@ -97,7 +99,7 @@ pub record Examples : Type 0 where
   pub otherUser : searched desk 0 (User 1) ≡ Nowhere
   -- never handed out: no 4
   pub noSegment : searched desk 0 (Segment 3) ≡ Nowhere
-  pub noKey : searched desk 0 (Defined 3) ≡ Nowhere
+  pub noKey : searched desk 0 (Defined 4) ≡ Nowhere
   -- in the cells of a list D0, D1 are 64 and 65, no key is 65535; and 65536, in 16 bits, would be S0
   pub segment64 : searched desk 0 (Segment 64) ≡ Nowhere
   pub segment65 : searched desk 0 (Segment 65) ≡ Nowhere
@@ -119,14 +121,19 @@ pub record Examples : Type 0 where
   pub deepFirst : searched atDepth 0 (Segment 2) ≡ At 0
   pub deepShared : searched atDepth 0 (Defined 0) ≡ At 13
   pub deepLast : searched atDepth 0 (Segment 0) ≡ At 15
-  -- the numbers of each kind of answer
+  -- the numbers of each kind of answer, and whether the key is found
   pub place : numbers (At 3) ≡ (0, 3)
   pub none : numbers Nowhere ≡ (0, 65535)
   pub noThread : numbers (Refused NoThread) ≡ (2, 0)
-  -- three segments and three D keys are handed out
-  pub lastSegment : canBeListedAfter dayEvents (Segment 2) ≡ true
-  pub nextSegment : canBeListedAfter dayEvents (Segment 3) ≡ false
-  pub lastKey : canBeListedAfter dayEvents (Defined 2) ≡ true
-  pub nextKey : canBeListedAfter dayEvents (Defined 3) ≡ false
-  pub user : canBeListedAfter dayEvents (User 0) ≡ false
-  pub thread : canBeListedAfter dayEvents (Thread 0) ≡ false
+  pub found : map isFound (At 3 ∷ Nowhere ∷ Refused NoThread ∷ []) ≡ true ∷ false ∷ false ∷ []
+  -- thread 0's own keys are U0 and R0
+  pub own : map (isOwnKey 0 (threadAt desk 0)) (User 0 ∷ User 1 ∷ Thread 0 ∷ Thread 1 ∷ Segment 0 ∷ Defined 0 ∷ [])
+      ≡ true ∷ false ∷ true ∷ false ∷ false ∷ false ∷ []
+  -- what can be listed of three segments and four D keys, of four and three, and after these calls, of three and four
+  pub ofThree : map (canBeListed 3 4) (Segment 2 ∷ Segment 3 ∷ Defined 3 ∷ Defined 4 ∷ [])
+      ≡ true ∷ false ∷ true ∷ false ∷ []
+  pub ofFour : map (canBeListed 4 3) (Segment 3 ∷ Segment 4 ∷ Defined 2 ∷ Defined 3 ∷ [])
+      ≡ true ∷ false ∷ true ∷ false ∷ []
+  pub identity : map (canBeListed 3 4) (User 0 ∷ Thread 0 ∷ []) ≡ false ∷ false ∷ []
+  pub listedSegments : map (canBeListedAfter dayEvents) (Segment 2 ∷ Segment 3 ∷ []) ≡ true ∷ false ∷ []
+  pub listedKeys : map (canBeListedAfter dayEvents) (Defined 3 ∷ Defined 4 ∷ []) ≡ true ∷ false ∷ []

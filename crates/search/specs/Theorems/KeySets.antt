@@ -1,7 +1,7 @@
 -- A key is in a thread's key set exactly when it is its own U or R key or the search finds it; and it is never both,
 -- whatever numbers are in the arrays: no open call hands a U or R key over. Proved in `proofs/KeySets.antt`.
 use mathlib.Core.Path.{_≡_}
-use mathlib.Core.Bool.{Bool, true, _||_}
+use mathlib.Core.Bool.{Bool, true, false, _&&_, _||_}
 use mathlib.Core.List.{List}
 use mathlib.Core.Option.{some}
 use Prim.Native.Nat.{ℕ}
@@ -27,5 +27,7 @@ pub record KeySets : Type 0 where
   -- the key set by which `Granting` judges a C or an A after a list of calls
   pub heldAfter : (xs : List Call) (n : ℕ) (t : Thread) (k : Key) → historyOf outcomeOf xs .threads n ≡ some t
       → keySet n t k ≡ (isOwnKey n t k || isFound (searchedAfter xs n k))
+  pub notBoth : (d : Cells) (n : ℕ) (k : Key) → isLive (stateOf d) n ≡ true
+      → (isOwnKey n (threadAt (stateOf d) n) k && isFound (searched (stateOf d) n k)) ≡ false
   pub users : (d : Cells) (n u : ℕ) → isLive (stateOf d) n ≡ true → searched (stateOf d) n (User u) ≡ Nowhere
   pub threads : (d : Cells) (n m : ℕ) → isLive (stateOf d) n ≡ true → searched (stateOf d) n (ThreadKey m) ≡ Nowhere
