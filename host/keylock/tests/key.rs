@@ -5,9 +5,11 @@
 mod commands;
 #[expect(dead_code, reason = "other tests use the rest")]
 mod journals;
+mod questions;
 
 use commands::{Directory, TRIAL, fine, keylock, refused};
 use journals::{borrowed, random_journal};
+use questions::asked_of_an_input_at_fault;
 use reference::history::History;
 use reference::{Key, Kind};
 use rotundaaloe::Guard;
@@ -198,17 +200,7 @@ fn expected_answers_are_not_compared() {
 
 #[test]
 fn an_input_at_fault_finds_nothing() {
-    let key = |input: &[u8]| keylock(&["key", "-", "0", "S0"], input);
-    let right = "keylock: standard input:2:1: 'Z' is no call's letter: \
-        one of U S E N K G T L D C R A\n  Z\n  ^\n1 mistake; nothing was written\n";
-    refused(&key(b"U\nZ\n"), 1, right);
-    let right = "keylock: standard input: no bytes: not a journal (16)\n";
-    refused(&key(b""), 1, right);
-    let right = "keylock: standard input: byte 3: \
-        version 2, only version 1 is known (17 other version)\n";
-    refused(&key(b"KLD\x02\0\0\0"), 1, right);
-    let right = "keylock: no/such: No such file or directory\n";
-    refused(&keylock(&["key", "no/such", "0", "S0"], b""), 2, right);
+    asked_of_an_input_at_fault("key", ["0", "S0"]);
 }
 
 #[track_caller]

@@ -5,9 +5,11 @@
 mod commands;
 #[expect(dead_code, reason = "other tests use the rest")]
 mod journals;
+mod questions;
 
 use commands::{Directory, fine, keylock, refused};
 use journals::random_journal;
+use questions::asked_of_an_input_at_fault;
 use reference::formula::Literal;
 use reference::guard::Guard;
 use reference::listing::Row;
@@ -131,17 +133,7 @@ fn expected_answers_are_not_compared() {
 
 #[test]
 fn an_input_at_fault_lists_nothing() {
-    let locks = |input: &[u8]| keylock(&["locks", "-", "0", "0"], input);
-    let right = "keylock: standard input:2:1: 'Z' is no call's letter: \
-        one of U S E N K G T L D C R A\n  Z\n  ^\n1 mistake; nothing was written\n";
-    refused(&locks(b"U\nZ\n"), 1, right);
-    let right = "keylock: standard input: no bytes: not a journal (16)\n";
-    refused(&locks(b""), 1, right);
-    let right = "keylock: standard input: byte 3: \
-        version 2, only version 1 is known (17 other version)\n";
-    refused(&locks(b"KLD\x02\0\0\0"), 1, right);
-    let right = "keylock: no/such: No such file or directory\n";
-    refused(&keylock(&["locks", "no/such", "0", "0"], b""), 2, right);
+    asked_of_an_input_at_fault("locks", ["0", "0"]);
 }
 
 #[test]

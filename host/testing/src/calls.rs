@@ -7,6 +7,8 @@ mod texts;
 
 use crate::random::Random;
 use reference::call::Call;
+use reference::guard::{Answer, Guard};
+use reference::history::History;
 use reference::journal::Record;
 use reference::letter::Letter;
 use reference::limits::{
@@ -158,6 +160,13 @@ pub fn bare(letter: impl Into<u8>, text_length: usize) -> Record {
         text: vec![b'!'; text_length],
         ..call(letter, 0, 0, 0)
     }
+}
+
+/// One call on the guard, and the history is told of it.
+pub fn told(guard: &mut Guard, history: &mut History, record: &Record) -> Answer {
+    let answer = guard.call(record.letter, record.a, record.b, record.c, &record.text);
+    history.feed(record, answer.ok());
+    answer
 }
 
 pub fn lock(user: u16, segment: u16, operations: u16, text: &[u8]) -> Record {

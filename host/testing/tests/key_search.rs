@@ -94,23 +94,15 @@ impl Office {
     /// The call must be accepted with this answer.
     #[track_caller]
     fn ok(&mut self, record: Record, answer: u16) {
-        let Record {
-            letter, a, b, c, ..
-        } = record;
-        let given = self.guard.call(letter, a, b, c, &record.text);
+        let given = calls::told(&mut self.guard, &mut self.history, &record);
         assert_eq!(given, Ok(answer), "{record:?}");
-        self.history.feed(&record, Some(answer));
     }
 
     /// The call must be refused with this number.
     #[track_caller]
     fn no(&mut self, record: Record, number: u32) {
-        let Record {
-            letter, a, b, c, ..
-        } = record;
-        let given = self.guard.call(letter, a, b, c, &record.text);
+        let given = calls::told(&mut self.guard, &mut self.history, &record);
         assert_eq!(given.map_err(Refusal::number), Err(number), "{record:?}");
-        self.history.feed(&record, None);
     }
 
     /// A key into a segment's list, which then has so many.

@@ -85,12 +85,8 @@ impl Office {
     /// The call must be accepted with this answer.
     #[track_caller]
     fn ok(&mut self, record: Record, answer: u16) {
-        let Record {
-            letter, a, b, c, ..
-        } = record;
-        let given = self.guard.call(letter, a, b, c, &record.text);
+        let given = calls::told(&mut self.guard, &mut self.history, &record);
         assert_eq!(given, Ok(answer), "{record:?}");
-        self.history.feed(&record, Some(answer));
     }
 
     #[track_caller]
