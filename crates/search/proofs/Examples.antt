@@ -53,6 +53,7 @@ examples =
       noThread = refl;
       found = refl;
       own = refl;
+      ofAnother = refl;
       ofThree = refl;
       ofFour = refl;
       identity = refl;

@@ -9,7 +9,7 @@ use Rattle.base.specs.Bytes.{bytes}
 use Rattle.product.specs.declared.literal.Key.the-variants.{User, Thread, Segment, Defined}
 use Rattle.formula.specs.Outcome.{outcomeOf}
 use Rattle.model.specs.declared.answer.Refusal.the-variants.{NoThread}
-use Rattle.model.specs.State.{State, threadAt}
+use Rattle.model.specs.State.{State, freshThread, threadAt}
 use Rattle.model.specs.Cells.{stateOf}
 use Rattle.model.specs.History.{Event}
 use Rattle.model.specs.Replay.{reached, events}
@@ -20,8 +20,9 @@ use Rattle.search.specs.Searching.{searched, searchedNumber, searchedVal
 use Rattle.search.specs.Theorems.KeySets.{isOwnKey}
 use Rattle.search.specs.Theorems.HandedOut.{canBeListed, canBeListedAfter}
 
--- Users 0 and 1; code segments 0, 1 and 2 of user 0, who may call them; segment 0 hands over S0 and D0, segment 1 S1,
--- D0 and D1, segment 2 S2. Threads 0 to 2 are user 0's; thread 2 has ended, and there is no thread 3.
+-- Users 0 and 1; code segments 0, 1 and 2 of user 0, who may call them; D0 to D3. There is no user 5 to make more.
+-- Segment 0 hands over S0 and D0, segment 1 S1, D0 and D1, segment 2 S2. Threads 0 to 2 are user 0's; thread 2 has
+-- ended, and there is no thread 3.
 abbrev pub office : List Expected
 office =
     ok U 0
@@ -33,6 +34,8 @@ office =
     ∷ ok (K 0) 1
     ∷ ok (K 0) 2
     ∷ ok (K 0) 3
+    ∷ no (N 5 0) 1 0
+    ∷ no (K 5) 1 0
     ∷ ok (G 0 0 0) 2
     ∷ ok (G 0 1 0) 2
     ∷ ok (G 0 1 1) 3
@@ -126,9 +129,11 @@ pub record Examples : Type 0 where
   pub none : numbers Nowhere ≡ (0, 65535)
   pub noThread : numbers (Refused NoThread) ≡ (2, 0)
   pub found : map isFound (At 3 ∷ Nowhere ∷ Refused NoThread ∷ []) ≡ true ∷ false ∷ false ∷ []
-  -- thread 0's own keys are U0 and R0
+  -- thread 0's own keys are U0 and R0, and those of a thread 2 of user 1 are U1 and R2
   pub own : map (isOwnKey 0 (threadAt desk 0)) (User 0 ∷ User 1 ∷ Thread 0 ∷ Thread 1 ∷ Segment 0 ∷ Defined 0 ∷ [])
       ≡ true ∷ false ∷ true ∷ false ∷ false ∷ false ∷ []
+  pub ofAnother : map (isOwnKey 2 (freshThread 1)) (User 1 ∷ User 2 ∷ Thread 1 ∷ Thread 2 ∷ [])
+      ≡ true ∷ false ∷ false ∷ true ∷ []
   -- what can be listed of three segments and four D keys, of four and three, and after these calls, of three and four
   pub ofThree : map (canBeListed 3 4) (Segment 2 ∷ Segment 3 ∷ Defined 3 ∷ Defined 4 ∷ [])
       ≡ true ∷ false ∷ true ∷ false ∷ []

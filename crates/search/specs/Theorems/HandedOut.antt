@@ -1,6 +1,6 @@
 -- After every list of calls from the empty state a key that the search finds was handed out: it is the S key of a
 -- segment that an accepted N handed out, or a D key that an accepted K handed out. So a key never handed out is found
--- nowhere, and there is no need of a 4. Proved in `proofs/HandedOut.antt`.
+-- nowhere, and there is no need for a 4. Proved in `proofs/HandedOut.antt`.
 use mathlib.Core.Path.{_≡_}
 use mathlib.Core.Bool.{Bool, true, false}
 use mathlib.Core.List.{List}

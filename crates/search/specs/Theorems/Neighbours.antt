@@ -1,6 +1,5 @@
--- Request P2 for the key search, which is not in the lists: after two lists of calls that become equal once the C, R
--- and A records of threads other than n are struck out, it answers the same of thread n. Proved in
--- `proofs/Neighbours.antt`.
+-- Request P2 for the key search, which is no call: after two lists of calls that become equal once the C, R and A
+-- records of threads other than n are struck out, it answers the same of thread n. Proved in `proofs/Neighbours.antt`.
 use mathlib.Core.Path.{_≡_}
 use mathlib.Core.List.{List}
 use Prim.Native.Nat.{ℕ}
