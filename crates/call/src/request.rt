@@ -13,17 +13,17 @@ pub enum Request {
     StartThread(u16),
     // E, end run: thread
     EndThread(u16),
-    // N, new segment: user, 0 code or 1 sheet
+    // N, new segment: thread, 0 code or 1 sheet
     NewSegment(u16, u16),
-    // K, new D key: user
+    // K, new D key: thread
     NewKey(u16),
-    // G, give key: user, segment, key
+    // G, give key: thread, segment, key
     GiveKey(u16, u16, u16),
-    // T, take key: user, segment, key
+    // T, take key: thread, segment, key
     TakeKey(u16, u16, u16),
-    // L, lock: user, segment, operations
+    // L, lock: thread, segment, operations
     AddLock(u16, u16, u16),
-    // D, drop lock: user, lock
+    // D, drop lock: thread, lock
     DropLock(u16, u16),
     // C, call: thread, segment
     CallSegment(u16, u16),

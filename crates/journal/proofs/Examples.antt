@@ -93,8 +93,11 @@ examples =
       mark-alone = refl;
       six-bytes = refl;
       version-cut = refl;
-      version-two = λ x y t. let s : List ℕ = 75 ∷ 76 ∷ 68 ∷ 2 ∷ 0 ∷ x ∷ y ∷ t in rw (le-leb 3 (length s) (omega arith), le-ltb (length s) 7 (omega arith));
-      version-257 = refl;
+      version-one = λ x y t. let s : List ℕ = 75 ∷ 76 ∷ 68 ∷ 1 ∷ 0 ∷ x ∷ y ∷ t in rw (le-leb 3 (length s) (omega arith), le-ltb (length s) 7 (omega arith));
+      version-zero = refl;
+      version-three = refl;
+      version-258 = refl;
+      version-512 = refl;
       longest-length = longest-is;
       longest-readable = longest-reads;
       one-more-length = one-more-is;

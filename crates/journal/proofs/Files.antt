@@ -14,7 +14,7 @@ use Rattle.base.specs.Conditions.{firstRefusal}
 use Rattle.journal.specs.declared.file.Refusal.{Refusal}
 use Rattle.journal.specs.declared.file.Verdict.the-variants.{Readable}
 use Rattle.journal.specs.declared.append.Appended.the-variants.{Length}
-use Rattle.journal.specs.Format.{mostBytes, isFit}
+use Rattle.journal.specs.Format.{fileVersion, mostBytes, isFit}
 use Rattle.journal.specs.Reading.{word, nextOf, wholeAt, wholeFrom, marked, current, fileConditions, verdict, verdictOf}
 use Rattle.journal.specs.Appending.{lengthWith, ownConditions, appendConditions, answer, appendAnswer}
 use Rattle.base.proofs.Truth.{and-left, and-right, neither}
@@ -68,7 +68,7 @@ mark-of s h =
 pub record File (s : List ℕ) : Type 0 where
   pub mark : marked s ≡ true
   pub least : 7 ≤ length s
-  pub version : word s 3 ≡ 1
+  pub version : word s 3 ≡ fileVersion
   pub most : length s ≤ 65535
   pub records : wholeFrom (word s 5) s 7 ≡ true
 
@@ -77,7 +77,7 @@ passed s a =
     record {
       mark = not-false (marked s) (a .0);
       least = ltb-false (length s) 7 (a .1 .0);
-      version = eqb-true (word s 3) 1 (not-false (current s) (a .1 .1 .0));
+      version = eqb-true (word s 3) fileVersion (not-false (current s) (a .1 .1 .0));
       most = ltb-false mostBytes (length s) (a .1 .1 .1 .0);
       records = not-false (wholeFrom (word s 5) s 7) (a .1 .1 .1 .1 .0);
     }
@@ -90,7 +90,7 @@ pub shut-file : (s : List ℕ) → File s → verdictOf s ≡ Readable
 unfolding verdictOf
 shut-file s f =
     ap verdict (none-first (fileConditions s)
-    (ap not (f .mark), (le-ltb (length s) 7 (f .least), (ap not (eq-eqb (word s 3) 1 (f .version)), (le-ltb mostBytes (length s) (f .most), (ap not (f .records), tt))))))
+    (ap not (f .mark), (le-ltb (length s) 7 (f .least), (ap not (eq-eqb (word s 3) fileVersion (f .version)), (le-ltb mostBytes (length s) (f .most), (ap not (f .records), tt))))))
 
 pub count-small : (s : List ℕ) → File s → word s 5 ≤ 7280
 count-small s f = omega (arith, count-bound (word s 5) s 7 (f .records), f .most)

@@ -12,7 +12,7 @@ use Rattle.journal.specs.declared.file.Refusal.{Refusal}
 use Rattle.journal.specs.declared.file.Refusal.the-variants.{NotJournal, OtherVersion, Corrupt}
 use Rattle.journal.specs.declared.file.Verdict.{Verdict}
 use Rattle.journal.specs.declared.file.Verdict.the-variants.{Readable, Refused}
-use Rattle.journal.specs.Format.{Bytes, mostBytes, Written}
+use Rattle.journal.specs.Format.{Bytes, fileVersion, mostBytes, Written}
 use Rattle.journal.specs.Reading.{word, wholeFrom, marked, verdictOf}
 use Rattle.journal.specs.Theorems.Refuses.{Marked, RefusedBy, unmarked, short, version, long, broken, RefusedExactly}
 use Rattle.journal.proofs.Files.{mark-of, shut-file}
@@ -34,7 +34,7 @@ module _ (s : List ℕ) (bytes : Bytes s) where
       go true e = absurd (no-mark (is-marked e))
       go false e = refl
 
-  broken-is : Marked s → 7 ≤ length s → word s 3 ≡ 1 → length s ≤ mostBytes → (Written s → ⊥) → wholeFrom (word s 5) s 7 ≡ false
+  broken-is : Marked s → 7 ≤ length s → word s 3 ≡ fileVersion → length s ≤ mostBytes → (Written s → ⊥) → wholeFrom (word s 5) s 7 ≡ false
   broken-is m l v k no-file = go (wholeFrom (word s 5) s 7) refl
     where
       go : (b : Bool) → wholeFrom (word s 5) s 7 ≡ b → b ≡ false
@@ -47,34 +47,34 @@ module _ (s : List ℕ) (bytes : Bytes s) where
   unfolding verdictOf
   refused (unmarked n) = rw (unmarked-is n)
   refused (short m l) = rw (marked-is m, lt-ltb (length s) 7 l)
-  refused (version m l v) = rw (marked-is m, le-ltb (length s) 7 l, ne-eqb (word s 3) 1 v)
-  refused (long m l v k) = rw (marked-is m, le-ltb (length s) 7 l, eq-eqb (word s 3) 1 v, lt-ltb mostBytes (length s) k)
+  refused (version m l v) = rw (marked-is m, le-ltb (length s) 7 l, ne-eqb (word s 3) fileVersion v)
+  refused (long m l v k) = rw (marked-is m, le-ltb (length s) 7 l, eq-eqb (word s 3) fileVersion v, lt-ltb mostBytes (length s) k)
   refused (broken m l v k n) =
-      rw (marked-is m, le-ltb (length s) 7 l, eq-eqb (word s 3) 1 v, le-ltb mostBytes (length s) k, broken-is m l v k n)
+      rw (marked-is m, le-ltb (length s) 7 l, eq-eqb (word s 3) fileVersion v, le-ltb mostBytes (length s) k, broken-is m l v k n)
 
   -- ---- every file is one of them, or readable
 
   abbrev Case : Type 0
   Case = ((f : Refusal) × RefusedBy s f) ⊎ (verdictOf s ≡ Readable)
 
-  by-records : Marked s → 7 ≤ length s → word s 3 ≡ 1 → length s ≤ mostBytes → (v : Verdict) → verdictOf s ≡ v → Case
+  by-records : Marked s → 7 ≤ length s → word s 3 ≡ fileVersion → length s ≤ mostBytes → (v : Verdict) → verdictOf s ≡ v → Case
   by-records m l v k Readable e = inr e
   by-records m l v k (Refused f) e = inl (Corrupt, broken m l v k (λ w. clash (sym e ∙ readable-exactly s bytes .1 w)))
     where
       clash : {f : Refusal} → Refused f ≡ Readable → ⊥
       clash h = let z : _≡_ {A = ℕ} 0 1 = cc in absurd (omega arith)
 
-  by-length : Marked s → 7 ≤ length s → word s 3 ≡ 1 → (b : Bool) → ltb mostBytes (length s) ≡ b → Case
+  by-length : Marked s → 7 ≤ length s → word s 3 ≡ fileVersion → (b : Bool) → ltb mostBytes (length s) ≡ b → Case
   by-length m l v true e = inl (Corrupt, long m l v (ltb-true mostBytes (length s) e))
   by-length m l v false e = by-records m l v (ltb-false mostBytes (length s) e) (verdictOf s) refl
 
-  by-version : Marked s → 7 ≤ length s → (b : Bool) → eqb (word s 3) 1 ≡ b → Case
-  by-version m l true e = by-length m l (eqb-true (word s 3) 1 e) (ltb mostBytes (length s)) refl
-  by-version m l false e = inl (OtherVersion, version m l (eqb-false (word s 3) 1 e))
+  by-version : Marked s → 7 ≤ length s → (b : Bool) → eqb (word s 3) fileVersion ≡ b → Case
+  by-version m l true e = by-length m l (eqb-true (word s 3) fileVersion e) (ltb mostBytes (length s)) refl
+  by-version m l false e = inl (OtherVersion, version m l (eqb-false (word s 3) fileVersion e))
 
   by-head : Marked s → (b : Bool) → ltb (length s) 7 ≡ b → Case
   by-head m true e = inl (Corrupt, short m (ltb-true (length s) 7 e))
-  by-head m false e = by-version m (ltb-false (length s) 7 e) (eqb (word s 3) 1) refl
+  by-head m false e = by-version m (ltb-false (length s) 7 e) (eqb (word s 3) fileVersion) refl
 
   by-mark : (b : Bool) → marked s ≡ b → Case
   by-mark true e = by-head (is-marked e) (ltb (length s) 7) refl

@@ -78,13 +78,13 @@ head-three s m =
     let all : getD s 0 0 ∷ getD s 1 0 ∷ getD s 2 0 ∷ drop 3 s ≡ s = rw (← drop-cons s 2 0 least, ← drop-cons s 1 0 (omega arith)) (sym (drop-cons s 0 0 (omega arith))) in
     rw (m .k, m .l, m .d) at all
 
-head-five : (s : List ℕ) → Bytes s → File s → 75 ∷ 76 ∷ 68 ∷ 1 ∷ 0 ∷ drop 5 s ≡ s
+head-five : (s : List ℕ) → Bytes s → File s → 75 ∷ 76 ∷ 68 ∷ 2 ∷ 0 ∷ drop 5 s ≡ s
 head-five s bytes f =
     let least = f .least in
-    let v₀ : getD s 3 0 ≡ 1 = omega (arith, f .version, bytes 3) in
+    let v₀ : getD s 3 0 ≡ 2 = omega (arith, f .version, bytes 3) in
     let v₁ : getD s 4 0 ≡ 0 = omega (arith, f .version, bytes 3) in
     let two : getD s 3 0 ∷ getD s 4 0 ∷ drop 5 s ≡ drop 3 s = rw (← drop-cons s 4 0 (omega arith)) (sym (drop-cons s 3 0 (omega arith))) in
-    let version : 1 ∷ 0 ∷ drop 5 s ≡ drop 3 s = rw (v₀, v₁) at two in
+    let version : 2 ∷ 0 ∷ drop 5 s ≡ drop 3 s = rw (v₀, v₁) at two in
     rw version (head-three s (mark-of s (f .mark)))
 
 pub writes-back : WritesBack

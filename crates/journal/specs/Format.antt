@@ -63,9 +63,9 @@ markL = 76
 abbrev pub markD : ℕ
 markD = 68
 
--- the version
+-- the version: request P4, 'the file version becomes 2'
 abbrev pub fileVersion : ℕ
-fileVersion = 1
+fileVersion = 2
 
 -- where the version, the record count and the first record stand
 abbrev pub versionAt : ℕ

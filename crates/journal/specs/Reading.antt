@@ -89,7 +89,7 @@ abbrev pub marked : List ℕ → Bool
 marked s =
     leb versionAt (length s) && (eqb (getD s 0 0) markK && eqb (getD s 1 0) markL && eqb (getD s 2 0) markD)
 
--- the version is 1
+-- the version is 2
 abbrev pub current : List ℕ → Bool
 current s = eqb (word s versionAt) fileVersion
 

@@ -35,7 +35,7 @@ pub(crate) const COUNT_AT: usize = 5;
 pub(crate) const MOST_BYTES: usize = 65535;
 
 // The version.
-pub(crate) const VERSION: u16 = 1;
+pub(crate) const VERSION: u16 = 2;
 
 // That a file is readable, or its first refusal; numbered by `verdictNumber`.
 pub fn check(file: &[u8]) -> Verdict
@@ -94,7 +94,7 @@ fn is_marked(file: &[u8]) -> bool
     (file[0] == b'K') & (file[1] == b'L') & (file[2] == b'D')
 }
 
-// Whether the file's version is 1.
+// Whether the file's version is 2.
 fn is_current(file: &[u8]) -> bool
     ensures { λ r. ⌜ r ≡ versionRead (now (file .entry)) ⌝ }
 {

@@ -2,7 +2,7 @@
 ghost use mathlib.Core.Path.{_≡_};
 ghost use Prim.Native.Nat.{_<_};
 ghost use Rattle.call.specs.declared.request.Request.the-variants.{AddLock, DropLock};
-ghost use Rattle.model.specs.Cells.{registryIs, makersAre, segmentsAre, locksAre, _and_};
+ghost use Rattle.model.specs.Cells.{registryIs, makersAre, segmentsAre, locksAre, threadsAre, _and_};
 ghost use Rattle.model.specs.Serving.{ServesText, ServesLent};
 ghost use Rattle.locks.specs.Internal.{setLimit, issuedIn, LockJudged, LockStored};
 use crate::rows::add_rows;
@@ -24,13 +24,14 @@ use model::arrays::Products;
 use model::arrays::Registry;
 use model::arrays::Segments;
 use model::arrays::THREADS;
+use model::arrays::Threads;
 use model::arrays::USERS;
 use model::bounds::MOST_NUMBERS;
 use model::bounds::MOST_STANDING;
 use model::operations::Operations;
 use registry::defined as defined_in;
-use registry::is_user;
 use registry::segments as segments_in;
+use threads::editor::editor;
 
 // L, add lock. The answer is the lock number.
 pub fn add_lock(
@@ -38,20 +39,22 @@ pub fn add_lock(
     makers: &Makers,
     segments: &Segments,
     locks: &mut Locks,
-    user: u16,
+    threads: &Threads,
+    thread: u16,
     segment: u16,
     operations: u16,
     text: &[u8],
 ) -> Answer
     ensures { λ r. ⌜ ServesText
         (registryIs (now (registry .entry)) and makersAre (now (makers .entry))
-        and segmentsAre (now (segments .entry)) and locksAre (now (locks .entry)))
-        (AddLock user segment operations) (now (text .entry)) r
+        and segmentsAre (now (segments .entry)) and locksAre (now (locks .entry)) and threadsAre (now (threads .entry)))
+        (AddLock thread segment operations) (now (text .entry)) r
         (registryIs (now (registry .exit)) and locksAre (now (locks .exit))) ⌝ }
 {
-    if !is_user(registry, user) {
-        return Answer::Refused(Refusal::UnknownUser);
-    }
+    let editor = editor(threads, thread);
+    let Answer::Accepted(user) = editor else {
+        return editor;
+    };
     let s = segment as usize;
     if segments_in(registry) <= s {
         return Answer::Refused(Refusal::NoSegment);
@@ -137,17 +140,20 @@ pub fn drop_lock(
     registry: &Registry,
     segments: &Segments,
     locks: &mut Locks,
-    user: u16,
+    threads: &Threads,
+    thread: u16,
     lock: u16,
 ) -> Answer
     ensures { λ r. ⌜ ServesLent
-        (registryIs (now (registry .entry)) and segmentsAre (now (segments .entry)) and locksAre (now (locks .entry)))
-        (DropLock user lock) r
+        (registryIs (now (registry .entry)) and segmentsAre (now (segments .entry)) and locksAre (now (locks .entry))
+        and threadsAre (now (threads .entry)))
+        (DropLock thread lock) r
         (locksAre (now (locks .exit))) ⌝ }
 {
-    if !is_user(registry, user) {
-        return Answer::Refused(Refusal::UnknownUser);
-    }
+    let editor = editor(threads, thread);
+    let Answer::Accepted(user) = editor else {
+        return editor;
+    };
     let n = segments_in(registry);
     let s = segment_of(locks, n, lock);
     if n <= s {

@@ -67,9 +67,9 @@ onFrames f t = record { user = t .user; frames = f (t .frames) }
 abbrev pub listOf : History → ℕ → List Key
 listOf h s = orDefault [] (λ e. e .keys) (h .segments s)
 
--- who edits (document 01: user a of N, K, G, T, L and D), as the history then is
+-- 'The history .. takes the editor from the run': the user of thread a of N, K, G, T, L and D, as the history then is
 abbrev pub editorIn : History → ℕ → ℕ
-editorIn h a = a
+editorIn h a = orDefault 0 (λ t. t .user) (h .threads a)
 
 -- what an accepted call with answer n writes: 'U, K and A change nothing in it. The others, when accepted:'
 unfoldable pub note : History → Request → List ℕ → ℕ → History
@@ -79,7 +79,8 @@ note h (request.Access a b c) text n = h
 -- 'S writes the answered run as live, with user a and no open calls. E strikes run a and its open calls.'
 note h (request.StartThread a) text n = withThreads h (put (h .threads) n (record { user = a; frames = [] }))
 note h (request.EndThread a) text n = withThreads h (remove (h .threads) a)
--- 'N writes the answered segment as handed out, with owner a, kind b and a list of its own S key.'
+-- 'N writes the answered segment as handed out, with owner a, kind b and a list of its own S key.' The owner is now the
+-- user of thread a.
 note h (request.NewSegment a b) text n = withEntries h (put (h .segments) n (freshEntry n (editorIn h a) b))
 -- 'G adds D key c to segment b's list. T strikes it there.'
 note h (request.GiveKey a b c) text n = withEntries h (adjust (h .segments) b (onKeys (λ keys. keys ++ Defined c ∷ [])))

@@ -68,9 +68,9 @@ notGranted d a b n = unless (isSome (openingProduct d grants a b n)) NotGranted
 abbrev pub noRoom : State → ℕ → ℕ → Bool
 noRoom d b n = passes mostStanding (length (segmentAt d b .products) + n) || passes mostNumbers (suc (d .lockNumbers))
 
--- 'user not handed out', in an edit
+-- 'An ended or unknown run is 2 where 1 stood', in an edit
 abbrev pub unknownEditor : State → ℕ → Condition Refusal
-unknownEditor d a = unless (editor d a .known) UnknownUser
+unknownEditor d a = unless (isSome (editor d a)) NoThread
 
 module _ (compile : Compiler) where
   -- 'Checked in that order, 10 last.'

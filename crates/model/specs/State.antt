@@ -10,7 +10,7 @@ use Rattle.product.specs.declared.literal.Key.{Key}
 use Rattle.product.specs.declared.literal.Key.the-variants.{Segment as SegmentKey}
 use Rattle.product.specs.Product.{Product}
 use Rattle.formula.specs.declared.text.Issued.{Issued}
-use Rattle.base.specs.Lists.{any, keep, indexOf, isSome, orDefault}
+use Rattle.base.specs.Lists.{any, keep, indexOf, isSome, mapOption, orDefault}
 use Rattle.model.specs.Limits.{mostThreads}
 use Rattle.model.specs.Threads.{Thread}
 
@@ -76,18 +76,6 @@ freshSegment s owner kind = record { owner = owner; kind = kind; keys = SegmentK
 abbrev pub segmentAt : State → ℕ → Segment
 segmentAt d s = getD (d .segments) s blankSegment
 
--- Who edits, in the six calls that change segments, keys and locks (N, K, G, T, L and D): whether field a names
--- somebody, and the user whom it names.
-pub record Editor : Type 0 where
-  pub known : Bool
-  pub user : ℕ
-
-abbrev pub editor : State → ℕ → Editor
-editor d a = record { known = isUser d a; user = a }
-
-abbrev pub userOf : State → ℕ → ℕ
-userOf d a = editor d a .user
-
 abbrev pub owns : State → ℕ → ℕ → Bool
 owns d u s = eqb (segmentAt d s .owner) u
 
@@ -143,6 +131,14 @@ blankThread = freshThread 0
 
 abbrev pub threadAt : State → ℕ → Thread
 threadAt d n = orDefault blankThread (λ t. t) (findThread n (d .places))
+
+-- Who edits, in the six calls that change segments, keys and locks (request P4): 'N, K, G, T, L and D now carry a run
+-- in field a, and the user is that run's.' None if the thread isn't live.
+abbrev pub editor : State → ℕ → Option ℕ
+editor d a = mapOption (λ t. t .user) (findThread a (d .places))
+
+abbrev pub userOf : State → ℕ → ℕ
+userOf d a = orDefault 0 (λ u. u) (editor d a)
 
 -- a product of lock n
 abbrev pub isOfLock : ℕ → LockProduct → Bool

@@ -4,7 +4,7 @@ use mathlib.Core.Bool.{Bool, true, false, not}
 use mathlib.Core.List.{List, [], _∷_, map}
 use Prim.Native.Nat.{ℕ, _-_, _≤_, _<_, min}
 use native.Mathlib.Omega.{arith}
-use lib.Dec.{eqb, ltb}
+use lib.Dec.{eqb}
 use lib.ListN.{length, getD, take, length-take, length-map}
 use lib.Seq.{getD-take}
 use borrow.Author.Tests.{lt-ltb, le-ltb}
@@ -13,9 +13,9 @@ use Rattle.base.proofs.Truth.{neither}
 use Rattle.base.specs.Lists.{any, keep}
 use Rattle.model.specs.Limits.{mostSegments, mostDefined}
 use Rattle.model.specs.Threads.{sameKey, isIn}
-use Rattle.model.specs.State.{isUser, isSegment, isKey, owns, segmentAt, Segment}
+use Rattle.model.specs.State.{isSegment, isKey, owns, segmentAt, Segment}
 use Rattle.model.specs.Effects.{takeKey}
-use Rattle.model.specs.Cells.{Cells, cell, rowAt, tableAt, userCount, segmentCount, definedCount, ownerCell, definedCell, keyIn, hasKey, listRow, segmentIn, stateOf}
+use Rattle.model.specs.Cells.{Cells, cell, rowAt, tableAt, segmentCount, definedCount, ownerCell, definedCell, keyIn, hasKey, listRow, segmentIn, stateOf}
 use Rattle.base.proofs.Lists.{any-map, keep-map, keep-same, length-each}
 use Rattle.model.proofs.Refinement.SegmentTables.{same-code}
 use Rattle.model.proofs.Refinement.ServedCalls.{is-segment, segment-at}
@@ -48,13 +48,9 @@ all-stay x (y ∷ ys) h =
     let (here, there) = neither (eqb x y) (any (eqb x) ys) h in
     simp here (ap (λ (r : List ℕ). y ∷ r) (all-stay x ys there))
 
--- ---- users, segments and keys handed out
+-- ---- segments and keys handed out
 
 module _ (d : Cells) where
-  pub user-test : (u : ℕ) {r b : Bool} → r ≡ ltb u (cell (d .registry) userCount) → not r ≡ b → not (isUser (stateOf d) u) ≡ b
-  unfolding stateOf
-  user-test u known t = ap not (sym known) ∙ t
-
   pub segments-there : length (stateOf d .segments) ≡ min (cell (d .registry) segmentCount) mostSegments
   unfolding stateOf
   segments-there = length-each (segmentIn d) 0 (min (cell (d .registry) segmentCount) mostSegments)

@@ -1,6 +1,6 @@
 // K, N, G and T.
 ghost use Rattle.call.specs.declared.request.Request.the-variants.{NewSegment, NewKey, GiveKey, TakeKey};
-ghost use Rattle.model.specs.Cells.{registryIs, makersAre, segmentsAre, locksAre, _and_};
+ghost use Rattle.model.specs.Cells.{registryIs, makersAre, segmentsAre, locksAre, threadsAre, _and_};
 ghost use Rattle.model.specs.Serving.{ServesLent};
 use crate::list::remove;
 use crate::names::NameTest;
@@ -16,25 +16,32 @@ use model::arrays::OWNER;
 use model::arrays::Registry;
 use model::arrays::SEGMENTS;
 use model::arrays::Segments;
+use model::arrays::Threads;
 use model::bounds::MOST_DEFINED;
 use model::bounds::MOST_LISTED;
 use model::bounds::MOST_SEGMENTS;
 use registry::defined;
-use registry::is_user;
+use threads::editor::editor;
 
 // The greatest kind: 0 is code, 1 a sheet.
 const SHEET: u16 = 1;
 
-// K, new D key (document 01); the user is its maker.
-pub fn new_key(registry: &mut Registry, makers: &mut Makers, user: u16) -> Answer
+// K, new D key (document 01); the thread's user is its maker.
+pub fn new_key(
+    registry: &mut Registry,
+    makers: &mut Makers,
+    threads: &Threads,
+    thread: u16,
+) -> Answer
     ensures { λ r. ⌜ ServesLent
-        (registryIs (now (registry .entry)) and makersAre (now (makers .entry)))
-        (NewKey user) r
+        (registryIs (now (registry .entry)) and makersAre (now (makers .entry)) and threadsAre (now (threads .entry)))
+        (NewKey thread) r
         (registryIs (now (registry .exit)) and makersAre (now (makers .exit))) ⌝ }
 {
-    if !is_user(registry, user) {
-        return Answer::Refused(Refusal::UnknownUser);
-    }
+    let editor = editor(threads, thread);
+    let Answer::Accepted(user) = editor else {
+        return editor;
+    };
     let key = defined(registry, makers);
     if MOST_DEFINED <= key {
         return Answer::Refused(Refusal::Full);
@@ -44,22 +51,25 @@ pub fn new_key(registry: &mut Registry, makers: &mut Makers, user: u16) -> Answe
     Answer::Accepted(key as u16)
 }
 
-// N, new segment; the user is its owner, and its key list starts with its own S key.
+// N, new segment; the thread's user is its owner, and its key list starts with its own S key.
 pub fn new_segment(
     registry: &mut Registry,
     segments: &mut Segments,
     locks: &mut Locks,
-    user: u16,
+    threads: &Threads,
+    thread: u16,
     kind: u16,
 ) -> Answer
     ensures { λ r. ⌜ ServesLent
-        (registryIs (now (registry .entry)) and segmentsAre (now (segments .entry)) and locksAre (now (locks .entry)))
-        (NewSegment user kind) r
+        (registryIs (now (registry .entry)) and segmentsAre (now (segments .entry)) and locksAre (now (locks .entry))
+        and threadsAre (now (threads .entry)))
+        (NewSegment thread kind) r
         (registryIs (now (registry .exit)) and segmentsAre (now (segments .exit)) and locksAre (now (locks .exit))) ⌝ }
 {
-    if !is_user(registry, user) {
-        return Answer::Refused(Refusal::UnknownUser);
-    }
+    let editor = editor(threads, thread);
+    let Answer::Accepted(user) = editor else {
+        return editor;
+    };
     if SHEET < kind {
         return Answer::Refused(Refusal::Unfit);
     }
@@ -83,16 +93,22 @@ pub fn give_key(
     registry: &Registry,
     makers: &Makers,
     segments: &mut Segments,
-    user: u16,
+    threads: &Threads,
+    thread: u16,
     segment: u16,
     key: u16,
 ) -> Answer
     ensures { λ r. ⌜ ServesLent
-        (registryIs (now (registry .entry)) and makersAre (now (makers .entry)) and segmentsAre (now (segments .entry)))
-        (GiveKey user segment key) r
+        (registryIs (now (registry .entry)) and makersAre (now (makers .entry)) and segmentsAre (now (segments .entry))
+        and threadsAre (now (threads .entry)))
+        (GiveKey thread segment key) r
         (segmentsAre (now (segments .exit))) ⌝ }
 {
-    if let NameTest::Failed(refusal) = test_names(registry, makers, user, segment, key) {
+    let editor = editor(threads, thread);
+    let Answer::Accepted(user) = editor else {
+        return editor;
+    };
+    if let NameTest::Failed(refusal) = test_names(registry, makers, segment, key) {
         return Answer::Refused(refusal);
     }
     let s = segment as usize;
@@ -121,16 +137,22 @@ pub fn take_key(
     registry: &Registry,
     makers: &Makers,
     segments: &mut Segments,
-    user: u16,
+    threads: &Threads,
+    thread: u16,
     segment: u16,
     key: u16,
 ) -> Answer
     ensures { λ r. ⌜ ServesLent
-        (registryIs (now (registry .entry)) and makersAre (now (makers .entry)) and segmentsAre (now (segments .entry)))
-        (TakeKey user segment key) r
+        (registryIs (now (registry .entry)) and makersAre (now (makers .entry)) and segmentsAre (now (segments .entry))
+        and threadsAre (now (threads .entry)))
+        (TakeKey thread segment key) r
         (segmentsAre (now (segments .exit))) ⌝ }
 {
-    if let NameTest::Failed(refusal) = test_names(registry, makers, user, segment, key) {
+    let editor = editor(threads, thread);
+    let Answer::Accepted(user) = editor else {
+        return editor;
+    };
+    if let NameTest::Failed(refusal) = test_names(registry, makers, segment, key) {
         return Answer::Refused(refusal);
     }
     let s = segment as usize;

@@ -1,9 +1,8 @@
-// What G and T begin with: the user, the segment and the key that they name are handed out.
+// What G and T test next to the thread: the segment and the key that they name are handed out.
 ghost use Rattle.segments.specs.Internal.{NamesTested};
 use model::answer::Refusal;
 use model::arrays::Registry;
 use registry::defined;
-use registry::is_user;
 
 pub(crate) enum NameTest {
     Passed,
@@ -11,18 +10,9 @@ pub(crate) enum NameTest {
     Failed(Refusal),
 }
 
-pub(crate) fn test_names(
-    registry: &Registry,
-    makers: &[u16],
-    user: u16,
-    segment: u16,
-    key: u16,
-) -> NameTest
-    ensures { λ r. ⌜ NamesTested (now (registry .entry)) (now (makers .entry)) user segment key r ⌝ }
+pub(crate) fn test_names(registry: &Registry, makers: &[u16], segment: u16, key: u16) -> NameTest
+    ensures { λ r. ⌜ NamesTested (now (registry .entry)) (now (makers .entry)) segment key r ⌝ }
 {
-    if !is_user(registry, user) {
-        return NameTest::Failed(Refusal::UnknownUser);
-    }
     if registry::segments(registry) <= segment as usize {
         return NameTest::Failed(Refusal::NoSegment);
     }

@@ -2,14 +2,15 @@
 use mathlib.Core.Path.{_≡_, refl, sym, ap, _∙_}
 use mathlib.Core.Bool.{Bool, true, false}
 use mathlib.Core.List.{List, [], _∷_, map}
+use mathlib.Core.Option.{none, some}
 use Prim.Native.Nat.{ℕ, _%_, _≤_, _<_}
 use native.Mathlib.Omega.{arith}
 use lib.Dec.{eqb}
 use lib.ListN.{length, getD, length-map}
 use borrow.Author.Tests.{eqb-true}
-use Rattle.base.specs.Lists.{isSome, indexOf, orDefault}
+use Rattle.base.specs.Lists.{isSome, mapOption, indexOf, orDefault}
 use Rattle.model.specs.Limits.{mostThreads}
-use Rattle.model.specs.State.{Place, free, taken, isThread, placeFor, placeOf, threadIn, isLive, blankThread, threadAt}
+use Rattle.model.specs.State.{Place, free, taken, isThread, placeFor, placeOf, threadIn, isLive, blankThread, threadAt, editor}
 use Rattle.model.specs.Cells.{Table, Cells, cell, rowAt, tableAt, numberCell, userCell, liveCell, framesOf, depthOf, placeIn, stateOf}
 use Rattle.base.proofs.Lists.{caseBool, clash}
 use Rattle.model.proofs.Refinement.ThreadTables.{length-frames}
@@ -21,6 +22,7 @@ pub record Standing (d : Cells) (n i : ℕ) : Type 0 where
   pub thread : threadAt (stateOf d) n ≡ record { user = cell (rowAt (tableAt (d .threads) i) 0) userCell; frames = framesOf (tableAt (d .threads) i) (depthOf (tableAt (d .threads) i)) }
   pub depth : length (threadAt (stateOf d) n .frames) ≡ depthOf (tableAt (d .threads) i)
   pub number : cell (rowAt (tableAt (d .threads) i) 0) numberCell ≡ n
+  pub edits : editor (stateOf d) n ≡ some (cell (rowAt (tableAt (d .threads) i) 0) userCell)
 
 -- the place passes the test where there is one below the length
 index-hits : {A : Type 0} (p : A → Bool) (e : A) (xs : List A) → indexOf p xs < length xs → p (getD xs (indexOf p xs) e) ≡ true
@@ -71,8 +73,13 @@ module _ (d : Cells) (n i : ℕ) (size : length (d .threads) ≡ mostThreads) (i
         thread = ap (λ (x : Place). orDefault blankThread (λ t. t) (threadIn x)) found;
         depth = ap (λ (x : Place). length (orDefault blankThread (λ t. t) (threadIn x) .frames)) found ∙ length-frames (tableAt (d .threads) i) (depthOf (tableAt (d .threads) i));
         number = number;
+        edits = ap (λ (x : Place). mapOption (λ t. t .user) (threadIn x)) found;
       }
 
   pub not-live : mostThreads ≤ i → isLive (stateOf d) n ≡ false
   unfolding stateOf
   not-live high = ap (λ (x : Place). isSome (threadIn x)) (place-past n (isThread n) places sized (omega arith))
+
+  pub no-editor : mostThreads ≤ i → editor (stateOf d) n ≡ none
+  unfolding stateOf
+  no-editor high = ap (λ (x : Place). mapOption (λ t. t .user) (threadIn x)) (place-past n (isThread n) places sized (omega arith))

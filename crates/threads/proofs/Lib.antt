@@ -1,3 +1,4 @@
+pub mod Editors
 pub mod FoundThread
 pub mod FreePlace
 pub mod PlaceScan

@@ -21,7 +21,7 @@ use Rattle.transcript.specs.Theorems.Enough.{Enough}
 
 -- of the first three bytes, and of the version
 refusal : ℕ → ℕ → ℕ → ℕ → Refusal
-refusal k l d v = cond (eqb k 75 && eqb l 76 && eqb d 68) (cond (eqb v 1) Corrupt OtherVersion) NotJournal
+refusal k l d v = cond (eqb k 75 && eqb l 76 && eqb d 68) (cond (eqb v 2) Corrupt OtherVersion) NotJournal
 
 verdict-long : (s : List ℕ) → mostBytes < length s → verdictOf s ≡ Refused (refusal (getD s 0 0) (getD s 1 0) (getD s 2 0) (word s 3))
 unfolding verdictOf refusal

@@ -29,7 +29,7 @@ unfolding journal-computing digits decimal line fileLine printed
 trials =
     record {
       mark-missing = refl;
-      version-two = refl;
+      version-one = refl;
       left-over = refl;
       deny-lock = refl;
       largest = refl;

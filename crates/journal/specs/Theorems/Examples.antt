@@ -16,13 +16,13 @@ use Rattle.journal.specs.Verdicts.{foundNumber, foundValues, appendedNum
 use Rattle.journal.specs.Reading.{foundAt, recordsOf, verdictOf, cursorOpened}
 use Rattle.journal.specs.Appending.{appendAnswer, bufferAfter, lengthAfter, emptyAnswer, emptyAfter}
 
--- * 4B 4C 44 01 00 00 00
+-- * 4B 4C 44 02 00 00 00
 abbrev pub emptyFile : List ℕ
-emptyFile = 75 ∷ 76 ∷ 68 ∷ 1 ∷ 0 ∷ 0 ∷ 0 ∷ []
+emptyFile = 75 ∷ 76 ∷ 68 ∷ 2 ∷ 0 ∷ 0 ∷ 0 ∷ []
 
--- `KLD`, version 1, a count below 256, and these bytes
+-- `KLD`, version 2, a count below 256, and these bytes
 abbrev pub counted : ℕ → List ℕ → List ℕ
-counted n t = 75 ∷ 76 ∷ 68 ∷ 1 ∷ 0 ∷ n ∷ 0 ∷ t
+counted n t = 75 ∷ 76 ∷ 68 ∷ 2 ∷ 0 ∷ n ∷ 0 ∷ t
 
 -- the nine bytes of a record U
 abbrev pub newUser : List ℕ
@@ -62,13 +62,16 @@ pub record Examples : Type 0 where
   pub no-bytes : verdictOf [] ≡ Refused NotJournal
   pub two-bytes : verdictOf (75 ∷ 76 ∷ []) ≡ Refused NotJournal
   pub wrong-mark : (t : List ℕ) → verdictOf (75 ∷ 76 ∷ 69 ∷ t) ≡ Refused NotJournal
-  -- ---- 18 if under 7 bytes, of version 1 and of version 2
+  -- ---- 18 if under 7 bytes, of version 2 and of version 1
   pub mark-alone : verdictOf (75 ∷ 76 ∷ 68 ∷ []) ≡ Refused Corrupt
-  pub six-bytes : verdictOf (75 ∷ 76 ∷ 68 ∷ 1 ∷ 0 ∷ 0 ∷ []) ≡ Refused Corrupt
-  pub version-cut : verdictOf (75 ∷ 76 ∷ 68 ∷ 2 ∷ 0 ∷ []) ≡ Refused Corrupt
-  -- ---- 17: seven bytes or more of version 2, however long or broken; version 257
-  pub version-two : (x y : ℕ) (t : List ℕ) → verdictOf (75 ∷ 76 ∷ 68 ∷ 2 ∷ 0 ∷ x ∷ y ∷ t) ≡ Refused OtherVersion
-  pub version-257 : verdictOf (75 ∷ 76 ∷ 68 ∷ 1 ∷ 1 ∷ 0 ∷ 0 ∷ []) ≡ Refused OtherVersion
+  pub six-bytes : verdictOf (75 ∷ 76 ∷ 68 ∷ 2 ∷ 0 ∷ 0 ∷ []) ≡ Refused Corrupt
+  pub version-cut : verdictOf (75 ∷ 76 ∷ 68 ∷ 1 ∷ 0 ∷ []) ≡ Refused Corrupt
+  -- ---- 17: seven bytes or more of version 1, however long or broken; versions 0, 3, 258 and 512
+  pub version-one : (x y : ℕ) (t : List ℕ) → verdictOf (75 ∷ 76 ∷ 68 ∷ 1 ∷ 0 ∷ x ∷ y ∷ t) ≡ Refused OtherVersion
+  pub version-zero : verdictOf (75 ∷ 76 ∷ 68 ∷ 0 ∷ 0 ∷ 0 ∷ 0 ∷ []) ≡ Refused OtherVersion
+  pub version-three : verdictOf (75 ∷ 76 ∷ 68 ∷ 3 ∷ 0 ∷ 0 ∷ 0 ∷ []) ≡ Refused OtherVersion
+  pub version-258 : verdictOf (75 ∷ 76 ∷ 68 ∷ 2 ∷ 1 ∷ 0 ∷ 0 ∷ []) ≡ Refused OtherVersion
+  pub version-512 : verdictOf (75 ∷ 76 ∷ 68 ∷ 0 ∷ 2 ∷ 0 ∷ 0 ∷ []) ≡ Refused OtherVersion
   -- ---- 18: 'length over the limit' of 65,535 bytes
   pub longest-length : length (fileBytes longest) ≡ 65535
   pub longest-readable : verdictOf (fileBytes longest) ≡ Readable
@@ -114,9 +117,9 @@ pub record AppendExamples : Type 0 where
   -- a length of 2 'beyond the buffer' of one byte is 18
   pub beyond-buffer : appendAnswer (75 ∷ []) 2 callB ≡ Declined Corrupt
   -- then the file's: 16, 18 under 7 bytes, 17, and 18 where the count is 1 and there is no record
-  pub not-journal : appendAnswer (75 ∷ 76 ∷ 69 ∷ 2 ∷ 0 ∷ 1 ∷ 0 ∷ []) 7 callB ≡ Declined NotJournal
-  pub cut-short : appendAnswer (75 ∷ 76 ∷ 68 ∷ 2 ∷ 0 ∷ 1 ∷ 0 ∷ []) 6 callB ≡ Declined Corrupt
-  pub other-version : appendAnswer (75 ∷ 76 ∷ 68 ∷ 2 ∷ 0 ∷ 1 ∷ 0 ∷ []) 7 callB ≡ Declined OtherVersion
+  pub not-journal : appendAnswer (75 ∷ 76 ∷ 69 ∷ 1 ∷ 0 ∷ 1 ∷ 0 ∷ []) 7 callB ≡ Declined NotJournal
+  pub cut-short : appendAnswer (75 ∷ 76 ∷ 68 ∷ 1 ∷ 0 ∷ 1 ∷ 0 ∷ []) 6 callB ≡ Declined Corrupt
+  pub other-version : appendAnswer (75 ∷ 76 ∷ 68 ∷ 1 ∷ 0 ∷ 1 ∷ 0 ∷ []) 7 callB ≡ Declined OtherVersion
   pub broken : appendAnswer (counted 1 []) 7 callU ≡ Declined Corrupt
   -- then 18 for an unfit record: letter B, U with a 1, and L with a text of 0 and of 97 bytes
   pub unfit-letter : appendAnswer emptyFile 7 callB ≡ Declined Corrupt
@@ -133,7 +136,7 @@ pub record AppendExamples : Type 0 where
   pub accepted : appendAnswer (counted 1 newUser ++ replicate 14 9) 16 (callWith 76 258 3 1 (85 ∷ 48 ∷ [])) ≡ Length 27
   pub accepted-buffer :
       bufferAfter (Length 27) (counted 1 newUser ++ replicate 14 9) 16 (callWith 76 258 3 1 (85 ∷ 48 ∷ []))
-      ≡ 75 ∷ 76 ∷ 68 ∷ 1 ∷ 0 ∷ 2 ∷ 0 ∷ 85 ∷ 0 ∷ 0 ∷ 0 ∷ 0 ∷ 0 ∷ 0 ∷ 0 ∷ 0
+      ≡ 75 ∷ 76 ∷ 68 ∷ 2 ∷ 0 ∷ 2 ∷ 0 ∷ 85 ∷ 0 ∷ 0 ∷ 0 ∷ 0 ∷ 0 ∷ 0 ∷ 0 ∷ 0
       ∷ 76 ∷ 2 ∷ 1 ∷ 3 ∷ 0 ∷ 1 ∷ 0 ∷ 2 ∷ 0 ∷ 85 ∷ 48 ∷ 9 ∷ 9 ∷ 9 ∷ []
   -- a refused one
   pub refused-buffer : bufferAfter (Declined Full) emptyFile 7 callU ≡ emptyFile
@@ -144,7 +147,7 @@ pub record AppendExamples : Type 0 where
   pub empty-no-room : emptyAnswer (replicate 6 9) ≡ Declined Full
   pub empty-kept : emptyAfter (Declined Full) (replicate 6 9) ≡ 9 ∷ 9 ∷ 9 ∷ 9 ∷ 9 ∷ 9 ∷ []
   pub empty-accepted : emptyAnswer (replicate 8 9) ≡ Length 7
-  pub empty-buffer : emptyAfter (Length 7) (replicate 8 9) ≡ 75 ∷ 76 ∷ 68 ∷ 1 ∷ 0 ∷ 0 ∷ 0 ∷ 9 ∷ []
+  pub empty-buffer : emptyAfter (Length 7) (replicate 8 9) ≡ 75 ∷ 76 ∷ 68 ∷ 2 ∷ 0 ∷ 0 ∷ 0 ∷ 9 ∷ []
 
 -- each case with document 01's number, and its values
 pub record NumberExamples : Type 0 where

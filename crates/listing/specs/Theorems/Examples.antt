@@ -11,7 +11,7 @@ use Rattle.base.specs.Bytes.{bytes}
 use Rattle.model.specs.declared.answer.Answer.the-variants.{Accepted}
 use Rattle.model.specs.State.{State}
 use Rattle.model.specs.Cells.{stateOf}
-use Rattle.model.specs.Notation.{Expected, U, N, L, ok, Happens, callsOf}
+use Rattle.model.specs.Notation.{Expected, U, S, N, L, ok, Happens, callsOf}
 use Rattle.model.specs.Replay.{reached}
 use Rattle.rows.specs.Listing.{Listed}
 use Rattle.rows.specs.Notation.{blank, signed, grant, denial}
@@ -22,7 +22,7 @@ noKey = 0 ∷ 0 ∷ 0 ∷ []
 
 -- a code segment of user 0 with one deny lock
 abbrev pub office : List Expected
-office = ok U 0 ∷ ok U 1 ∷ ok (N 0 0) 0 ∷ ok (L 0 0 9 (bytes "S0&!U1")) 0 ∷ []
+office = ok U 0 ∷ ok U 1 ∷ ok (S 0) 0 ∷ ok (N 0 0) 0 ∷ ok (L 0 0 9 (bytes "S0&!U1")) 0 ∷ []
 
 unfoldable pub desk : State
 desk = stateOf (reached outcomeOf (callsOf office))

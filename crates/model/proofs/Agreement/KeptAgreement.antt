@@ -1,8 +1,8 @@
 -- Every accepted request keeps the agreement of model and history.
-use mathlib.Core.Path.{_≡_, refl, sym, ap}
+use mathlib.Core.Path.{_≡_, refl, sym, ap, _∙_}
 use mathlib.Core.Bool.{true, false, not}
 use mathlib.Core.List.{List, _∷_}
-use mathlib.Core.Option.{none}
+use mathlib.Core.Option.{Option, none, some}
 use Prim.Native.Nat.{ℕ, suc, _+_, _<_}
 use native.Mathlib.Omega.{arith}
 use lib.ListN.{length, getD, set}
@@ -17,22 +17,30 @@ use Rattle.call.specs.Requests.{callOf}
 use Rattle.base.specs.Conditions.{firstRefusal}
 use Rattle.base.proofs.Conditions.{all-fail}
 use Rattle.base.proofs.Truth.{neither}
-use Rattle.base.specs.Lists.{adjust, tailOf}
+use Rattle.base.specs.Lists.{adjust, mapOption, orDefault, tailOf}
 use Rattle.model.specs.Limits.{mostThreads, passes}
-use Rattle.model.specs.State.{freshThread, State, isFree, placeFor, free, taken, Segment, blankSegment, segmentAt, liveIn, issued, isLive, isLock, lockSegment, placeOf, Place, userOf}
+use Rattle.model.specs.State.{freshThread, findThread, freshSegment, State, isFree, placeFor, free, taken, Segment, blankSegment, segmentAt, liveIn, issued, isLive, isLock, lockSegment, placeOf, Place, userOf}
 use Rattle.model.specs.Effects.{onThread, pushFrame, popFrame, giveKey, takeKey, addProducts, dropProducts, onSegment, update, answer, atPlace, withPlaces}
 use Rattle.model.specs.Threads.{Thread}
 use Rattle.model.specs.Refusals.{conditions}
-use Rattle.model.specs.History.{History, Entry, withEntries, onFrames, listOf, note, counts, withThreads}
+use Rattle.model.specs.History.{History, Entry, withEntries, onFrames, listOf, editorIn, note, counts, withThreads}
 use Rattle.base.proofs.Lists.{at-lt}
-use Rattle.model.proofs.Agreement.Places.{AgreeThreads, Lives, lives, spare, one, live-change, one-onThread, agree-start, agree-change, agree-end}
+use Rattle.model.proofs.Agreement.Places.{AgreeThreads, look, Lives, lives, spare, one, live-change, one-onThread, agree-start, agree-change, agree-end}
 use Rattle.model.proofs.Agreement.Segments.{entryOf, agree-new, agree-adjust, agree-unseen, products-append-one, products-same}
 use Rattle.model.proofs.Refusals.AcceptedTexts.{compiled}
 use Rattle.model.proofs.Agreement.Locks.{agree-rows, agree-add, agree-drop}
 use Rattle.call.specs.Letters as letters
 use Rattle.model.proofs.Agreement.Agrees.{AgreeCounts, Agrees, bump, recounted, with-counted, with-threads, with-segments, one-user, one-thread, one-ended, same-places, one-segment, one-key, same-segments, one-lock}
 
+user-found : (o : Option Thread) → orDefault 0 (λ t. t .user) o ≡ orDefault 0 (λ (u : ℕ). u) (mapOption (λ t. t .user) o)
+user-found none = refl
+user-found (some t) = refl
+
 module _ (compile : Compiler) (d : State) (h : History) (count : ℕ → ℕ) (c : Agrees compile d h count) where
+  pub editors-agree : (a : ℕ) → editorIn h a ≡ userOf d a
+  editors-agree a =
+      ap (orDefault 0 (λ t. t .user)) (look (d .places) (d .threadNumbers) (h .threads) (c .threads) a) ∙ user-found (findThread a (d .places))
+
   alive : (a : ℕ) → not (isLive d a) ≡ false → Lives a (d .places)
   alive a e = lives a (d .places) (not-false _ e)
 
@@ -104,8 +112,9 @@ module _ (compile : Compiler) (holds : Meaning) (laws : Laws compile holds) (tex
       (agree-end (d .places) (d .threadNumbers) (h .threads) (c .threads) a i (p .thread) (p .low) (p .taken-by))
       (one-ended c (set (d .places) i free) ended)
   keep-accepted (request.NewSegment a b) e =
-      with-segments c _ (d .lockNumbers) _ (h .locks) (bump letters.N count) (agree-new (d .segments) (h .segments) (c .segments) _)
-      (agree-rows compile (d .segments) (d .lockNumbers) (h .locks) (c .locks) _ (products-append-one (d .segments) _ refl)) (one-segment c _)
+      rw (editors-agree compile d h count c a)
+      (with-segments c _ (d .lockNumbers) _ (h .locks) (bump letters.N count) (agree-new (d .segments) (h .segments) (c .segments) (freshSegment (length (d .segments)) (userOf d a) b))
+      (agree-rows compile (d .segments) (d .lockNumbers) (h .locks) (c .locks) _ (products-append-one (d .segments) _ refl)) (one-segment c _))
   keep-accepted (request.NewKey a) e = with-counted c (d .users) _ (bump letters.K count) (one-key c (userOf d a))
   keep-accepted (request.GiveKey a b k) e =
       kept-list compile d h count c b (giveKey k) _ (λ g. refl) (λ g. refl) (bump letters.G count) (same-segments c b _)

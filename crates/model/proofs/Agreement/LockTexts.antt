@@ -1,13 +1,13 @@
 -- The conditions of an L are tests on the state, each of which the history tells; the text's outcome is the compiler's,
 -- whose laws say where it is which.
-use mathlib.Core.Path.{_≡_, refl, sym, ap, subst, _∙_}
+use mathlib.Core.Path.{_≡_, refl, sym, ap, _∙_}
 use mathlib.Core.Bool.{Bool, true, false, true≢false}
 use mathlib.Core.List.{List}
 use mathlib.Core.Logic.{_↔_}
 use mathlib.Core.Option.{Option, none, some}
-use Prim.Native.Nat.{ℕ, suc, _+_, _<_}
+use Prim.Native.Nat.{ℕ, suc, _+_}
 use lib.ListN.{length}
-use borrow.Author.Tests.{ltb-true, ltb-false, lt-ltb, le-ltb, eqb-true, eq-eqb}
+use borrow.Author.Tests.{ltb-false, le-ltb, eqb-true, eq-eqb}
 use Rattle.product.specs.Sum.{Sum}
 use Rattle.formula.specs.declared.text.Issued.{Issued}
 use Rattle.formula.specs.Tree.{ors, Tree, holds}
@@ -32,8 +32,9 @@ use Rattle.model.specs.declared.answer.Answer.the-variants.{Refused}
 use Rattle.model.specs.Answers.{isAccepted}
 use Rattle.model.specs.Limits.{mostStanding, mostNumbers, passes}
 use Rattle.model.specs.Operations.{takesSet}
-use Rattle.model.specs.Threads.{KeySet}
-use Rattle.model.specs.State.{issued, isUser, isSegment, segmentAt, owns}
+use Rattle.base.specs.Lists.{isSome, mapOption, orDefault}
+use Rattle.model.specs.Threads.{Thread, KeySet}
+use Rattle.model.specs.State.{issued, isSegment, segmentAt, editor, userOf, owns}
 use Rattle.model.specs.Refusals.{conditions}
 use Rattle.model.specs.Cells.{Cells, stateOf}
 use Rattle.model.specs.Stores.{stepCells}
@@ -48,6 +49,10 @@ use Rattle.model.proofs.Refusals.Refusing.{judged-refused, judged-accep
 use Rattle.model.proofs.Agreement.Mirror.{mirror}
 use Rattle.model.proofs.Agreement.StoredLocks.{stored-locks}
 use Rattle.model.proofs.Agreement.TextTests.{tests, late, isLate, reaches-text, passed, late-malformed, late-wide, late-unsatisfiable, late-full, late-none, late-over, overfull}
+
+some-user : (o : Option Thread) → isSome (mapOption (λ t. t .user) o) ≡ isSome o
+some-user none = refl
+some-user (some t) = refl
 
 -- ---- of an L after some events
 
@@ -64,6 +69,12 @@ module _ (es : List Event) (d : Cells) (m : Mirrors es (stateOf d)) (k : Stores 
   abbrev over : Bool
   over = overfull (length (segmentAt (stateOf d) b .products)) (length (sumIn outcome)) (stateOf d .lockNumbers)
 
+  abbrev live : Bool
+  live = isSome (editor (stateOf d) a)
+
+  abbrev own : Bool
+  own = owns (stateOf d) (userOf (stateOf d) a) b
+
   abbrev firstOf : Option Refusal
   firstOf = firstRefusal (conditions outcomeOf (stateOf d) (AddLock a b c) text)
 
@@ -79,14 +90,20 @@ module _ (es : List Event) (d : Cells) (m : Mirrors es (stateOf d)) (k : Stores 
       let same = ap isAccepted (answer-decoded outcomeOf d next (WellFormed (AddLock a b c)) e) in
       (λ h. to (sym same ∙ h), λ h. same ∙ from h)
 
-  allowed : isUser (stateOf d) a ≡ true → isSegment (stateOf d) b ≡ true → owns (stateOf d) a b ≡ true → takesSet (segmentAt (stateOf d) b .kind) c ≡ true → Allowed es a b c
+  -- who edits, as the history has him
+  user-as : (t : Thread) → history es .threads a ≡ some t → userOf (stateOf d) a ≡ t .user
+  user-as t h = ap (orDefault 0 (λ u. u)) (m .editors a ∙ ap (mapOption (λ r. r .user)) h)
+
+  allowed : live ≡ true → isSegment (stateOf d) b ≡ true → own ≡ true → takesSet (segmentAt (stateOf d) b .kind) c ≡ true → Allowed es a b c
   allowed u s o f =
+      let (thread, l) = isSome-some (history es .threads a) (sym (some-user (history es .threads a)) ∙ sym (ap isSome (m .editors a)) ∙ u) in
       let (entry, h) = isSome-some (history es .segments b) (sym (m .segment b) ∙ s) in
       record {
-        user = subst (λ (n : ℕ). a < n) (ap (λ (i : Issued). i .users) (m .handedOut)) (ltb-true a (stateOf d .users) u);
+        thread = thread;
+        live = l;
         entry = entry;
         segment = h;
-        owner = sym (m .owner b entry h) ∙ eqb-true _ a o;
+        owner = sym (m .owner b entry h) ∙ eqb-true _ _ o ∙ user-as thread l;
         operations = ap (λ (n : ℕ). takesSet n c) (sym (m .kind b entry h)) ∙ f;
       }
 
@@ -94,32 +111,32 @@ module _ (es : List Event) (d : Cells) (m : Mirrors es (stateOf d)) (k : Stores 
   is-late : (r : Option Refusal) → isLate r ≡ true → firstOf ≡ r → Allowed es a b c × (late outcome over ≡ r)
   unfolding conditions
   is-late r l h =
-      let (u, s, o, f) = passed (isUser (stateOf d) a) (isSegment (stateOf d) b) (owns (stateOf d) a b) (takesSet (segmentAt (stateOf d) b .kind) c) outcome over r l h in
+      let (u, s, o, f) = passed live (isSegment (stateOf d) b) own (takesSet (segmentAt (stateOf d) b .kind) c) outcome over r l h in
       (allowed u s o f, sym (reaches-text outcome over) ∙ sym (same u s o f) ∙ h)
     where
-      same : isUser (stateOf d) a ≡ true → isSegment (stateOf d) b ≡ true → owns (stateOf d) a b ≡ true → takesSet (segmentAt (stateOf d) b .kind) c ≡ true
-          → firstRefusal (tests (isUser (stateOf d) a) (isSegment (stateOf d) b) (owns (stateOf d) a b) (takesSet (segmentAt (stateOf d) b .kind) c) outcome over) ≡ firstRefusal (tests true true true true outcome over)
+      same : live ≡ true → isSegment (stateOf d) b ≡ true → own ≡ true → takesSet (segmentAt (stateOf d) b .kind) c ≡ true
+          → firstRefusal (tests live (isSegment (stateOf d) b) own (takesSet (segmentAt (stateOf d) b .kind) c) outcome over) ≡ firstRefusal (tests true true true true outcome over)
       same u s o f = rw (u, s, o, f)
 
   -- and the other way round
   reaches : Allowed es a b c → firstOf ≡ late outcome over
   unfolding conditions
-  reaches w = same user segment owner fit ∙ reaches-text outcome over
+  reaches w = same known segment owner fit ∙ reaches-text outcome over
     where
-      user : isUser (stateOf d) a ≡ true
-      user = lt-ltb a (stateOf d .users) (subst (λ (n : ℕ). a < n) (sym (ap (λ (i : Issued). i .users) (m .handedOut))) (w .user))
+      known : live ≡ true
+      known = ap isSome (m .editors a ∙ ap (mapOption (λ t. t .user)) (w .live))
 
       segment : isSegment (stateOf d) b ≡ true
       segment = m .segment b ∙ rw (w .segment)
 
-      owner : owns (stateOf d) a b ≡ true
-      owner = eq-eqb (segmentAt (stateOf d) b .owner) a (m .owner b (w .entry) (w .segment) ∙ w .owner)
+      owner : own ≡ true
+      owner = eq-eqb _ _ (m .owner b (w .entry) (w .segment) ∙ w .owner ∙ sym (user-as (w .thread) (w .live)))
 
       fit : takesSet (segmentAt (stateOf d) b .kind) c ≡ true
       fit = ap (λ (n : ℕ). takesSet n c) (m .kind b (w .entry) (w .segment)) ∙ w .operations
 
-      same : isUser (stateOf d) a ≡ true → isSegment (stateOf d) b ≡ true → owns (stateOf d) a b ≡ true → takesSet (segmentAt (stateOf d) b .kind) c ≡ true
-          → firstRefusal (tests (isUser (stateOf d) a) (isSegment (stateOf d) b) (owns (stateOf d) a b) (takesSet (segmentAt (stateOf d) b .kind) c) outcome over) ≡ firstRefusal (tests true true true true outcome over)
+      same : live ≡ true → isSegment (stateOf d) b ≡ true → own ≡ true → takesSet (segmentAt (stateOf d) b .kind) c ≡ true
+          → firstRefusal (tests live (isSegment (stateOf d) b) own (takesSet (segmentAt (stateOf d) b .kind) c) outcome over) ≡ firstRefusal (tests true true true true outcome over)
       same u s o f = rw (u, s, o, f)
 
   -- a refusal of the text, exactly where the compiler gives it

@@ -14,8 +14,8 @@ use Rattle.product.specs.declared.literal.Key.the-variants.{Segment as SegmentK
 use Rattle.product.specs.Sum.{Sum}
 use Rattle.formula.specs.declared.text.Issued.{Issued}
 use Rattle.formula.specs.Outcome.{accepted, outcomeOf}
-use Rattle.formula.specs.Meaning.{textHolds}
-use Rattle.formula.specs.Compiler.{Compiler, everything}
+use Rattle.formula.specs.Meaning.{Meaning, textHolds}
+use Rattle.formula.specs.Compiler.{Compiler, Laws, everything}
 use Rattle.formula.proofs.Opening.{laws, opening-law, holds-spelt}
 use Rattle.call.specs.declared.request.Request.{Request}
 use Rattle.call.specs.declared.request.Decoded.{Decoded}
@@ -28,7 +28,7 @@ use Rattle.call.proofs.Requests.{requests-exactly}
 use Rattle.model.specs.declared.answer.Refusal.{Refusal}
 use Rattle.model.specs.declared.answer.Answer.the-variants.{Accepted}
 use Rattle.base.specs.Lists.{isSome, mapOption, keep, tailOf}
-use Rattle.model.specs.State.{State, emptyState, Segment, issued, blankSegment, segmentAt, isSegment, isLock, lockSegment}
+use Rattle.model.specs.State.{State, emptyState, Segment, userOf, issued, blankSegment, segmentAt, isSegment, isLock, lockSegment}
 use Rattle.model.specs.Refusals.{conditions}
 use Rattle.model.specs.Effects.{update, answer}
 use Rattle.model.specs.Model.{judged, stepDecoded, step}
@@ -42,8 +42,9 @@ use Rattle.model.proofs.Refinement.Literals.{keyIn-segment}
 use Rattle.model.proofs.Agreement.Segments.{entryOf, entry-low, entry-is}
 use Rattle.model.proofs.Agreement.Locks.{found}
 use Rattle.model.proofs.Agreement.ReadLocks.{lock-homed, lock-stands, lock-made}
-use Rattle.model.proofs.Agreement.Agrees.{Agrees}
-use Rattle.model.proofs.Agreement.EveryCall.{agree, found-as, thread-as}
+use Rattle.model.proofs.Agreement.Agrees.{Agrees, empty-agrees}
+use Rattle.model.proofs.Agreement.KeptAgreement.{editors-agree}
+use Rattle.model.proofs.Agreement.EveryCall.{agree, step-agrees, found-as, thread-as}
 use Rattle.model.proofs.Refinement.SegmentTables.{kept-list}
 use Rattle.model.proofs.Refinement.ServedCalls.{segment-at}
 use Rattle.model.proofs.Refinement.SegmentStores.{segment-shaped, handed}
@@ -75,13 +76,16 @@ module _ (compile : Compiler) (es : List Event) (d : State) (c : Agrees compile 
 
 -- ---- makers
 
-module _ (compile : Compiler) (d : State) (h : History) where
+module _ (compile : Compiler) (d : State) (h : History) (same : (a : ℕ) → editorIn h a ≡ userOf d a) where
   -- the makers after an event: one more exactly where it is an accepted K
   abbrev makersWith : Event → List ℕ
-  makersWith e = cond (counts letters.K e) (d .makers ++ editorIn h (e .call .a) ∷ []) (d .makers)
+  makersWith e = cond (counts letters.K e) (d .makers ++ userOf d (e .call .a) ∷ []) (d .makers)
 
   makers-added : (e : Event) → makersWith e ≡ d .makers ++ makerIn h e
-  makers-added e = caseBool (counts letters.K e) (λ t. simp t) (λ t. simp t (sym (append-nil (d .makers))))
+  makers-added e =
+      caseBool (counts letters.K e)
+      (λ t. simp t (ap (λ (u : ℕ). d .makers ++ u ∷ []) (sym (same (e .call .a)))))
+      (λ t. simp t (sym (append-nil (d .makers))))
 
   accepted-makers : (text : List ℕ) (n : ℕ) (q : Request) → update compile d q text .makers ≡ d .makers ++ makerIn h (event (callOf q text) (Accepted n))
   unfolding update
@@ -89,16 +93,16 @@ module _ (compile : Compiler) (d : State) (h : History) where
       every-request (λ r. update compile d r text .makers) (λ r. makersWith (event (callOf r text) (Accepted n))) (λ a b c. refl) q
       ∙ makers-added (event (callOf q text) (Accepted n))
 
-step-makers : (compile : Compiler) (d : State) (h : History) (x : Call)
+step-makers : (compile : Compiler) (d : State) (h : History) → ((a : ℕ) → editorIn h a ≡ userOf d a) → (x : Call)
     → step compile d x .state .makers ≡ d .makers ++ makerIn h (event x (step compile d x .answer))
 unfolding step
-step-makers compile d h x = by-request (decoded x) refl
+step-makers compile d h same x = by-request (decoded x) refl
   where
     by-refusal : (q : Request) → x ≡ callOf q (x .text) → (o : Option Refusal)
         → judged compile d q (x .text) o .state .makers ≡ d .makers ++ makerIn h (event x (judged compile d q (x .text) o .answer))
     by-refusal q e none =
         let n = answer compile d q (x .text) in
-        accepted-makers compile d h (x .text) n q ∙ ap (λ (y : Call). d .makers ++ makerIn h (event y (Accepted n))) (sym e)
+        accepted-makers compile d h same (x .text) n q ∙ ap (λ (y : Call). d .makers ++ makerIn h (event y (Accepted n))) (sym e)
     by-refusal q e (some r) = sym (append-nil (d .makers))
 
     by-request : (k : Decoded) → decoded x ≡ k
@@ -106,15 +110,16 @@ step-makers compile d h x = by-request (decoded x) refl
     by-request NotWellFormed e = sym (append-nil (d .makers))
     by-request (WellFormed q) e = by-refusal q (requests-exactly x q .0 e) (firstRefusal (conditions compile d q (x .text)))
 
-makers-after : (compile : Compiler) (xs : List Call) (d : State) (h : History)
-    → stateAfter compile d xs .makers ≡ d .makers ++ makersFrom h (eventsOf compile d xs)
-makers-after compile [] d h = sym (append-nil (d .makers))
-makers-after compile (x ∷ xs) d h =
-    let e = event x (step compile d x .answer) in
-    let es = eventsOf compile (step compile d x .state) xs in
-    makers-after compile xs (step compile d x .state) (advance h e)
-    ∙ ap (λ (m : List ℕ). m ++ makersFrom (advance h e) es) (step-makers compile d h x)
-    ∙ append-assoc (d .makers) (makerIn h e) (makersFrom (advance h e) es)
+module _ (compile : Compiler) (meaning : Meaning) (law : Laws compile meaning) where
+  makers-after : (xs : List Call) (d : State) (h : History) (count : ℕ → ℕ) → Agrees compile d h count
+      → stateAfter compile d xs .makers ≡ d .makers ++ makersFrom h (eventsOf compile d xs)
+  makers-after [] d h count c = sym (append-nil (d .makers))
+  makers-after (x ∷ xs) d h count c =
+      let e = event x (step compile d x .answer) in
+      let es = eventsOf compile (step compile d x .state) xs in
+      makers-after xs (step compile d x .state) (advance h e) _ (step-agrees compile meaning law d h count x c)
+      ∙ ap (λ (m : List ℕ). m ++ makersFrom (advance h e) es) (step-makers compile d h (editors-agree compile d h count c) x)
+      ∙ append-assoc (d .makers) (makerIn h e) (makersFrom (advance h e) es)
 
 -- ---- a segment's own key
 
@@ -147,10 +152,11 @@ mirror-by-laws compile meaning law xs =
     (record {
       handedOut = issued-as compile es d c;
       lockNumbers = c .counts .4;
-      makers = makers-after compile xs emptyState emptyHistory;
+      makers = makers-after compile meaning law xs emptyState emptyHistory _ (empty-agrees compile);
       threads = c .counts .5;
       live = λ n. ap isSome (found-as compile d (history es) count c n);
       thread = thread-as compile d (history es) count c;
+      editors = λ n. ap (mapOption (λ t. t .user)) (found-as compile d (history es) count c n);
       segment = segment-as compile es d c;
       owner = λ s e h. ap (λ (x : Entry). x .owner) (entry s e h);
       kind = λ s e h. ap (λ (x : Entry). x .kind) (entry s e h);

@@ -10,7 +10,7 @@ use Rattle.product.specs.Sum.{Sum}
 use Rattle.formula.specs.Outcome.{Outcome, accepted, malformed, tooWide, unsatisfiable}
 use Rattle.base.specs.Conditions.{Condition, when, firstRefusal}
 use Rattle.model.specs.declared.answer.Refusal.{Refusal}
-use Rattle.model.specs.declared.answer.Refusal.the-variants.{UnknownUser, NoSegment, NotOwner, Unfit, Full, Malformed, TooWide, Unsatisfiable}
+use Rattle.model.specs.declared.answer.Refusal.the-variants.{NoThread, NoSegment, NotOwner, Unfit, Full, Malformed, TooWide, Unsatisfiable}
 use Rattle.model.specs.Answers.{refusalNumber}
 use Rattle.model.specs.Limits.{mostStanding, mostNumbers, passes}
 use Rattle.model.specs.Refusals.{unless, isMalformed, isTooWide, isUnsatisfiable}
@@ -19,8 +19,8 @@ use Rattle.base.proofs.Lists.{clash}
 -- ---- the conditions, over any tests
 
 abbrev pub tests : Bool → Bool → Bool → Bool → Outcome → Bool → List (Condition Refusal)
-tests user segment owner fit x over =
-    unless user UnknownUser
+tests live segment owner fit x over =
+    unless live NoThread
     ∷ unless segment NoSegment
     ∷ unless owner NotOwner
     ∷ unless fit Unfit

@@ -1,8 +1,16 @@
 -- The trials, by computing. Each long list is a declaration of its own, so that the prover never holds two of them.
-use mathlib.Core.Path.{refl}
-use Rattle.model.specs.Notation.{Happens}
-use Rattle.model.specs.Theorems.Trials.{refusals, identity, users, segments, liveThreads, listed, frames, Trials}
+use mathlib.Core.Path.{_≡_, refl, ap, ap₂, _∙_}
+use mathlib.Core.List.{List, [], _∷_, _++_, map}
+use lib.ListN.{getD, replicate}
+use Rattle.base.specs.Lists.{tailOf}
+use Rattle.formula.specs.Outcome.{outcomeOf}
+use Rattle.model.specs.State.{State, emptyState, freshSegment, freshThread, free, taken}
+use Rattle.model.specs.Model.{step}
+use Rattle.model.specs.Replay.{stateAfter, eventsOf}
+use Rattle.model.specs.Notation.{Expected, callsOf, got, Happens}
+use Rattle.model.specs.Theorems.Trials.{refusals, identity, editors, users, segments, liveThreads, keyRing, keysGiven, listed, frames, Trials}
 use Rattle.model.proofs.Unfoldings.{computing}
+use Rattle.model.proofs.Refinement.EveryCall.{refinement}
 
 table-happens : Happens refusals
 unfolding computing
@@ -11,6 +19,10 @@ table-happens = refl
 identity-happens : Happens identity
 unfolding computing
 identity-happens = refl
+
+editors-happen : Happens editors
+unfolding computing
+editors-happen = refl
 
 users-happen : Happens users
 unfolding computing
@@ -24,9 +36,41 @@ threads-happen : Happens liveThreads
 unfolding computing
 threads-happen = refl
 
-listed-happens : Happens listed
+-- a list in two parts, the second from a state that the first comes to
+in-two : (xs ys : List Expected) (d d′ : State) → stateAfter outcomeOf d (callsOf xs) ≡ d′ → map got (eventsOf outcomeOf d (callsOf xs)) ≡ xs
+    → map got (eventsOf outcomeOf d′ (callsOf ys)) ≡ ys → map got (eventsOf outcomeOf d (callsOf (xs ++ ys))) ≡ xs ++ ys
+in-two [] ys d d′ s p q = ap (λ (e : State). map got (eventsOf outcomeOf e (callsOf ys))) s ∙ q
+in-two (x ∷ xs) ys d d′ s p q =
+    ap₂ (λ (e : Expected) (es : List Expected). e ∷ es) (ap (λ (es : List Expected). getD es 0 x) p)
+    (in-two xs ys (step outcomeOf d (x .call) .state) d′ s (ap tailOf p) q)
+
+-- the state after the first part of the list, so that the second needn't look through the first
+abbrev ringed : State
+ringed =
+    record {
+      users = 1;
+      threadNumbers = 1;
+      lockNumbers = 0;
+      makers = replicate 8 0;
+      segments = freshSegment 0 0 0 ∷ [];
+      places = taken 0 (freshThread 0) ∷ replicate 63 free;
+    }
+
+ring-is : stateAfter outcomeOf emptyState (callsOf keyRing) ≡ ringed
 unfolding computing
-listed-happens = refl
+ring-is = refl
+
+ring-happens : map got (eventsOf outcomeOf emptyState (callsOf keyRing)) ≡ keyRing
+unfolding computing
+ring-happens = refl
+
+given-happens : map got (eventsOf outcomeOf ringed (callsOf keysGiven)) ≡ keysGiven
+unfolding computing
+given-happens = refl
+
+listed-happens : Happens listed
+listed-happens =
+    ap (map got) (refinement .list (callsOf listed) .events) ∙ in-two keyRing keysGiven emptyState ringed ring-is ring-happens given-happens
 
 frames-happen : Happens frames
 unfolding computing
@@ -40,6 +84,7 @@ trials =
       everyLetter = refl;
       numbered = refl;
       identityHappens = identity-happens;
+      editorsHappen = editors-happen;
       usersHappen = users-happen;
       segmentsHappen = segments-happen;
       threadsHappen = threads-happen;

@@ -1,20 +1,21 @@
 -- What is answered of a thread or a segment has 16 bits: it is in a cell, or is a count of a list that the arrays
 -- bound.
-use mathlib.Core.Path.{_≡_, sym, ap, subst}
+use mathlib.Core.Path.{_≡_, refl, sym, ap, subst}
 use mathlib.Core.Bool.{Bool, true, not}
 use mathlib.Core.List.{List, [], _∷_, map}
+use mathlib.Core.Option.{Option, none, some}
 use Prim.Native.Nat.{ℕ, zero, suc, _≤_, _<_}
 use native.Mathlib.Omega.{arith}
 use lib.Dec.{eqb, ltb}
 use lib.ListN.{length, length-set, length-map, List·getD-map, List·getD-eq-default}
 use borrow.Author.Tests.{ltb-false}
-use Rattle.base.specs.Lists.{keep, first, orDefault}
+use Rattle.base.specs.Lists.{keep, first, mapOption, orDefault}
 use Rattle.model.specs.Limits.{mostListed, mostStanding, mostFrames}
 use Rattle.model.specs.Threads.{Thread, keySet}
-use Rattle.model.specs.State.{LockProduct, Segment, blankSegment, segmentAt, Place, free, threadIn, blankThread, placeOf, threadAt}
+use Rattle.model.specs.State.{LockProduct, Segment, blankSegment, segmentAt, Place, free, threadIn, blankThread, placeOf, findThread, threadAt, userOf}
 use Rattle.model.specs.Refusals.{opensFor, openingProduct, lockOf}
 use Rattle.model.specs.Effects.{newest}
-use Rattle.model.specs.Cells.{Table, Cells, Sized, cell, rowAt, tableAt, liveCell, keyIn, hasKey, usedRows, framesOf, depthOf, placeIn, productIn, listRow, segmentOf, stateOf}
+use Rattle.model.specs.Cells.{Table, Cells, Sized, cell, rowAt, tableAt, userCell, liveCell, keyIn, hasKey, usedRows, framesOf, depthOf, placeIn, productIn, listRow, segmentOf, stateOf}
 use Rattle.model.specs.Theorems.Widths.{word, doubleWord, Fitting}
 use Rattle.base.proofs.Lists.{All, caseBool, length-keep}
 use Rattle.model.proofs.Refinement.ProductRows.{length-used}
@@ -27,8 +28,13 @@ use Rattle.model.proofs.Limits.LockWidths.{used-low}
 -- ---- of a thread
 
 pub record ThreadFits (r : Thread) : Type 0 where
+  pub user : r .user < word
   pub depth : length (r .frames) ≤ mostFrames
   pub last : newest (r .frames) < word
+
+user-at : (o : Option Thread) → orDefault 0 (λ (u : ℕ). u) (mapOption (λ t. t .user) o) ≡ orDefault blankThread (λ t. t) o .user
+user-at none = refl
+user-at (some t) = refl
 
 newest-low : (t : Table) → LowRows word t → (n : ℕ) → newest (framesOf t n) < word
 newest-low t h zero = omega arith
@@ -40,9 +46,9 @@ PlaceFits p = ThreadFits (orDefault blankThread (λ r. r) (threadIn p))
 place-fits : (t : Table) → LowRows word t → PlaceFits (placeIn t)
 place-fits t h =
     caseBool (eqb (cell (rowAt t 0) liveCell) 0)
-    (λ e. let dead : placeIn t ≡ free = simp e in subst PlaceFits (sym dead) (record { depth = omega arith; last = omega arith }))
+    (λ e. let dead : placeIn t ≡ free = simp e in subst PlaceFits (sym dead) (record { user = omega arith; depth = omega arith; last = omega arith }))
     (λ e. let l : length (framesOf t (depthOf t)) ≡ depthOf t = length-frames t (depthOf t) in
-    subst PlaceFits (sym (live-place t e)) (record { depth = omega arith; last = newest-low t h (depthOf t) }))
+    subst PlaceFits (sym (live-place t e)) (record { user = h 0 userCell; depth = omega arith; last = newest-low t h (depthOf t) }))
 
 -- ---- what is answered of a segment
 
@@ -76,6 +82,10 @@ module _ (d : Cells) (c : Sized d) (k : Fitting d) where
   thread-fits a =
       let i = placeOf a (map placeIn (d .threads)) in
       subst PlaceFits (sym (List·getD-map placeIn (d .threads) i [])) (place-fits (tableAt (d .threads) i) (k .threads i))
+
+  pub user-fits : (a : ℕ) → userOf (stateOf d) a < word
+  user-fits a =
+      subst (λ (u : ℕ). u < word) (sym (user-at (findThread a (stateOf d .places)))) (thread-fits a .user)
 
   handed-out : (s : ℕ) → ltb s (length (stateOf d .segments)) ≡ true → s < segmentsIn d
   unfolding stateOf

@@ -29,7 +29,7 @@ use Rattle.base.specs.Lists.{keepIf, keep}
 use Rattle.model.specs.Limits.{mostUsers, mostThreads, mostSegments, mostDefined, mostListed, mostStanding, mostNumbers, passes}
 use Rattle.model.specs.Operations.{denies, grants, execute}
 use Rattle.model.specs.Threads.{sameKey}
-use Rattle.model.specs.State.{LockProduct, segmentAt, Place, isFree, liveIn, placeFor, placeOf, isOfLock, hasLock, isLock, lockSegment, issued}
+use Rattle.model.specs.State.{LockProduct, segmentAt, userOf, Place, isFree, liveIn, placeFor, placeOf, isOfLock, hasLock, isLock, lockSegment, issued}
 use Rattle.model.specs.Refusals.{openingProduct, lockOf, conditions}
 use Rattle.model.specs.Effects.{answer}
 use Rattle.model.specs.Cells.{Table, Cells, Sized, cell, tableAt, userCount, threadCount, segmentCount, definedCount, lockCount, liveCell, definedCell, placeIn, listRow, stateOf, segmentsAre}
@@ -46,7 +46,7 @@ use Rattle.model.proofs.Limits.FittingCells.{LowRows, LowTables, low-se
 use Rattle.model.proofs.Limits.ThreadWidths.{start-low, push-low, pop-low}
 use Rattle.model.proofs.Limits.SegmentWidths.{list-low, new-low, give-low, take-low}
 use Rattle.model.proofs.Limits.LockWidths.{end-low, add-low, drop-low}
-use Rattle.model.proofs.Limits.AnsweredWidths.{thread-fits, segment-fits, opening-low}
+use Rattle.model.proofs.Limits.AnsweredWidths.{thread-fits, user-fits, segment-fits, opening-low}
 
 -- a table in its array
 module _ (d : Cells) (k : Fitting d) where
@@ -106,6 +106,7 @@ module _ (compile : Compiler) (holds : Meaning) (law : Laws compile holds) (d : 
       record { stored = at-thread d k a endThread (λ t h. low-cell word t h 0 liveCell 0 (omega arith)); answered = omega arith }
   fit-accepted (request.NewSegment a b) l e =
       let s : ℕ = cell (d .registry) segmentCount in
+      let u : ℕ = userOf (stateOf d) a in
       let f = all-fail (conditions compile (stateOf d) (request.NewSegment a b) text) e in
       let many : length (stateOf d .segments) ≡ segmentsIn d = length-segments d in
       let room : suc (length (stateOf d .segments)) ≤ mostSegments = within mostSegments (suc (length (stateOf d .segments))) (f .1 .1 .0) in
@@ -114,7 +115,7 @@ module _ (compile : Compiler) (holds : Meaning) (law : Laws compile holds) (d : 
             fitting-count
             (fitting-segments
             (fitting-locks k _ (low-locks d k s (λ t. endRows t 0) (end-low 0 (tableAt (d .locks) s) (k .locks s))))
-            _ (low-segments d k s (newSegment s a b) (new-low s a b (omega arith) (l .a) (l .b))))
+            _ (low-segments d k s (newSegment s u b) (new-low s u b (omega arith) (user-fits d c k a) (l .b))))
             segmentCount (omega arith);
         answered = omega arith;
       }
@@ -125,7 +126,7 @@ module _ (compile : Compiler) (holds : Meaning) (law : Laws compile holds) (d : 
       let size : length (d .makers) ≡ mostDefined = c .makers in
       let room : suc (length made) ≤ mostDefined = within mostDefined (suc (length made)) (all-fail (conditions compile (stateOf d) (request.NewKey a) text) e .1 .0) in
       record {
-        stored = fitting-count (fitting-makers k _ (low-set word (d .makers) (k .makers) n a (l .a))) definedCount (omega arith);
+        stored = fitting-count (fitting-makers k _ (low-set word (d .makers) (k .makers) n (userOf (stateOf d) a) (user-fits d c k a))) definedCount (omega arith);
         answered = omega arith;
       }
   fit-accepted (request.GiveKey a b n) l e =

@@ -9,7 +9,7 @@ use lib.Dec.{eqb}
 use lib.ListN.{getD, set, List·getD-map}
 use lib.Seq.{set-getD}
 use borrow.Author.Tests.{eqb-false, ne-eqb}
-use Rattle.base.specs.Lists.{isSome, indexOf}
+use Rattle.base.specs.Lists.{isSome, mapOption, indexOf}
 use Rattle.base.proofs.Lists.{caseBool, map-map, map-same, map-set}
 use Rattle.model.specs.Limits.{mostThreads}
 use Rattle.model.specs.Threads.{Thread}
@@ -53,6 +53,13 @@ stands-own n (taken k t) =
 stands-some : (n m : ℕ) (x : Place) → isSome (standing m (erase n x)) ≡ isSome (standing m x)
 stands-some n m free = refl
 stands-some n m (taken k t) =
+    caseBool (eqb k n)
+    (λ e. simp e)
+    (λ e. caseBool (eqb m k) (λ f. simp (e, f)) (λ f. simp (e, f)))
+
+stands-user : (n m : ℕ) (x : Place) → mapOption (λ t. t .user) (standing m (erase n x)) ≡ mapOption (λ t. t .user) (standing m x)
+stands-user n m free = refl
+stands-user n m (taken k t) =
     caseBool (eqb k n)
     (λ e. simp e)
     (λ e. caseBool (eqb m k) (λ f. simp (e, f)) (λ f. simp (e, f)))
@@ -106,13 +113,17 @@ module _ (n : ℕ) (xs : List Place) where
       ∙ ap (λ (i : ℕ). standing m (getD (map (erase n) xs) i free)) (home-kept m)
       ∙ ap (standing m) (at-erased n xs (placeOf m xs))
 
-  -- thread n is found as it is, and of every other whether it lives
+  -- thread n is found as it is, and of every other whether it lives and whose it is
   pub own-kept : findThread n (map (erase n) xs) ≡ findThread n xs
   own-kept = stands-as n ∙ stands-own n (getD xs (placeOf n xs) free) ∙ sym (found-stands n xs)
 
   pub alive-kept : (m : ℕ) → isSome (findThread m (map (erase n) xs)) ≡ isSome (findThread m xs)
   alive-kept m =
       ap isSome (stands-as m) ∙ stands-some n m (getD xs (placeOf m xs) free) ∙ ap isSome (sym (found-stands m xs))
+
+  pub user-kept : (m : ℕ) → mapOption (λ t. t .user) (findThread m (map (erase n) xs)) ≡ mapOption (λ t. t .user) (findThread m xs)
+  user-kept m =
+      ap (mapOption (λ t. t .user)) (stands-as m) ∙ stands-user n m (getD xs (placeOf m xs) free) ∙ ap (mapOption (λ t. t .user)) (sym (found-stands m xs))
 
   -- a place changed: seen through the erased places it is the same
   pub change-seen : (i j : ℕ) (f : Place → Place) → j ≡ i → ((x : Place) → erase n (f (erase n x)) ≡ erase n (f x))

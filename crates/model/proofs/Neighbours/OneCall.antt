@@ -27,7 +27,7 @@ use Rattle.model.specs.Effects.{withPlaces, atPlace, onThread, pushFrame
 use Rattle.model.specs.Model.{judged, stepDecoded, step}
 use Rattle.model.specs.Theorems.Neighbours.{isStruck, endsAnother, withoutNumber}
 use Rattle.model.proofs.Agreement.Places.{lives}
-use Rattle.model.proofs.Neighbours.Erased.{view, erase, free-kept, all-twice, live-kept, place-kept, home-kept, own-kept, alive-kept, KeepsUser, change-kept, change-seen, change-unseen}
+use Rattle.model.proofs.Neighbours.Erased.{view, erase, free-kept, all-twice, live-kept, place-kept, home-kept, own-kept, alive-kept, user-kept, KeepsUser, change-kept, change-seen, change-unseen}
 
 module _ (compile : Compiler) (n : ℕ) (text : List ℕ) where
   same-thread : (m : ℕ) → not (eqb m n) ≡ false → m ≡ n
@@ -39,12 +39,12 @@ module _ (compile : Compiler) (n : ℕ) (text : List ℕ) where
   conditions-same d request.NewUser h = refl
   conditions-same d (request.StartThread a) h = rw (live-kept n (d .places))
   conditions-same d (request.EndThread a) h = rw (alive-kept n (d .places) a)
-  conditions-same d (request.NewSegment a b) h = refl
-  conditions-same d (request.NewKey a) h = refl
-  conditions-same d (request.GiveKey a b c) h = refl
-  conditions-same d (request.TakeKey a b c) h = refl
-  conditions-same d (request.AddLock a b c) h = refl
-  conditions-same d (request.DropLock a b) h = refl
+  conditions-same d (request.NewSegment a b) h = rw (user-kept n (d .places) a)
+  conditions-same d (request.NewKey a) h = rw (user-kept n (d .places) a)
+  conditions-same d (request.GiveKey a b c) h = rw (user-kept n (d .places) a)
+  conditions-same d (request.TakeKey a b c) h = rw (user-kept n (d .places) a)
+  conditions-same d (request.AddLock a b c) h = rw (user-kept n (d .places) a)
+  conditions-same d (request.DropLock a b) h = rw (user-kept n (d .places) a)
   conditions-same d (request.CallSegment a b) h = rw (same-thread a h, own-kept n (d .places))
   conditions-same d (request.ReturnCall a) h = rw (same-thread a h, own-kept n (d .places))
   conditions-same d (request.Access a b c) h = rw (same-thread a h, own-kept n (d .places))
@@ -77,8 +77,8 @@ module _ (compile : Compiler) (n : ℕ) (text : List ℕ) where
       (change-seen n (d .places) _ _ (λ x. taken (d .threadNumbers) (freshThread a)) (place-kept n isFree (free-kept n) (d .threadNumbers) (d .places)) (λ x. refl))
   update-same d (request.EndThread a) =
       ap (withPlaces d) (change-seen n (d .places) _ _ (λ x. free) (home-kept n (d .places) a) (λ x. refl))
-  update-same d (request.NewSegment a b) = idle d (update compile d (request.NewSegment a b) text)
-  update-same d (request.NewKey a) = idle d (update compile d (request.NewKey a) text)
+  update-same d (request.NewSegment a b) = rw (user-kept n (d .places) a) (idle d (update compile d (request.NewSegment a b) text))
+  update-same d (request.NewKey a) = rw (user-kept n (d .places) a) (idle d (update compile d (request.NewKey a) text))
   update-same d (request.GiveKey a b c) = idle d (update compile d (request.GiveKey a b c) text)
   update-same d (request.TakeKey a b c) = idle d (update compile d (request.TakeKey a b c) text)
   update-same d (request.AddLock a b c) = idle d (update compile d (request.AddLock a b c) text)

@@ -26,14 +26,14 @@ use Rattle.model.specs.Notation.{Expected, U, S, E, N, K, G, T, L, D, C,
 abbrev pub route : List Expected
 route =
     ok U 0
+    ∷ ok (S 0) 0
+    ∷ ok (S 0) 1
     ∷ ok (N 0 0) 0
     ∷ ok (N 0 0) 1
     ∷ ok (N 0 1) 2
     ∷ ok (L 0 0 1 (bytes "U0")) 0
     ∷ ok (L 0 1 1 (bytes "U0")) 1
     ∷ ok (L 0 2 4 (bytes "S0&S1")) 2
-    ∷ ok (S 0) 0
-    ∷ ok (S 0) 1
     ∷ ok (C 0 0) 0
     ∷ ok (C 0 1) 1
     ∷ ok (C 1 1) 1
@@ -51,6 +51,7 @@ emptyDesk = no (S 0) 1 0 ∷ no (R 0) 2 0 ∷ []
 abbrev pub texts : List Expected
 texts =
     ok U 0
+    ∷ ok (S 0) 0
     ∷ ok (N 0 0) 0
     ∷ ok (K 0) 0
     ∷ ok (K 0) 1
@@ -72,11 +73,11 @@ texts =
 abbrev pub twice : List Expected
 twice =
     ok U 0
+    ∷ ok (S 0) 0
     ∷ ok (N 0 0) 0
     ∷ ok (N 0 1) 1
     ∷ ok (L 0 0 1 (bytes "U0")) 0
     ∷ ok (L 0 1 2 (bytes "S0")) 1
-    ∷ ok (S 0) 0
     ∷ ok (C 0 0) 0
     ∷ ok (C 0 0) 0
     ∷ ok (R 0) 0
@@ -89,13 +90,13 @@ twice =
 abbrev pub back : List Expected
 back =
     ok U 0
+    ∷ ok (S 0) 0
     ∷ ok (N 0 0) 0
     ∷ ok (N 0 0) 1
     ∷ ok (N 0 1) 2
     ∷ ok (L 0 0 1 (bytes "U0")) 0
     ∷ ok (L 0 1 1 (bytes "U0")) 1
     ∷ ok (L 0 2 2 (bytes "S0")) 2
-    ∷ ok (S 0) 0
     ∷ ok (C 0 0) 0
     ∷ ok (C 0 1) 1
     ∷ ok (A 0 2 2) 2
@@ -110,9 +111,9 @@ back =
 abbrev pub deep : List Expected
 deep =
     ok U 0
+    ∷ ok (S 0) 0
     ∷ ok (N 0 0) 0
     ∷ ok (L 0 0 1 (bytes "U0")) 0
-    ∷ ok (S 0) 0
     ∷ replicate 16 (ok (C 0 0) 0)
     ++ no (C 0 0) 10 0
     ∷ ok (R 0) 0
@@ -127,11 +128,11 @@ deep =
 abbrev pub edits : List Expected
 edits =
     ok U 0
+    ∷ ok (S 0) 0
     ∷ ok (N 0 0) 0
     ∷ ok (K 0) 0
     ∷ ok (G 0 0 0) 2
     ∷ ok (L 0 0 1 (bytes "U0")) 0
-    ∷ ok (S 0) 0
     ∷ ok (C 0 0) 0
     ∷ ok (T 0 0 0) 1
     ∷ ok (L 0 0 9 (bytes "D0")) 1
@@ -149,6 +150,8 @@ abbrev pub standing : List Expected
 standing =
     ok U 0
     ∷ ok U 1
+    ∷ ok (S 0) 0
+    ∷ ok (S 1) 1
     ∷ ok (N 0 0) 0
     ∷ ok (N 1 1) 1
     ∷ ok (K 0) 0

@@ -24,18 +24,19 @@ use Rattle.model.specs.declared.answer.Answer.{Answer}
 use Rattle.model.specs.declared.answer.Answer.the-variants.{Refused}
 use Rattle.model.specs.Answers.{isAccepted}
 use Rattle.model.specs.Operations.{takesSet}
-use Rattle.model.specs.Threads.{KeySet}
+use Rattle.model.specs.Threads.{Thread, KeySet}
 use Rattle.model.specs.History.{Event, Entry, history, acceptedOf, issuedBy}
 use Rattle.model.specs.Replay.{events, answerTo}
 use Rattle.model.specs.HistoryLocks.{standingProducts}
 
--- 'in a call that no earlier number refuses', of an L with fields a, b and c: user a is handed out, segment b is handed
--- out and his, and it takes the operations c
+-- 'in a call that no earlier number refuses', of an L with fields a, b and c: thread a is live, segment b is handed out
+-- and its user's, and it takes the operations c
 pub record Allowed (es : List Event) (a b c : ℕ) : Type 0 where
-  pub user : a < acceptedOf letters.U es
+  pub thread : Thread
+  pub live : history es .threads a ≡ some thread
   pub entry : Entry
   pub segment : history es .segments b ≡ some entry
-  pub owner : entry .owner ≡ a
+  pub owner : entry .owner ≡ thread .user
   pub operations : takesSet (entry .kind) c ≡ true
 
 -- the text is in the grammar as a formula of keys handed out, every node fits, and some key set makes the formula true

@@ -20,9 +20,9 @@ use Rattle.formula.specs.Meaning.{textHolds, Meaning}
 use Rattle.formula.specs.Compiler.{Compiler, Laws}
 use Rattle.call.specs.Calls.{Call}
 use Rattle.call.specs.Letters as letters
-use Rattle.base.specs.Lists.{any, isSome}
+use Rattle.base.specs.Lists.{any, isSome, mapOption}
 use Rattle.model.specs.Threads.{Thread}
-use Rattle.model.specs.State.{State, issued, liveIn, isLive, threadAt, isSegment, segmentAt, isLock, lockSegment}
+use Rattle.model.specs.State.{State, issued, liveIn, isLive, threadAt, editor, isSegment, segmentAt, isLock, lockSegment}
 use Rattle.model.specs.Cells.{stateOf}
 use Rattle.model.specs.History.{Event, Entry, Lock, history, acceptedOf, makersOf, issuedBy}
 use Rattle.model.specs.Replay.{reached, events, historyOf}
@@ -38,6 +38,8 @@ pub record Mirrors (es : List Event) (d : State) : Type 0 where
   pub threads : liveIn (d .places) + acceptedOf letters.E es ≡ acceptedOf letters.S es
   pub live : (n : ℕ) → isLive d n ≡ isSome (history es .threads n)
   pub thread : (n : ℕ) (t : Thread) → history es .threads n ≡ some t → threadAt d n ≡ t
+  -- who edits: the user of the thread that field a names, if it is live
+  pub editors : (n : ℕ) → editor d n ≡ mapOption (λ t. t .user) (history es .threads n)
   -- segments, with their owner, kind and key list, which starts with its own S key
   pub segment : (s : ℕ) → isSegment d s ≡ isSome (history es .segments s)
   pub owner : (s : ℕ) (e : Entry) → history es .segments s ≡ some e → segmentAt d s .owner ≡ e .owner

@@ -31,7 +31,18 @@ strike n xs = keep (λ x. not (isStruck n x)) xs
 
 -- the letters whose field a names a thread, in the table's order; `everyThreadLetter` of `SideBySide` has all of them
 abbrev pub threadLetters : List ℕ
-threadLetters = letters.E ∷ letters.C ∷ letters.R ∷ letters.A ∷ []
+threadLetters =
+    letters.E
+    ∷ letters.N
+    ∷ letters.K
+    ∷ letters.G
+    ∷ letters.T
+    ∷ letters.L
+    ∷ letters.D
+    ∷ letters.C
+    ∷ letters.R
+    ∷ letters.A
+    ∷ []
 
 -- the one thread's own calls
 abbrev pub isOwn : ℕ → Call → Bool

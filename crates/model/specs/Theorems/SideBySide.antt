@@ -1,7 +1,7 @@
 -- A worked example for `Neighbours`: two lists of calls that become equal once the C, R and A records of threads other
 -- than 1 are struck out, 55 of them in the one, 33 accepted and 22 refused, and 25 in the other, 20 and 5. Thread 1
--- comes to grants and to 15, 14, 10, 18 and 2, in both alike. Of all that is left only the E of threads 0 and 2 answer
--- otherwise. Proved in `proofs/Computed/SideBySide.antt`, by computing.
+-- comes to grants and edits and to 2, 5, 6, 7, 8, 10, 14, 15 and 18, in both alike. Of all that is left only the E of
+-- threads 0 and 2 answer otherwise. Proved in `proofs/Computed/SideBySide.antt`, by computing.
 use mathlib.Core.Path.{_≡_}
 use mathlib.Core.Bool.{Bool}
 use mathlib.Core.List.{List, [], _∷_, _++_, map}
@@ -25,11 +25,14 @@ namesThread r = eqb (answerNumber (answerTo outcomeOf [] (callOf (r .request) []
 
 -- Segments 0 (the rate loader), 1 (the recalculation) and 2 (the totals sheet). Users 0 and 1 may call the two, user 0
 -- may read the totals, but nobody from inside the recalculation, and they are saved only by way of both. Threads 0 and
--- 1 are user 0's, thread 2 is user 1's.
+-- 1 are user 0's, thread 2 is user 1's. Thread 0 sets all this up.
 abbrev pub office : List Expected
 office =
     ok U 0
     ∷ ok U 1
+    ∷ ok (S 0) 0
+    ∷ ok (S 0) 1
+    ∷ ok (S 1) 2
     ∷ ok (N 0 0) 0
     ∷ ok (N 0 0) 1
     ∷ ok (N 0 1) 2
@@ -38,9 +41,6 @@ office =
     ∷ ok (L 0 2 4 (bytes "S0&S1")) 2
     ∷ ok (L 0 2 2 (bytes "U0")) 3
     ∷ ok (L 0 2 10 (bytes "S1")) 4
-    ∷ ok (S 0) 0
-    ∷ ok (S 0) 1
-    ∷ ok (S 1) 2
     ∷ []
 
 -- ---- thread 1
@@ -52,6 +52,21 @@ loading = ok (C 1 0) 0 ∷ no (A 1 2 4) 15 0 ∷ ok (A 1 2 2) 3 ∷ []
 -- which calls the recalculation: with S1 it may save and no longer read
 abbrev pub recalculating : List Expected
 recalculating = ok (C 1 1) 1 ∷ ok (A 1 2 4) 2 ∷ no (A 1 2 2) 14 4 ∷ []
+
+-- it edits too, what thread 0 of the same user made as well as what it makes itself
+abbrev pub ownEditing : List Expected
+ownEditing =
+    ok (K 1) 2
+    ∷ ok (G 1 1 2) 3
+    ∷ no (G 1 1 2) 8 0
+    ∷ ok (T 1 1 2) 2
+    ∷ ok (N 1 0) 5
+    ∷ no (L 1 4 2 (bytes "U0")) 6 0
+    ∷ ok (L 1 5 1 (bytes "U1")) 7
+    ∷ ok (D 1 7) 1
+    ∷ no (D 1 7) 5 0
+    ∷ no (N 1 2) 7 0
+    ∷ []
 
 -- sixteen open calls, one too many, a return, and three that are not well formed
 abbrev pub nesting : List Expected
@@ -66,15 +81,16 @@ nesting =
 
 -- it saves once more, also on the sheet that D1 opens, and is ended with fifteen open calls
 abbrev pub ending : List Expected
-ending = ok (A 1 2 4) 2 ∷ ok (A 1 3 4) 5 ∷ ok (E 1) 15 ∷ no (A 1 2 4) 2 0 ∷ no (E 1) 2 0 ∷ []
+ending = ok (A 1 2 4) 2 ∷ ok (A 1 3 4) 5 ∷ ok (E 1) 15 ∷ no (A 1 2 4) 2 0 ∷ no (K 1) 2 0 ∷ no (E 1) 2 0 ∷ []
 
 abbrev pub own : List Expected
-own = loading ++ recalculating ++ nesting ++ ending
+own = loading ++ recalculating ++ ownEditing ++ nesting ++ ending
 
 -- ---- what else is left
 
--- A new user. User 0 makes a sheet and two keys, gives the recalculation both, takes D0 and locks the sheet by D1,
--- which thread 1 gets by its later calls; another lock is made and dropped. There is no call with the letter c.
+-- A new user. Thread 0 makes a sheet and two keys, gives the recalculation both, takes D0 and locks the sheet by D1,
+-- which thread 1 gets by its later calls; another lock is made and dropped. Thread 2 makes a sheet of user 1's, and may
+-- not drop user 0's lock. There is no call with the letter c.
 abbrev pub editing : List Expected
 editing =
     ok U 2
@@ -86,7 +102,9 @@ editing =
     ∷ ok (T 0 1 0) 2
     ∷ ok (L 0 3 4 (bytes "D1")) 5
     ∷ ok (L 0 2 2 (bytes "U2&R1|U2&R0")) 6
+    ∷ no (D 2 6) 6 0
     ∷ ok (D 0 6) 2
+    ∷ ok (N 2 1) 4
     ∷ no (callWith 99 0 1 0 []) 18 0
     ∷ []
 
@@ -103,7 +121,7 @@ changing closed₀ closed₂ =
 
 -- all that is left of both lists, without the two numbers
 abbrev pub whatIsLeft : List Expected
-whatIsLeft = office ++ loading ++ recalculating ++ editing ++ nesting ++ changing 0 0 ++ ending
+whatIsLeft = office ++ loading ++ recalculating ++ editing ++ ownEditing ++ nesting ++ changing 0 0 ++ ending
 
 -- ---- its neighbours, on a busy day
 
@@ -163,6 +181,7 @@ busy =
     ++ recalculating
     ++ busy₃
     ++ editing
+    ++ ownEditing
     ++ nesting
     ++ busy₄
     ++ ending
@@ -185,6 +204,7 @@ quiet =
     ++ replicate 16 (ok (C 2 0) 0)
     ++ no (C 2 1) 10 0
     ∷ editing
+    ++ ownEditing
     ++ nesting
     ++ ok (R 0) 0
     ∷ changing 1 16

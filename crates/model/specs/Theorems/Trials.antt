@@ -13,129 +13,140 @@ use Rattle.base.specs.Bytes.{bytes}
 use Rattle.call.specs.Calls.{Call, callWith, TableRow, table}
 use Rattle.model.specs.Answers.{answerNumber, answerValue}
 use Rattle.base.specs.Lists.{any, keep, each}
-use Rattle.model.specs.State.{State, emptyState, blankSegment, free}
+use Rattle.model.specs.State.{State, emptyState, blankSegment, freshThread, free, taken}
 use Rattle.model.specs.Refusals.{conditions}
 use Rattle.model.specs.Model.{step}
 use Rattle.model.specs.History.{handsOut}
 use Rattle.model.specs.Notation.{Expected, U, S, E, N, K, G, T, L, D, C, R, A, ok, no, Happens}
 
--- users 0 and 1; segments 0 (code) and 1 (sheet) of user 0, 2 (sheet) of user 1; D0 of user 0, D1 of user 1
+-- users 0 and 1; thread 0 of user 1, threads 1 and 2 of user 0, and thread 3 of user 0, which has ended. Segments 0
+-- (code) and 1 (sheet) of user 0, 2 (sheet) of user 1; D0 of user 0, D1 of user 1
 abbrev pub start : List Expected
 start =
     ok U 0
     ∷ ok U 1
-    ∷ ok (N 0 0) 0
-    ∷ no (N 2 2) 1 0
-    ∷ no (N 0 2) 7 0
-    ∷ ok (N 0 1) 1
-    ∷ ok (N 1 1) 2
-    ∷ no (K 2) 1 0
-    ∷ ok (K 0) 0
-    ∷ ok (K 1) 1
+    ∷ no (S 2) 1 0
+    ∷ ok (S 1) 0
+    ∷ ok (S 0) 1
+    ∷ ok (S 0) 2
+    ∷ ok (S 0) 3
+    ∷ ok (E 3) 0
+    ∷ ok (N 1 0) 0
+    ∷ no (N 3 2) 2 0
+    ∷ no (N 4 2) 2 0
+    ∷ no (N 1 2) 7 0
+    ∷ ok (N 2 1) 1
+    ∷ ok (N 0 1) 2
+    ∷ no (K 3) 2 0
+    ∷ no (K 4) 2 0
+    ∷ ok (K 1) 0
+    ∷ ok (K 0) 1
     ∷ []
 
 abbrev pub keyLists : List Expected
 keyLists =
-    no (G 2 9 9) 1 0
-    ∷ no (G 0 9 9) 3 0
-    ∷ no (G 1 1 2) 4 0
-    ∷ no (G 1 1 1) 6 0
+    no (G 3 9 9) 2 0
+    ∷ no (G 1 9 9) 3 0
+    ∷ no (G 0 1 2) 4 0
     ∷ no (G 0 1 1) 6 0
-    ∷ ok (G 0 1 0) 2
-    ∷ no (G 0 1 0) 8 0
-    ∷ no (T 2 9 9) 1 0
-    ∷ no (T 0 9 9) 3 0
-    ∷ no (T 1 1 2) 4 0
-    ∷ no (T 1 1 1) 6 0
-    ∷ no (T 0 1 1) 9 0
-    ∷ ok (T 0 1 0) 1
-    ∷ no (T 0 1 0) 9 0
+    ∷ no (G 1 1 1) 6 0
+    ∷ ok (G 1 1 0) 2
+    ∷ no (G 2 1 0) 8 0
+    ∷ no (T 3 9 9) 2 0
+    ∷ no (T 1 9 9) 3 0
+    ∷ no (T 0 1 2) 4 0
+    ∷ no (T 0 1 1) 6 0
+    ∷ no (T 1 1 1) 9 0
+    ∷ ok (T 2 1 0) 1
+    ∷ no (T 2 1 0) 9 0
     ∷ []
 
 abbrev pub threads : List Expected
 threads =
-    no (S 2) 1 0
-    ∷ ok (S 0) 0
-    ∷ ok (S 1) 1
-    ∷ no (E 2) 2 0
-    ∷ no (R 2) 2 0
-    ∷ no (R 0) 9 0
+    no (E 4) 2 0
+    ∷ no (E 3) 2 0
+    ∷ no (R 4) 2 0
+    ∷ no (R 3) 2 0
+    ∷ no (R 1) 9 0
     ∷ []
 
 -- operations are judged before the text, and a text by 11, 12 and 13 in that order
 abbrev pub locks : List Expected
 locks =
-    no (L 2 9 0 []) 1 0
-    ∷ no (L 0 9 0 []) 3 0
-    ∷ no (L 1 0 0 []) 6 0
-    ∷ no (L 0 0 0 []) 7 0
-    ∷ no (L 0 0 8 (bytes "U0")) 7 0
-    ∷ no (L 0 0 17 (bytes "U0")) 7 0
-    ∷ no (L 0 0 3 (bytes "U0")) 7 0
-    ∷ no (L 0 0 5 (bytes "U0")) 7 0
-    ∷ no (L 0 1 7 (bytes "U0")) 7 0
-    ∷ no (L 0 0 1 []) 11 0
-    ∷ no (L 0 0 1 (bytes "D2")) 11 0
-    ∷ no (L 0 0 1 (bytes "R2")) 11 0
-    ∷ no (L 0 0 1 (bytes "U0|U1|R0|R1|S0|S1|S2|D0|D1")) 12 0
-    ∷ no (L 0 0 1 (bytes "D0&!D0")) 13 0
-    ∷ ok (L 0 0 1 (bytes "R1")) 0
+    no (L 3 9 0 []) 2 0
+    ∷ no (L 1 9 0 []) 3 0
+    ∷ no (L 0 0 0 []) 6 0
+    ∷ no (L 1 0 0 []) 7 0
+    ∷ no (L 1 0 8 (bytes "U0")) 7 0
+    ∷ no (L 1 0 17 (bytes "U0")) 7 0
+    ∷ no (L 1 0 3 (bytes "U0")) 7 0
+    ∷ no (L 1 0 5 (bytes "U0")) 7 0
+    ∷ no (L 1 1 7 (bytes "U0")) 7 0
+    ∷ no (L 1 0 1 []) 11 0
+    ∷ no (L 1 0 1 (bytes "D2")) 11 0
+    ∷ no (L 1 0 1 (bytes "R4")) 11 0
+    ∷ no (L 1 0 1 (bytes "U0|U1|R0|R1|S0|S1|S2|D0|D1")) 12 0
+    ∷ no (L 1 0 1 (bytes "D0&!D0")) 13 0
+    ∷ ok (L 2 0 1 (bytes "R0")) 0
     ∷ []
 
 -- lock 1 denies whoever is inside segment 0 already
 abbrev pub calls : List Expected
 calls =
-    no (C 2 9) 2 0
-    ∷ no (C 0 9) 3 0
-    ∷ no (C 0 1) 7 0
-    ∷ no (C 0 0) 15 0
-    ∷ ok (C 1 0) 0
-    ∷ ok (L 0 0 9 (bytes "S0")) 1
-    ∷ no (C 1 0) 14 1
-    ∷ ok (R 1) 0
-    ∷ ok (C 1 0) 0
+    no (C 3 9) 2 0
+    ∷ no (C 1 9) 3 0
+    ∷ no (C 1 1) 7 0
+    ∷ no (C 1 0) 15 0
+    ∷ ok (C 0 0) 0
+    ∷ ok (L 1 0 9 (bytes "S0")) 1
+    ∷ no (C 0 0) 14 1
+    ∷ ok (R 0) 0
+    ∷ ok (C 0 0) 0
     ∷ []
 
--- lock 3 denies thread 0 to read; owners need a lock like everybody else
+-- lock 3 denies thread 1 to read; owners need a lock like everybody else
 abbrev pub accesses : List Expected
 accesses =
-    ok (L 0 1 6 (bytes "U0|R1")) 2
-    ∷ ok (L 0 1 10 (bytes "R0")) 3
-    ∷ no (A 2 9 9) 2 0
-    ∷ no (A 0 9 9) 3 0
-    ∷ no (A 0 1 1) 7 0
-    ∷ no (A 0 1 6) 7 0
-    ∷ no (A 0 0 2) 7 0
-    ∷ no (A 0 1 2) 14 3
-    ∷ ok (A 0 1 4) 2
-    ∷ ok (A 1 1 2) 2
-    ∷ no (A 1 2 2) 15 0
+    ok (L 1 1 6 (bytes "U0|R0")) 2
+    ∷ ok (L 1 1 10 (bytes "R1")) 3
+    ∷ no (A 3 9 9) 2 0
+    ∷ no (A 1 9 9) 3 0
+    ∷ no (A 1 1 1) 7 0
+    ∷ no (A 1 1 6) 7 0
+    ∷ no (A 1 0 2) 7 0
+    ∷ no (A 1 1 2) 14 3
+    ∷ ok (A 1 1 4) 2
+    ∷ ok (A 0 1 2) 2
+    ∷ no (A 0 2 2) 15 0
     ∷ []
 
 abbrev pub drops : List Expected
 drops =
-    no (D 2 9) 1 0
-    ∷ no (D 0 9) 5 0
-    ∷ no (D 1 2) 6 0
-    ∷ ok (D 0 2) 2
-    ∷ no (D 0 2) 5 0
-    ∷ no (A 0 1 4) 15 0
-    ∷ no (A 0 1 2) 14 3
+    no (D 3 9) 2 0
+    ∷ no (D 1 9) 5 0
+    ∷ no (D 0 2) 6 0
+    ∷ ok (D 2 2) 2
+    ∷ no (D 1 2) 5 0
+    ∷ no (A 1 1 4) 15 0
+    ∷ no (A 1 1 2) 14 3
     ∷ []
 
--- an ended thread's R key may still be named; the ninth product of a segment is too many, until the eight are dropped
+-- an ended thread doesn't edit what its user owns, and its R key may still be named; the ninth product of a segment is
+-- too many, until the eight are dropped
 abbrev pub ends : List Expected
 ends =
-    ok (E 1) 1
-    ∷ no (E 1) 2 0
-    ∷ no (R 1) 2 0
-    ∷ no (C 1 0) 2 0
-    ∷ ok (L 0 0 1 (bytes "R1")) 4
-    ∷ ok (L 1 2 2 (bytes "D0|D1|U0|U1|R0|R1|S0|S1")) 5
-    ∷ no (L 1 2 2 (bytes "U0")) 10 0
-    ∷ ok (D 1 5) 8
-    ∷ ok (L 1 2 2 (bytes "U0")) 6
-    ∷ ok (A 0 2 2) 6
+    ok (E 0) 1
+    ∷ no (E 0) 2 0
+    ∷ no (R 0) 2 0
+    ∷ no (C 0 0) 2 0
+    ∷ no (L 0 2 2 (bytes "U0")) 2 0
+    ∷ ok (L 1 0 1 (bytes "R0")) 4
+    ∷ ok (S 1) 4
+    ∷ ok (L 4 2 2 (bytes "D0|D1|U0|U1|R0|R1|S0|S1")) 5
+    ∷ no (L 4 2 2 (bytes "U0")) 10 0
+    ∷ ok (D 4 5) 8
+    ∷ ok (L 4 2 2 (bytes "U0")) 6
+    ∷ ok (A 1 2 2) 6
     ∷ []
 
 -- 18 'before all else': an unnamed field, an unknown letter, a text outside L
@@ -156,21 +167,50 @@ identity =
     ∷ ok (S 1) 0
     ∷ ok (S 0) 1
     ∷ ok (S 0) 2
-    ∷ ok (N 0 0) 0
-    ∷ ok (L 0 0 1 (bytes "R2")) 0
+    ∷ ok (N 1 0) 0
+    ∷ ok (L 1 0 1 (bytes "R2")) 0
     ∷ no (C 0 0) 15 0
     ∷ no (C 1 0) 15 0
     ∷ ok (C 2 0) 0
-    ∷ ok (L 0 0 9 (bytes "S0&U0")) 1
+    ∷ ok (L 1 0 9 (bytes "S0&U0")) 1
     ∷ no (C 2 0) 14 1
     ∷ ok (R 2) 0
     ∷ ok (C 2 0) 0
-    ∷ ok (L 0 0 9 (bytes "R2")) 2
+    ∷ ok (L 1 0 9 (bytes "R2")) 2
     ∷ ok (R 2) 0
     ∷ no (C 2 0) 14 2
     ∷ ok (E 2) 0
-    ∷ ok (L 0 0 1 (bytes "R2|U1")) 3
+    ∷ ok (L 1 0 1 (bytes "R2|U1")) 3
     ∷ ok (C 0 0) 3
+    ∷ []
+
+-- Who edits is the thread's user. Thread 1 of user 0 makes segment 0 and D0 and ends: it edits no more. User 1's
+-- thread has the owner's number, and isn't the owner's. User 0's next thread gives, locks, drops and takes what the
+-- first made.
+abbrev pub editors : List Expected
+editors =
+    ok U 0
+    ∷ ok U 1
+    ∷ ok (S 1) 0
+    ∷ ok (S 0) 1
+    ∷ ok (N 1 0) 0
+    ∷ ok (K 1) 0
+    ∷ ok (E 1) 0
+    ∷ no (N 1 0) 2 0
+    ∷ no (K 1) 2 0
+    ∷ no (G 1 0 0) 2 0
+    ∷ no (G 0 0 0) 6 0
+    ∷ ok (S 0) 2
+    ∷ ok (G 2 0 0) 2
+    ∷ no (T 1 0 0) 2 0
+    ∷ no (T 0 0 0) 6 0
+    ∷ no (L 1 0 1 (bytes "D0")) 2 0
+    ∷ no (L 0 0 1 (bytes "D0")) 6 0
+    ∷ ok (L 2 0 1 (bytes "D0")) 0
+    ∷ no (D 1 0) 2 0
+    ∷ no (D 0 0) 6 0
+    ∷ ok (D 2 0) 1
+    ∷ ok (T 2 0 0) 1
     ∷ []
 
 -- 32 users, 64 segments; 64 live threads, where an ended one makes room; 8 keys in a list, where a taken one makes room
@@ -178,7 +218,7 @@ abbrev pub users : List Expected
 users = each (ok U) 0 32 ++ no U 10 0 ∷ []
 
 abbrev pub segments : List Expected
-segments = ok U 0 ∷ each (ok (N 0 1)) 0 64 ++ no (N 0 1) 10 0 ∷ []
+segments = ok U 0 ∷ ok (S 0) 0 ∷ each (ok (N 0 1)) 0 64 ++ no (N 0 1) 10 0 ∷ []
 
 abbrev pub liveThreads : List Expected
 liveThreads =
@@ -192,33 +232,36 @@ liveThreads =
     ∷ no (R 5) 2 0
     ∷ []
 
-abbrev pub listed : List Expected
-listed =
-    ok U 0
-    ∷ ok (N 0 0) 0
-    ∷ each (ok (K 0)) 0 8
-    ++ each (λ n. ok (G 0 0 n) (2 + n)) 0 7
+abbrev pub keyRing : List Expected
+keyRing = ok U 0 ∷ ok (S 0) 0 ∷ ok (N 0 0) 0 ∷ each (ok (K 0)) 0 8
+
+abbrev pub keysGiven : List Expected
+keysGiven =
+    each (λ n. ok (G 0 0 n) (2 + n)) 0 7
     ++ no (G 0 0 7) 10 0
     ∷ no (G 0 0 3) 8 0
     ∷ ok (T 0 0 2) 7
     ∷ ok (G 0 0 7) 8
     ∷ []
 
+abbrev pub listed : List Expected
+listed = keyRing ++ keysGiven
+
 -- 16 open calls of a thread, where a return makes room
 abbrev pub frames : List Expected
 frames =
     ok U 0
+    ∷ ok (S 0) 0
     ∷ ok (N 0 0) 0
     ∷ ok (L 0 0 1 (bytes "U0")) 0
-    ∷ ok (S 0) 0
     ∷ replicate 16 (ok (C 0 0) 0)
     ++ no (C 0 0) 10 0
     ∷ ok (R 0) 0
     ∷ ok (C 0 0) 0
     ∷ []
 
--- a state of one user, with so many thread numbers, lock numbers and defined keys handed out, one segment and one free
--- place
+-- a state of one user, with so many thread numbers, lock numbers and defined keys handed out, one segment, a live
+-- thread and one free place
 abbrev pub late : ℕ → ℕ → ℕ → State
 late t l k =
     record {
@@ -227,7 +270,7 @@ late t l k =
       lockNumbers = l;
       makers = replicate k 0;
       segments = blankSegment ∷ [];
-      places = free ∷ [];
+      places = taken 0 (freshThread 0) ∷ free ∷ [];
     }
 
 -- the number and the value of the answer
@@ -265,6 +308,7 @@ pub record Trials : Type 0 where
   pub numbered : handingOut
       ≡ true ∷ true ∷ false ∷ true ∷ true ∷ false ∷ false ∷ true ∷ false ∷ false ∷ false ∷ false ∷ []
   pub identityHappens : Happens identity
+  pub editorsHappen : Happens editors
   pub usersHappen : Happens users
   pub segmentsHappen : Happens segments
   pub threadsHappen : Happens liveThreads

@@ -21,17 +21,18 @@ use Rattle.rows.specs.Listing.{Listed, listed}
 use Rattle.rows.specs.Theorems.Discretion.{productsIn, SameButTexts}
 use Rattle.rows.specs.Notation.{blank, signed, grant, denial, noKeys}
 
--- users 0 and 1, thread 0, key D0; segment 0 is a sheet of user 0, segment 1 a code segment of his with one lock,
--- segment 2 a sheet of user 1 without
+-- users 0 and 1, each with a thread of that number, key D0; segment 0 is a sheet of user 0, segment 1 a code segment of
+-- his with one lock, segment 2 a sheet of user 1 without
 abbrev pub office : List Expected
 office =
     ok U 0
     ∷ ok U 1
+    ∷ ok (S 0) 0
+    ∷ ok (S 1) 1
     ∷ ok (N 0 1) 0
     ∷ ok (N 0 0) 1
     ∷ ok (N 1 1) 2
     ∷ ok (K 0) 0
-    ∷ ok (S 0) 0
     ∷ ok (L 0 0 4 (bytes "S1&R0&U0")) 0
     ∷ ok (L 0 0 14 (bytes "!D0|U1")) 1
     ∷ ok (L 0 0 2 (bytes "D0")) 2
@@ -45,11 +46,12 @@ abbrev pub otherFormulas : List Expected
 otherFormulas =
     ok U 0
     ∷ ok U 1
+    ∷ ok (S 0) 0
+    ∷ ok (S 1) 1
     ∷ ok (N 0 1) 0
     ∷ ok (N 0 0) 1
     ∷ ok (N 1 1) 2
     ∷ ok (K 0) 0
-    ∷ ok (S 0) 0
     ∷ ok (L 0 0 4 (bytes "U0|U1|D0")) 0
     ∷ ok (L 0 0 14 (bytes "S2")) 1
     ∷ ok (L 0 0 2 (bytes "D0")) 2

@@ -20,13 +20,16 @@ use Rattle.search.specs.Searching.{searched, searchedNumber, searchedVal
 use Rattle.search.specs.Theorems.KeySets.{isOwnKey}
 use Rattle.search.specs.Theorems.HandedOut.{canBeListed, canBeListedAfter}
 
--- Users 0 and 1; code segments 0, 1 and 2 of user 0, who may call them; D0 to D3. There is no user 5 to make more.
+-- Users 0 and 1; code segments 0, 1 and 2 of user 0, who may call them; D0 to D3. There is no thread 5 to make more.
 -- Segment 0 hands over S0 and D0, segment 1 S1, D0 and D1, segment 2 S2. Threads 0 to 2 are user 0's; thread 2 has
 -- ended, and there is no thread 3.
 abbrev pub office : List Expected
 office =
     ok U 0
     ∷ ok U 1
+    ∷ ok (S 0) 0
+    ∷ ok (S 0) 1
+    ∷ ok (S 0) 2
     ∷ ok (N 0 0) 0
     ∷ ok (N 0 0) 1
     ∷ ok (N 0 0) 2
@@ -34,17 +37,14 @@ office =
     ∷ ok (K 0) 1
     ∷ ok (K 0) 2
     ∷ ok (K 0) 3
-    ∷ no (N 5 0) 1 0
-    ∷ no (K 5) 1 0
+    ∷ no (N 5 0) 2 0
+    ∷ no (K 5) 2 0
     ∷ ok (G 0 0 0) 2
     ∷ ok (G 0 1 0) 2
     ∷ ok (G 0 1 1) 3
     ∷ ok (L 0 0 1 (bytes "U0")) 0
     ∷ ok (L 0 1 1 (bytes "U0")) 1
     ∷ ok (L 0 2 1 (bytes "U0")) 2
-    ∷ ok (S 0) 0
-    ∷ ok (S 0) 1
-    ∷ ok (S 0) 2
     ∷ ok (E 2) 0
     ∷ []
 

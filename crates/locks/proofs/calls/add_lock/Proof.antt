@@ -2,9 +2,10 @@
 use mathlib.Core.Path.{_≡_, refl, sym, ap, ap₂, _∙_}
 use mathlib.Core.Bool.{true, false, _||_}
 use mathlib.Core.List.{List, [], map}
+use mathlib.Core.Option.{some}
 use Prim.Native.Nat.{ℕ, suc, _+_, _≤_, _<_}
 use native.Mathlib.Omega.{arith}
-use lib.Dec.{eqb, ltb}
+use lib.Dec.{eqb}
 use lib.ListN.{length, set, length-map}
 use lib.Seq.{set-getD}
 use borrow.Author.Tests.{eq-eqb, ne-eqb, lt-ltb, le-ltb}
@@ -14,18 +15,19 @@ use Rattle.formula.specs.declared.text.Compiled.{Compiled}
 use Rattle.formula.specs.Outcome.{Outcome, outcomeOf, refusalNumber, statusOf, sumIn, compiledOf}
 use Rattle.call.specs.declared.request.Request.{Request}
 use Rattle.call.specs.declared.request.Request.the-variants.{AddLock}
-use Rattle.model.specs.declared.answer.Refusal.the-variants.{UnknownUser, NoSegment, NotOwner, Unfit}
+use Rattle.model.specs.declared.answer.Refusal.the-variants.{NoSegment, NotOwner, Unfit}
 use Rattle.model.specs.declared.answer.Answer.{Answer}
 use Rattle.model.specs.declared.answer.Answer.the-variants.{Refused}
 use Rattle.model.specs.Limits.{mostStanding, mostNumbers, passes}
 use Rattle.model.specs.Operations.{takesSet}
 use Rattle.model.specs.Refusals.{conditions}
 use Rattle.model.specs.Effects.{answer}
-use Rattle.model.specs.State.{isSegment, owns, segmentAt, issued}
-use Rattle.model.specs.Cells.{Row, Table, Cells, registryIs, locksAre, cell, rowAt, tableAt, userCount, lockCount, ownerCell, kindCell, usedRows, productIn, stateOf}
+use Rattle.model.specs.State.{isSegment, owns, segmentAt, editor, issued}
+use Rattle.model.specs.Cells.{Row, Table, Cells, registryIs, locksAre, cell, rowAt, tableAt, lockCount, ownerCell, kindCell, usedRows, productIn, stateOf}
 use Rattle.model.specs.Stores.{countUp, storeRows, productRow, store}
 use Rattle.model.specs.Serving.{Serves}
 use Rattle.model.proofs.Refinement.ServedCalls.{serves-refused, serves-accepted, segmentsIn, is-segment, segment-at}
+use Rattle.threads.proofs.Editors.{BeginsWithEditor, editor-missing, editor-known}
 use Rattle.locks.specs.Internal.{rowsFrom, issuedIn, isFull, LockJudged, full, stored, malformed-text, wide-text, unsatisfiable-text, accepted-text}
 use Rattle.locks.proofs.Tests.{test-fails, test-holds}
 use Rattle.locks.proofs.CompiledRows.{operations-low, issued-is, Judged, judged, sum-kept, rows-stored}
@@ -34,9 +36,9 @@ use borrow.Author.Needs.{needs}
 use Rattle.locks.proofs.calls.add_lock.Statement.{statement}
 use Rattle.locks.proofs.calls.add_lock.Tie as tie
 
-module _ (d : Cells) (user s operations : ℕ) (text : List ℕ) where
+module _ (d : Cells) (a s operations : ℕ) (text : List ℕ) where
   abbrev q : Request
-  q = AddLock user s operations
+  q = AddLock a s operations
 
   abbrev g : Row
   g = rowAt (tableAt (d .segments) s) 0
@@ -44,11 +46,11 @@ module _ (d : Cells) (user s operations : ℕ) (text : List ℕ) where
   abbrev o : Outcome
   o = outcomeOf (issued (stateOf d)) text
 
-  unknown-user : ltb user (cell (d .registry) userCount) ≡ false → Serves d q text (Refused UnknownUser) d
-  unfolding conditions stateOf
-  unknown-user u = serves-refused d q text (rw u)
+  begins : BeginsWithEditor d q text a
+  unfolding conditions
+  begins = (_, refl)
 
-  module _ {n : ℕ} (u : ltb user (cell (d .registry) userCount) ≡ true) (count : n ≡ segmentsIn d) where
+  module _ {n user : ℕ} (u : editor (stateOf d) a ≡ some user) (count : n ≡ segmentsIn d) where
     unknown-segment : n ≤ s → Serves d q text (Refused NoSegment) d
     unfolding conditions stateOf
     unknown-segment h = let none = is-segment d s ∙ le-ltb s (segmentsIn d) (omega arith) in serves-refused d q text (rw (u, none))
@@ -124,31 +126,32 @@ module _ (d : Cells) (user s operations : ℕ) (text : List ℕ) where
               (ap (λ (ws : Table). registryIs (countUp (d .registry) lockCount) (locksAre (set (d .locks) s (storeRows (length (usedRows t)) ws t)) d)) rows-are)
 
 returns : tie.Need-returns
-returns c = λ d. unknown-user _ _ _ _ _ (test-fails (c .before .is-user .ensures) (c .if1 .taken))
+returns c = λ d. editor-missing _ _ (c .before .before .editor .ensures) (AddLock _ _ _) _ (begins _ _ _ _ _) _ (c .enum-told .given .1)
 
 returns-2 : tie.Need-returns-2
 returns-2 c =
     let b = c .before .before .before in
-    λ d. unknown-segment _ _ _ _ _ (test-holds (b .before .is-user .ensures) (b .if1 .left)) (c .before .segments .ensures .count) (c .if2 .taken)
+    λ d. unknown-segment _ _ _ _ _ (editor-known _ _ (b .before .before .before .editor .ensures) _ (b .before .editor2 .given .1)) (c .before .segments .ensures .count) (c .if1 .taken)
 
 returns-3 : tie.Need-returns-3
 returns-3 c =
     let e = c .before .before in
     let b = e .before .before .before in
-    λ d. other _ _ _ _ _ (test-holds (b .before .is-user .ensures) (b .if1 .left)) (e .before .segments .ensures .count) (e .if2 .left) (c .if3 .taken)
+    λ d. other _ _ _ _ _ (editor-known _ _ (b .before .before .before .editor .ensures) _ (b .before .editor2 .given .1)) (e .before .segments .ensures .count) (e .if1 .left) (c .if2 .taken)
 
 returns-4 : tie.Need-returns-4
 returns-4 c =
     let f = c .before .before .before in
     let e = f .before .before in
     let b = e .before .before .before in
-    λ d. unfit _ _ _ _ _ (test-holds (b .before .is-user .ensures) (b .if1 .left)) (e .before .segments .ensures .count) (e .if2 .left) (f .if3 .left) (test-fails (c .before .fits2 .ensures) (c .if4 .taken))
+    λ d. unfit _ _ _ _ _ (editor-known _ _ (b .before .before .before .editor .ensures) _ (b .before .editor2 .given .1)) (e .before .segments .ensures .count) (e .if1 .left) (f .if2 .left) (test-fails (c .before .fits2 .ensures) (c .if3 .taken))
 
 judge-lock-requires : tie.Need-judge-lock-requires
 judge-lock-requires c κs =
     let k = c .before .before .before .before .before .before in
-    let a = k .before .before .before .before .before .before .before .before .before .before .before .before .args in
-    operations-low (cell (rowAt (tableAt (now (a .segments)) (a .segment)) 0) kindCell) _ (test-holds (k .before .fits2 .ensures) (k .if4 .left))
+    let f = k .before .before .before in
+    let a = f .before .before .before .before .before .before .before .before .before .before .args in
+    operations-low (cell (rowAt (tableAt (now (a .segments)) (a .segment)) 0) kindCell) _ (test-holds (k .before .fits2 .ensures) (k .if3 .left))
 
 returns-5 : tie.Need-returns-5
 returns-5 c =
@@ -158,14 +161,16 @@ returns-5 c =
     let e = f .before .before in
     let b = e .before .before .before in
     λ d.
-    served _ _ _ _ _ (test-holds (b .before .is-user .ensures) (b .if1 .left)) (e .before .segments .ensures .count) (e .if2 .left) (f .if3 .left) (test-holds (k .before .fits2 .ensures) (k .if4 .left))
+    served _ _ _ _ _ (editor-known _ _ (b .before .before .before .editor .ensures) _ (b .before .editor2 .given .1)) (e .before .segments .ensures .count) (e .if1 .left) (f .if2 .left) (test-holds (k .before .fits2 .ensures) (k .if3 .left))
     (h .before .issued .ensures) (h .compile .ensures) (c .judge-lock .ensures)
 
 pub add-lock-spec : {M : Type 1} → statement M
 add-lock-spec =
     tie.close
     (tie.spec
-    (λ c κs. search needs)  -- is-user-requires
+    (λ c κs. search needs)  -- editor-requires
+    (λ c. search needs)  -- enum-known-editor
+    (λ c. search needs)  -- enum-told
     returns
     (λ c κs. search needs)  -- segments-requires
     returns-2
