@@ -1,4 +1,5 @@
 pub mod Agrees
+pub mod Editing
 pub mod EveryCall
 pub mod Granting
 pub mod HistoryAnswers

@@ -1,4 +1,5 @@
 pub mod Bounds
+pub mod Editing
 pub mod Examples
 pub mod Granting
 pub mod LockTexts

@@ -32,8 +32,8 @@ use Rattle.model.specs.declared.answer.Answer.the-variants.{Refused}
 use Rattle.model.specs.Answers.{isAccepted}
 use Rattle.model.specs.Limits.{mostStanding, mostNumbers, passes}
 use Rattle.model.specs.Operations.{takesSet}
-use Rattle.base.specs.Lists.{isSome, mapOption, orDefault}
-use Rattle.model.specs.Threads.{Thread, KeySet}
+use Rattle.base.specs.Lists.{isSome}
+use Rattle.model.specs.Threads.{KeySet}
 use Rattle.model.specs.State.{issued, isSegment, segmentAt, editor, userOf, owns}
 use Rattle.model.specs.Refusals.{conditions}
 use Rattle.model.specs.Cells.{Cells, stateOf}
@@ -45,14 +45,11 @@ use Rattle.model.specs.HistoryLocks.{standingProducts}
 use Rattle.model.specs.Theorems.StoredLocks.{Stores}
 use Rattle.model.specs.Theorems.LockTexts.{Allowed, Satisfiable, Room, TextJudged, LockTexts}
 use Rattle.base.proofs.Lists.{caseBool, isSome-some}
-use Rattle.model.proofs.Refusals.Refusing.{judged-refused, judged-accepted, answer-decoded}
+use Rattle.model.proofs.Refusals.Refusing.{judged-accepted, answer-decoded, refused-as}
 use Rattle.model.proofs.Agreement.Mirror.{mirror}
 use Rattle.model.proofs.Agreement.StoredLocks.{stored-locks}
+use Rattle.model.proofs.Agreement.Editing.{live-as, user-as}
 use Rattle.model.proofs.Agreement.TextTests.{tests, late, isLate, reaches-text, passed, late-malformed, late-wide, late-unsatisfiable, late-full, late-none, late-over, overfull}
-
-some-user : (o : Option Thread) → isSome (mapOption (λ t. t .user) o) ≡ isSome o
-some-user none = refl
-some-user (some t) = refl
 
 -- ---- of an L after some events
 
@@ -78,11 +75,8 @@ module _ (es : List Event) (d : Cells) (m : Mirrors es (stateOf d)) (k : Stores 
   abbrev firstOf : Option Refusal
   firstOf = firstRefusal (conditions outcomeOf (stateOf d) (AddLock a b c) text)
 
-  refused-as : (r : Refusal) → (stepCells outcomeOf d next .answer ≡ Refused r) ↔ (firstOf ≡ some r)
-  refused-as r =
-      let (to, from) = judged-refused outcomeOf d (AddLock a b c) text firstOf r in
-      let same = answer-decoded outcomeOf d next (WellFormed (AddLock a b c)) e in
-      (λ h. to (sym same ∙ h), λ h. same ∙ from h)
+  refused-first : (r : Refusal) → (stepCells outcomeOf d next .answer ≡ Refused r) ↔ (firstOf ≡ some r)
+  refused-first = refused-as outcomeOf d next (AddLock a b c) e
 
   accepted-as : (isAccepted (stepCells outcomeOf d next .answer) ≡ true) ↔ (firstOf ≡ none)
   accepted-as =
@@ -90,20 +84,16 @@ module _ (es : List Event) (d : Cells) (m : Mirrors es (stateOf d)) (k : Stores 
       let same = ap isAccepted (answer-decoded outcomeOf d next (WellFormed (AddLock a b c)) e) in
       (λ h. to (sym same ∙ h), λ h. same ∙ from h)
 
-  -- who edits, as the history has him
-  user-as : (t : Thread) → history es .threads a ≡ some t → userOf (stateOf d) a ≡ t .user
-  user-as t h = ap (orDefault 0 (λ u. u)) (m .editors a ∙ ap (mapOption (λ r. r .user)) h)
-
   allowed : live ≡ true → isSegment (stateOf d) b ≡ true → own ≡ true → takesSet (segmentAt (stateOf d) b .kind) c ≡ true → Allowed es a b c
   allowed u s o f =
-      let (thread, l) = isSome-some (history es .threads a) (sym (some-user (history es .threads a)) ∙ sym (ap isSome (m .editors a)) ∙ u) in
+      let (thread, l) = isSome-some (history es .threads a) (sym (live-as es (stateOf d) m a) ∙ u) in
       let (entry, h) = isSome-some (history es .segments b) (sym (m .segment b) ∙ s) in
       record {
         thread = thread;
         live = l;
         entry = entry;
         segment = h;
-        owner = sym (m .owner b entry h) ∙ eqb-true _ _ o ∙ user-as thread l;
+        owner = sym (m .owner b entry h) ∙ eqb-true _ _ o ∙ user-as es (stateOf d) m a thread l;
         operations = ap (λ (n : ℕ). takesSet n c) (sym (m .kind b entry h)) ∙ f;
       }
 
@@ -124,13 +114,13 @@ module _ (es : List Event) (d : Cells) (m : Mirrors es (stateOf d)) (k : Stores 
   reaches w = same known segment owner fit ∙ reaches-text outcome over
     where
       known : live ≡ true
-      known = ap isSome (m .editors a ∙ ap (mapOption (λ t. t .user)) (w .live))
+      known = live-as es (stateOf d) m a ∙ ap isSome (w .live)
 
       segment : isSegment (stateOf d) b ≡ true
       segment = m .segment b ∙ rw (w .segment)
 
       owner : own ≡ true
-      owner = eq-eqb _ _ (m .owner b (w .entry) (w .segment) ∙ w .owner ∙ sym (user-as (w .thread) (w .live)))
+      owner = eq-eqb _ _ (m .owner b (w .entry) (w .segment) ∙ w .owner ∙ sym (user-as es (stateOf d) m a (w .thread) (w .live)))
 
       fit : takesSet (segmentAt (stateOf d) b .kind) c ≡ true
       fit = ap (λ (n : ℕ). takesSet n c) (m .kind b (w .entry) (w .segment)) ∙ w .operations
@@ -146,10 +136,10 @@ module _ (es : List Event) (d : Cells) (m : Mirrors es (stateOf d)) (k : Stores 
   by-outcome {P} r x l to from laws = (there, back)
     where
       there : stepCells outcomeOf d next .answer ≡ Refused r → Allowed es a b c × P
-      there h = let (w, q) = is-late (some r) l (refused-as r .0 h) in (w, laws .0 (sym outcome-as ∙ to outcome over q))
+      there h = let (w, q) = is-late (some r) l (refused-first r .0 h) in (w, laws .0 (sym outcome-as ∙ to outcome over q))
 
       back : Allowed es a b c × P → stepCells outcomeOf d next .answer ≡ Refused r
-      back p = refused-as r .1 (reaches (p .0) ∙ ap (λ (y : Outcome). late y over) (outcome-as ∙ laws .1 (p .1)) ∙ from over)
+      back p = refused-first r .1 (reaches (p .0) ∙ ap (λ (y : Outcome). late y over) (outcome-as ∙ laws .1 (p .1)) ∙ from over)
 
   -- ---- the limits
 
@@ -178,7 +168,7 @@ module _ (es : List Event) (d : Cells) (m : Mirrors es (stateOf d)) (k : Stores 
     where
       there : stepCells outcomeOf d next .answer ≡ Refused Full → Allowed es a b c × (f : Satisfiable (issuedBy es) text) × (Room es b (length (products false (f .tree))) → ⊥)
       there h =
-          let (w, q) = is-late (some Full) refl (refused-as Full .0 h) in
+          let (w, q) = is-late (some Full) refl (refused-first Full .0 h) in
           let (ps, v, o) = late-full outcome over q in
           let f = satisfiable ps v in
           (w, f, λ r. true≢false (sym o ∙ room-over (products false (f .tree)) (accepts f) r))
@@ -187,7 +177,7 @@ module _ (es : List Event) (d : Cells) (m : Mirrors es (stateOf d)) (k : Stores 
       back p =
           let (w, f, none-left) = p in
           let o : over ≡ true = caseBool over (λ t. t) (λ t. absurd (none-left (over-room (products false (f .tree)) (accepts f) t))) in
-          refused-as Full .1 (reaches w ∙ late-over (products false (f .tree)) outcome over true (accepts f) o)
+          refused-first Full .1 (reaches w ∙ late-over (products false (f .tree)) outcome over true (accepts f) o)
 
   made-as : (isAccepted (stepCells outcomeOf d next .answer) ≡ true) ↔ (Allowed es a b c × (f : Satisfiable (issuedBy es) text) × Room es b (length (products false (f .tree))))
   made-as = (there, back)

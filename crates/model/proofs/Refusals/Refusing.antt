@@ -2,8 +2,8 @@
 -- any list of conditions; of the table itself only two facts are computed, for every request at once: no condition
 -- refuses by 18, and the numbers rise.
 use mathlib.Core.Path.{_≡_, refl, sym, ap, _∙_}
-use mathlib.Core.Bool.{Bool, true, false}
-use mathlib.Core.List.{List, [], _∷_, List·Memᴰ, List·Memᴰ·head, List·Memᴰ·tail}
+use mathlib.Core.Bool.{Bool, true, false, false≢true}
+use mathlib.Core.List.{List, [], _∷_, _++_, List·Memᴰ, List·Memᴰ·head, List·Memᴰ·tail}
 use mathlib.Core.Option.{Option, none, some, Option·some-inj}
 use mathlib.Core.Logic.{_↔_}
 use Prim.Native.Nat.{ℕ, _≤_}
@@ -15,7 +15,7 @@ use Rattle.call.specs.declared.request.Request.{Request}
 use Rattle.call.specs.declared.request.Decoded.{Decoded}
 use Rattle.call.specs.declared.request.Decoded.the-variants.{WellFormed, Corrupt as NotWellFormed}
 use Rattle.call.specs.Calls.{Call, decoded}
-use Rattle.base.specs.Conditions.{Condition, firstRefusal}
+use Rattle.base.specs.Conditions.{Condition, when, firstRefusal}
 use Rattle.base.proofs.Conditions.{first-later, all-fail, none-first}
 use Rattle.base.proofs.Truth.{and-left, and-right, neither}
 use Rattle.model.specs.declared.answer.Refusal.{Refusal}
@@ -28,7 +28,7 @@ use Rattle.model.specs.Refusals.{conditions}
 use Rattle.model.specs.Cells.{Cells, stateOf}
 use Rattle.model.specs.Stores.{judgedCells, stepCellsDecoded, stepCells}
 use Rattle.model.specs.Theorems.Refusing.{someHolds, FirstHolds, rank, ranks, Refusing, InOrder}
-use Rattle.base.proofs.Lists.{caseBool, clash, rising-tail}
+use Rattle.base.proofs.Lists.{caseBool, clash, eqb-self, rising-tail}
 use Rattle.call.proofs.EveryRequest.{every-request}
 
 -- ---- the first condition that holds
@@ -62,12 +62,32 @@ first-refuses r cs k =
     ap firstRefusal (k .split) ∙ first-later (k .earlier) (k .condition ∷ k .later) (none-refuses (k .earlier) (k .noneEarlier)) ∙ rw (k .holds, k .refusal)
 
 -- a refusal is one of those in the list: what is false of them all is false of it
-refusal-in : (p : Refusal → Bool) (r : Refusal) (cs : List (Condition Refusal)) → any (λ c. p (c .refusal)) cs ≡ false → firstRefusal cs ≡ some r
+pub refusal-in : (p : Refusal → Bool) (r : Refusal) (cs : List (Condition Refusal)) → any (λ c. p (c .refusal)) cs ≡ false → firstRefusal cs ≡ some r
     → p r ≡ false
 refusal-in p r [] h e = cc
 refusal-in p r (c ∷ cs) h e =
     let (here, there) = neither (p (c .refusal)) (any (λ c. p (c .refusal)) cs) h in
     caseBool (c .holds) (λ t. ap p (sym (Option·some-inj .0 (rw t at e))) ∙ here) (λ f. refusal-in p r cs there (rw f at e))
+
+abbrev pub gives : Refusal → Refusal → Bool
+gives r s = eqb (refusalNumber r) (refusalNumber s)
+
+-- a refusal that one condition alone has is given exactly where that holds and none before it does
+pub exactly-here : (r : Refusal) (earlier : List (Condition Refusal)) (b : Bool) (later : List (Condition Refusal))
+    → any (λ c. gives r (c .refusal)) earlier ≡ false → any (λ c. gives r (c .refusal)) later ≡ false
+    → (firstRefusal (earlier ++ when b r ∷ later) ≡ some r) ↔ ((someHolds earlier ≡ false) × (b ≡ true))
+exactly-here r [] true later h k = (λ e. (refl, refl), λ p. refl)
+exactly-here r [] false later h k =
+    (λ e. clash (eqb-self (refusalNumber r)) (refusal-in (gives r) r later k e), λ p. absurd (false≢true (p .1)))
+exactly-here r (c ∷ cs) b later h k =
+    let (here, there) = neither (gives r (c .refusal)) (any (λ x. gives r (x .refusal)) cs) h in
+    let (to, from) = exactly-here r cs b later there k in
+    caseBool (c .holds)
+    (λ t. (
+      λ e. clash (ap (gives r) (Option·some-inj .0 (rw t at e)) ∙ eqb-self (refusalNumber r)) here,
+      λ p. absurd (false≢true (sym (p .0) ∙ rw t refl)),
+    ))
+    (λ f. (λ e. let (none-holds, holds) = to (rw f at e) in (rw f none-holds, holds), λ p. rw f (from (rw f at (p .0), p .1))))
 
 -- where the ranks rise, the first that holds has the least rank of those that do
 rising-least : (m : ℕ) (c : Condition Refusal) (cs : List (Condition Refusal)) → rising (m ∷ ranks cs) ≡ true → List·Memᴰ c cs
@@ -111,7 +131,7 @@ in-order compile d q text = every-request (λ r. rising (ranks (conditions compi
 -- ---- one call
 
 module _ (compile : Compiler) (d : Cells) where
-  pub judged-refused : (q : Request) (text : List ℕ) (o : Option Refusal) (r : Refusal) → (judgedCells compile d q text o .answer ≡ Refused r) ↔ (o ≡ some r)
+  judged-refused : (q : Request) (text : List ℕ) (o : Option Refusal) (r : Refusal) → (judgedCells compile d q text o .answer ≡ Refused r) ↔ (o ≡ some r)
   judged-refused q text none r = (λ h. cc, λ h. cc)
   judged-refused q text (some s) r = (λ h. cc, λ h. cc)
 
@@ -146,13 +166,20 @@ module _ (compile : Compiler) (d : Cells) where
   call-corrupt : (x : Call) → (stepCells compile d x .answer ≡ Refused Corrupt) ↔ (decoded x ≡ NotWellFormed)
   call-corrupt x = (λ h. corrupt-call (decoded x) (x .text) (sym (answer-decoded x (decoded x) refl) ∙ h), answer-decoded x NotWellFormed)
 
+  -- a well formed call is refused as its conditions say
+  pub refused-as : (x : Call) (q : Request) → decoded x ≡ WellFormed q → (r : Refusal)
+      → (stepCells compile d x .answer ≡ Refused r) ↔ (firstRefusal (conditions compile (stateOf d) q (x .text)) ≡ some r)
+  refused-as x q e r =
+      let (to, from) = judged-refused q (x .text) (firstRefusal (conditions compile (stateOf d) q (x .text))) r in
+      let same = answer-decoded x (WellFormed q) e in
+      (λ h. to (sym same ∙ h), λ h. same ∙ from h)
+
   call-refused : (x : Call) (q : Request) → decoded x ≡ WellFormed q → (r : Refusal)
       → (stepCells compile d x .answer ≡ Refused r) ↔ FirstHolds r (conditions compile (stateOf d) q (x .text))
   call-refused x q e r =
       let cs = conditions compile (stateOf d) q (x .text) in
-      let (to, from) = judged-refused q (x .text) (firstRefusal cs) r in
-      let same = answer-decoded x (WellFormed q) e in
-      (λ h. first-holds r cs (to (sym same ∙ h)), λ k. same ∙ from (first-refuses r cs k))
+      let (to, from) = refused-as x q e r in
+      (λ h. first-holds r cs (to h), λ k. from (first-refuses r cs k))
 
   call-accepted : (x : Call) (q : Request) → decoded x ≡ WellFormed q
       → (isAccepted (stepCells compile d x .answer) ≡ true) ↔ (someHolds (conditions compile (stateOf d) q (x .text)) ≡ false)
@@ -166,7 +193,7 @@ module _ (compile : Compiler) (d : Cells) where
       → (c : Condition Refusal) → List·Memᴰ c (conditions compile (stateOf d) q (x .text)) → c .holds ≡ true → rank r ≤ rank (c .refusal)
   call-earliest x q e r h =
       let cs = conditions compile (stateOf d) q (x .text) in
-      first-least r cs (in-order compile (stateOf d) q (x .text)) (judged-refused q (x .text) (firstRefusal cs) r .0 (sym (answer-decoded x (WellFormed q) e) ∙ h))
+      first-least r cs (in-order compile (stateOf d) q (x .text)) (refused-as x q e r .0 h)
 
 pub refusing : Refusing
 refusing compile d x =

@@ -1,0 +1,71 @@
+-- Request P4: 'N, K, G, T, L and D now carry a run in field a, and the user is that run's. .. An ended or unknown run
+-- is 2 where 1 stood. .. The history in the granting theorem takes the editor from the run.' What the list of calls and
+-- answers before an edit says of 2 and 6, and what an accepted N or K writes. Proved in
+-- `proofs/Agreement/Editing.antt`.
+use mathlib.Core.Path.{_≡_}
+use mathlib.Core.Bool.{true}
+use mathlib.Core.List.{List, [], _∷_, List·Memᴰ}
+use mathlib.Core.Logic.{_↔_}
+use mathlib.Core.Option.{none, some}
+use Prim.Native.Nat.{ℕ, _<_}
+use lib.ListN.{getD}
+use Rattle.formula.specs.Outcome.{outcomeOf}
+use Rattle.call.specs.declared.request.Request.{Request}
+use Rattle.call.specs.declared.request.Request.the-variants.{NewSegment, NewKey, GiveKey, TakeKey, AddLock, DropLock}
+use Rattle.call.specs.declared.request.Decoded.the-variants.{WellFormed}
+use Rattle.call.specs.Calls.{Call, decoded}
+use Rattle.call.specs.Letters as letters
+use Rattle.model.specs.declared.answer.Refusal.the-variants.{UnknownUser, NoThread, NotOwner}
+use Rattle.model.specs.declared.answer.Answer.{Answer}
+use Rattle.model.specs.declared.answer.Answer.the-variants.{Accepted, Refused}
+use Rattle.model.specs.Threads.{Thread}
+use Rattle.model.specs.History.{Event, Entry, Lock, event, freshEntry, advance, history, acceptedOf, makerIn, makersOf}
+use Rattle.model.specs.Replay.{events, answerTo}
+use Rattle.model.specs.Theorems.Neighbours.{hasLetter}
+
+abbrev pub editLetters : List ℕ
+editLetters = letters.N ∷ letters.K ∷ letters.G ∷ letters.T ∷ letters.L ∷ letters.D ∷ []
+
+-- thread a is live and segment s handed out, and the segment's owner isn't the thread's user
+pub record AnothersSegment (es : List Event) (a s : ℕ) : Type 0 where
+  pub thread : Thread
+  pub live : history es .threads a ≡ some thread
+  pub entry : Entry
+  pub segment : history es .segments s ≡ some entry
+  pub other : entry .owner ≡ thread .user → ⊥
+
+-- D key k is handed out too, and the thread's user isn't both the segment's owner and the key's maker
+pub record AnothersSegmentOrKey (es : List Event) (a s k : ℕ) : Type 0 where
+  pub thread : Thread
+  pub live : history es .threads a ≡ some thread
+  pub entry : Entry
+  pub segment : history es .segments s ≡ some entry
+  pub key : k < acceptedOf letters.K es
+  pub other : entry .owner ≡ thread .user → getD (makersOf es) k 0 ≡ thread .user → ⊥
+
+-- What the events before the next call say of it and its answer r.
+pub record Edits (es : List Event) (next : Call) (r : Answer) : Type 0 where
+  -- 2 exactly where the thread of field a isn't live, whatever the other fields are; and 1 never
+  pub noThread : (q : Request) → decoded next ≡ WellFormed q → hasLetter editLetters next ≡ true
+      → (r ≡ Refused NoThread) ↔ (history es .threads (next .a) ≡ none)
+  pub noStranger : (q : Request) → decoded next ≡ WellFormed q → hasLetter editLetters next ≡ true
+      → r ≡ Refused UnknownUser → ⊥
+  -- 6: 'segment (for D, the lock's) has another owner; in G also key made by another'
+  pub give : (a b c : ℕ) → decoded next ≡ WellFormed (GiveKey a b c)
+      → (r ≡ Refused NotOwner) ↔ AnothersSegmentOrKey es a b c
+  pub take : (a b c : ℕ) → decoded next ≡ WellFormed (TakeKey a b c)
+      → (r ≡ Refused NotOwner) ↔ (AnothersSegment es a b × (c < acceptedOf letters.K es))
+  pub lock : (a b c : ℕ) → decoded next ≡ WellFormed (AddLock a b c)
+      → (r ≡ Refused NotOwner) ↔ AnothersSegment es a b
+  pub drop : (a b : ℕ) → decoded next ≡ WellFormed (DropLock a b)
+      → (r ≡ Refused NotOwner)
+      ↔ ((l : Lock) × List·Memᴰ l (history es .locks) × (l .number ≡ b) × AnothersSegment es a (l .segment))
+  -- the thread's user, as the history then is, becomes the owner of a new segment and the maker of a new key
+  pub owner : (a b n : ℕ) → decoded next ≡ WellFormed (NewSegment a b) → r ≡ Accepted n
+      → (t : Thread) → history es .threads a ≡ some t
+      → advance (history es) (event next r) .segments n ≡ some (freshEntry n (t .user) b)
+  pub maker : (a n : ℕ) → decoded next ≡ WellFormed (NewKey a) → r ≡ Accepted n
+      → (t : Thread) → history es .threads a ≡ some t → makerIn (history es) (event next r) ≡ t .user ∷ []
+
+abbrev pub Editing : Type 0
+Editing = (xs : List Call) (next : Call) → Edits (events outcomeOf xs) next (answerTo outcomeOf xs next)
