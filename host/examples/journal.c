@@ -42,9 +42,9 @@ static uint16_t made(struct rotundaaloe_record record)
     return answer;
 }
 
-static void lock(uint16_t owner, uint16_t segment, uint16_t operations, const char *text)
+static void lock(uint16_t thread, uint16_t segment, uint16_t operations, const char *text)
 {
-    made(rotundaaloe_record_add_lock(owner, segment, operations, text));
+    made(rotundaaloe_record_add_lock(thread, segment, operations, text));
 }
 
 static void save(uint16_t thread, uint16_t sheet)
@@ -74,12 +74,12 @@ int main(int count, char **arguments)
     rotundaaloe_empty(&state);
     rotundaaloe_journal_empty(&journal);
     owner = made(rotundaaloe_record_new_user());
-    loader = made(rotundaaloe_record_new_segment(owner, ROTUNDAALOE_CODE));
-    totals = made(rotundaaloe_record_new_segment(owner, ROTUNDAALOE_SHEET));
-    lock(owner, loader, ROTUNDAALOE_EXECUTE, "U0");
-    lock(owner, totals, ROTUNDAALOE_WRITE, "S0");
-
     january = made(rotundaaloe_record_start_thread(owner));
+    loader = made(rotundaaloe_record_new_segment(january, ROTUNDAALOE_CODE));
+    totals = made(rotundaaloe_record_new_segment(january, ROTUNDAALOE_SHEET));
+    lock(january, loader, ROTUNDAALOE_EXECUTE, "U0");
+    lock(january, totals, ROTUNDAALOE_WRITE, "S0");
+
     february = made(rotundaaloe_record_start_thread(owner));
     made(rotundaaloe_record_call_segment(january, loader));
     save(january, totals);

@@ -21,9 +21,9 @@ static void must(unsigned refusal)
     }
 }
 
-static void lock(uint16_t owner, uint16_t segment, uint16_t operations, const char *text)
+static void lock(uint16_t thread, uint16_t segment, uint16_t operations, const char *text)
 {
-    must(rotundaaloe_add_lock(&state, owner, segment, operations, text, NULL));
+    must(rotundaaloe_add_lock(&state, thread, segment, operations, text, NULL));
 }
 
 static void call(uint16_t thread, uint16_t segment)
@@ -52,15 +52,15 @@ int main(void)
 
     rotundaaloe_empty(&state);
     must(rotundaaloe_new_user(&state, &owner));
-    must(rotundaaloe_new_segment(&state, owner, ROTUNDAALOE_CODE, &loader));
-    must(rotundaaloe_new_segment(&state, owner, ROTUNDAALOE_CODE, &recalculation));
-    must(rotundaaloe_new_segment(&state, owner, ROTUNDAALOE_SHEET, &totals));
-    lock(owner, loader, ROTUNDAALOE_EXECUTE, "U0");
-    lock(owner, recalculation, ROTUNDAALOE_EXECUTE, "U0");
-    snprintf(route, sizeof route, "S%d&S%d", loader, recalculation);
-    lock(owner, totals, ROTUNDAALOE_WRITE, route);
-
     must(rotundaaloe_start_thread(&state, owner, &january));
+    must(rotundaaloe_new_segment(&state, january, ROTUNDAALOE_CODE, &loader));
+    must(rotundaaloe_new_segment(&state, january, ROTUNDAALOE_CODE, &recalculation));
+    must(rotundaaloe_new_segment(&state, january, ROTUNDAALOE_SHEET, &totals));
+    lock(january, loader, ROTUNDAALOE_EXECUTE, "U0");
+    lock(january, recalculation, ROTUNDAALOE_EXECUTE, "U0");
+    snprintf(route, sizeof route, "S%d&S%d", loader, recalculation);
+    lock(january, totals, ROTUNDAALOE_WRITE, route);
+
     call(january, loader);
     call(january, recalculation);
     save("by way of the rate loader", january, totals);

@@ -13,6 +13,9 @@
  * or rows, which are none then; other pointers may not. No pointer is kept, but by a reader.
  * Nobody else may write to a state, a journal or a reader during a call, nor read what it changes:
  * functions that take a const state may be called at once.
+ *
+ * An edit, which is N, K, G, T, L or D, names a live thread, whose user is the editor, so a host
+ * starts a thread before its first edit. It vouches for the user in S and in the lock list only.
  */
 #ifndef ROTUNDAALOE_H
 #define ROTUNDAALOE_H
@@ -221,41 +224,44 @@ static inline struct rotundaaloe_record rotundaaloe_record_end_thread(uint16_t t
     return rotundaaloe_private_record('E', thread, 0, 0);
 }
 
-static inline struct rotundaaloe_record rotundaaloe_record_new_segment(uint16_t owner,
+static inline struct rotundaaloe_record rotundaaloe_record_new_segment(uint16_t thread,
                                                                        uint16_t kind)
 {
-    return rotundaaloe_private_record('N', owner, kind, 0);
+    return rotundaaloe_private_record('N', thread, kind, 0);
 }
 
-static inline struct rotundaaloe_record rotundaaloe_record_new_key(uint16_t maker)
+static inline struct rotundaaloe_record rotundaaloe_record_new_key(uint16_t thread)
 {
-    return rotundaaloe_private_record('K', maker, 0, 0);
+    return rotundaaloe_private_record('K', thread, 0, 0);
 }
 
-static inline struct rotundaaloe_record rotundaaloe_record_give_key(uint16_t user, uint16_t segment,
+static inline struct rotundaaloe_record rotundaaloe_record_give_key(uint16_t thread,
+                                                                    uint16_t segment,
                                                                     uint16_t key)
 {
-    return rotundaaloe_private_record('G', user, segment, key);
+    return rotundaaloe_private_record('G', thread, segment, key);
 }
 
-static inline struct rotundaaloe_record rotundaaloe_record_take_key(uint16_t user, uint16_t segment,
+static inline struct rotundaaloe_record rotundaaloe_record_take_key(uint16_t thread,
+                                                                    uint16_t segment,
                                                                     uint16_t key)
 {
-    return rotundaaloe_private_record('T', user, segment, key);
+    return rotundaaloe_private_record('T', thread, segment, key);
 }
 
-static inline struct rotundaaloe_record rotundaaloe_record_add_lock(uint16_t user, uint16_t segment,
+static inline struct rotundaaloe_record rotundaaloe_record_add_lock(uint16_t thread,
+                                                                    uint16_t segment,
                                                                     uint16_t operations,
                                                                     const char *text)
 {
-    struct rotundaaloe_record record = rotundaaloe_private_record('L', user, segment, operations);
+    struct rotundaaloe_record record = rotundaaloe_private_record('L', thread, segment, operations);
     rotundaaloe_private_put_text(&record, text, rotundaaloe_private_string_length(text));
     return record;
 }
 
-static inline struct rotundaaloe_record rotundaaloe_record_drop_lock(uint16_t user, uint16_t lock)
+static inline struct rotundaaloe_record rotundaaloe_record_drop_lock(uint16_t thread, uint16_t lock)
 {
-    return rotundaaloe_private_record('D', user, lock, 0);
+    return rotundaaloe_private_record('D', thread, lock, 0);
 }
 
 static inline struct rotundaaloe_record rotundaaloe_record_call_segment(uint16_t thread,
@@ -301,7 +307,7 @@ ROTUNDAALOE_CHECKED unsigned rotundaaloe_new_user(struct rotundaaloe_state *stat
     return rotundaaloe_call(state, &record, user, NULL);
 }
 
-/* S: the user's new thread. Refused: 1, 10. */
+/* S: the user's new thread; an edit that names it is this user's. Refused: 1, 10. */
 ROTUNDAALOE_CHECKED unsigned rotundaaloe_start_thread(struct rotundaaloe_state *state,
                                                       uint16_t user, uint16_t *thread)
 {
@@ -317,57 +323,60 @@ ROTUNDAALOE_CHECKED unsigned rotundaaloe_end_thread(struct rotundaaloe_state *st
     return rotundaaloe_call(state, &record, closed, NULL);
 }
 
-/* N: the owner's new segment, ROTUNDAALOE_CODE or ROTUNDAALOE_SHEET. Refused: 1, 7, 10. */
+/*
+ * N: a new segment, ROTUNDAALOE_CODE or ROTUNDAALOE_SHEET, whose owner is the thread's user.
+ * Refused: 2, 7, 10.
+ */
 ROTUNDAALOE_CHECKED unsigned rotundaaloe_new_segment(struct rotundaaloe_state *state,
-                                                     uint16_t owner, uint16_t kind,
+                                                     uint16_t thread, uint16_t kind,
                                                      uint16_t *segment)
 {
-    const struct rotundaaloe_record record = rotundaaloe_record_new_segment(owner, kind);
+    const struct rotundaaloe_record record = rotundaaloe_record_new_segment(thread, kind);
     return rotundaaloe_call(state, &record, segment, NULL);
 }
 
-/* K: a new key that the user defines. Refused: 1, 10. */
-ROTUNDAALOE_CHECKED unsigned rotundaaloe_new_key(struct rotundaaloe_state *state, uint16_t maker,
+/* K: a new defined key, whose maker is the thread's user. Refused: 2, 10. */
+ROTUNDAALOE_CHECKED unsigned rotundaaloe_new_key(struct rotundaaloe_state *state, uint16_t thread,
                                                  uint16_t *key)
 {
-    const struct rotundaaloe_record record = rotundaaloe_record_new_key(maker);
+    const struct rotundaaloe_record record = rotundaaloe_record_new_key(thread);
     return rotundaaloe_call(state, &record, key, NULL);
 }
 
-/* G: puts the key into the segment's list. keys: those now in it. Refused: 1, 3, 4, 6, 8, 10. */
-ROTUNDAALOE_CHECKED unsigned rotundaaloe_give_key(struct rotundaaloe_state *state, uint16_t user,
+/* G: puts the key into the segment's list. keys: those now in it. Refused: 2, 3, 4, 6, 8, 10. */
+ROTUNDAALOE_CHECKED unsigned rotundaaloe_give_key(struct rotundaaloe_state *state, uint16_t thread,
                                                   uint16_t segment, uint16_t key, uint16_t *keys)
 {
-    const struct rotundaaloe_record record = rotundaaloe_record_give_key(user, segment, key);
+    const struct rotundaaloe_record record = rotundaaloe_record_give_key(thread, segment, key);
     return rotundaaloe_call(state, &record, keys, NULL);
 }
 
-/* T: takes the key out of the segment's list. keys: those now in it. Refused: 1, 3, 4, 6, 9. */
-ROTUNDAALOE_CHECKED unsigned rotundaaloe_take_key(struct rotundaaloe_state *state, uint16_t user,
+/* T: takes the key out of the segment's list. keys: those now in it. Refused: 2, 3, 4, 6, 9. */
+ROTUNDAALOE_CHECKED unsigned rotundaaloe_take_key(struct rotundaaloe_state *state, uint16_t thread,
                                                   uint16_t segment, uint16_t key, uint16_t *keys)
 {
-    const struct rotundaaloe_record record = rotundaaloe_record_take_key(user, segment, key);
+    const struct rotundaaloe_record record = rotundaaloe_record_take_key(thread, segment, key);
     return rotundaaloe_call(state, &record, keys, NULL);
 }
 
 /*
  * L: a new lock on the segment, for these operations, with this formula, a string. Refused:
- * 1, 3, 6, 7, 10, 11, 12, 13.
+ * 2, 3, 6, 7, 10, 11, 12, 13.
  */
-ROTUNDAALOE_CHECKED unsigned rotundaaloe_add_lock(struct rotundaaloe_state *state, uint16_t user,
+ROTUNDAALOE_CHECKED unsigned rotundaaloe_add_lock(struct rotundaaloe_state *state, uint16_t thread,
                                                   uint16_t segment, uint16_t operations,
                                                   const char *text, uint16_t *lock)
 {
     const struct rotundaaloe_record record =
-        rotundaaloe_record_add_lock(user, segment, operations, text);
+        rotundaaloe_record_add_lock(thread, segment, operations, text);
     return rotundaaloe_call(state, &record, lock, NULL);
 }
 
-/* D: drops the lock. products: those that this removes. Refused: 1, 5, 6. */
-ROTUNDAALOE_CHECKED unsigned rotundaaloe_drop_lock(struct rotundaaloe_state *state, uint16_t user,
+/* D: drops the lock. products: those that this removes. Refused: 2, 5, 6. */
+ROTUNDAALOE_CHECKED unsigned rotundaaloe_drop_lock(struct rotundaaloe_state *state, uint16_t thread,
                                                    uint16_t lock, uint16_t *products)
 {
-    const struct rotundaaloe_record record = rotundaaloe_record_drop_lock(user, lock);
+    const struct rotundaaloe_record record = rotundaaloe_record_drop_lock(thread, lock);
     return rotundaaloe_call(state, &record, products, NULL);
 }
 
@@ -565,7 +574,7 @@ struct rotundaaloe_reader {
     size_t length, cursor;
 };
 
-/* Opens a file, by a check of the whole of it. Refused: 16, 17, 18. */
+/* Opens a file, by a check of the whole of it. Refused: 16, 17 for any version but 2, 18. */
 ROTUNDAALOE_CHECKED unsigned rotundaaloe_reader_open(struct rotundaaloe_reader *reader,
                                                      const uint8_t *file, size_t length)
 {

@@ -68,8 +68,9 @@ void rotundaaloe_raw_empty(
 void rotundaaloe_raw_left(const uint32_t registry[ROTUNDAALOE_ROW], uint32_t left[5]);
 
 /*
- * One of the twelve calls, by its letter. An unknown letter, a field that is not 0 where its call
- * has none, or a text where the letter is not L is refusal 18, before all else.
+ * One of the twelve calls, by its letter. In an edit, which is N, K, G, T, L or D, a is a live
+ * thread, whose user is the editor; in S it is a user. An unknown letter, a field that is not 0
+ * where its call has none, or a text where the letter is not L is refusal 18, before all else.
  *
  * Answer: below 65536 the call is accepted, and it is document 01's answer. Any other is
  * refusal * 65536 + second, document 01's two numbers, and then no cell is changed.
@@ -183,7 +184,7 @@ uint32_t rotundaaloe_raw_opens(const uint32_t rows[ROTUNDAALOE_MOST_PRODUCTS][RO
                                size_t count, const uint32_t *keys, size_t keys_count);
 
 /*
- * A journal (document 01: desk file) is the bytes 4B 4C 44, the version 1 and the record count,
+ * A journal (document 01: desk file) is the bytes 4B 4C 44, the version 2 and the record count,
  * then the records: a letter, a, b, c and the text's length, then the text. Numbers have 16 bits,
  * low byte first. The refusals are 10 (full), 16 (not a journal), 17 (other version) and
  * 18 (corrupt).

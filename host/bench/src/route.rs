@@ -22,17 +22,16 @@ const CODE: u16 = 16;
 /// others only their own; segment 0 is the oldest's, `depth - 1` the newest's.
 /// The sheet has a lock of each text, for writing.
 pub fn calls(depth: u16, holder: u16, texts: &[String]) -> Vec<Record> {
-    let mut calls = vec![call(b'U', 0, 0, 0)];
-    calls.extend(vec![call(b'N', 0, 0, 0); usize::from(CODE)]);
-    calls.push(call(b'N', 0, 1, 0));
-    calls.extend(vec![call(b'K', 0, 0, 0); 9]);
-    calls.extend((1..=7).map(|key| call(b'G', 0, holder, key)));
-    calls.extend((0..CODE).map(|segment| lock(0, segment, EXECUTE, b"U0")));
+    let mut calls = vec![call(b'U', 0, 0, 0), call(b'S', 0, 0, 0)];
+    calls.extend(vec![call(b'N', THREAD, 0, 0); usize::from(CODE)]);
+    calls.push(call(b'N', THREAD, 1, 0));
+    calls.extend(vec![call(b'K', THREAD, 0, 0); 9]);
+    calls.extend((1..=7).map(|key| call(b'G', THREAD, holder, key)));
+    calls.extend((0..CODE).map(|segment| lock(THREAD, segment, EXECUTE, b"U0")));
     let locks = texts
         .iter()
-        .map(|text| lock(0, SHEET, WRITE, text.as_bytes()));
+        .map(|text| lock(THREAD, SHEET, WRITE, text.as_bytes()));
     calls.extend(locks);
-    calls.push(call(b'S', 0, 0, 0));
     calls.extend(entered(depth));
     calls
 }

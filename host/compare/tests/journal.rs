@@ -424,7 +424,7 @@ fn wrong_counts(comparison: &mut Comparison) {
 fn versions(comparison: &mut Comparison) {
     let nothing = write(&[]);
     let user = write(&[bare(b'U', 0)]);
-    let broken = b"KLD\x01\x00\x00\x00X";
+    let broken = b"KLD\x02\x00\x00\x00X";
     let long = write(&vec![bare(b'K', 0); 7_777]);
     assert_eq!(long.len(), 70_000);
     let with = |file: &[u8], version: u16| {
@@ -434,13 +434,13 @@ fn versions(comparison: &mut Comparison) {
     };
     for version in 0..=65_535 {
         let answer = match version {
-            1 => ACCEPTED,
+            2 => ACCEPTED,
             _ => OTHER_VERSION,
         };
         comparison.file_with(&with(&nothing, version), answer);
         comparison.file_with(&with(&user, version), answer);
     }
-    for version in [0, 2, 256, 257, 65_535] {
+    for version in [0, 1, 3, 256, 258, 512, 65_535] {
         for length in 5..7 {
             comparison.file_with(&with(&nothing, version)[..length], CORRUPT);
         }
@@ -477,7 +477,7 @@ fn marks(comparison: &mut Comparison) {
             file[place] ^= 0x20;
             comparison.file_with(&file, NOT_JOURNAL);
             // An other version as well.
-            file[3] = 2;
+            file[3] = 1;
             comparison.file_with(&file, NOT_JOURNAL);
         }
     }
@@ -682,6 +682,31 @@ fn appends() {
     assert!(tally.not_journal > 5_000 && tally.other_version > 3_000);
 }
 
+/// The answer of a guard that takes a file of version 1 for its own.
+fn with_version_1_taken(file: &[u8]) -> u32 {
+    let mut file = file.to_vec();
+    if let Some(version) = file.get_mut(3..5)
+        && version == [1, 0]
+    {
+        version[0] = 2;
+    }
+    number(&check(&file))
+}
+
+/// By the damaged files that are compared above.
+#[test]
+fn a_guard_that_takes_version_1_is_found() {
+    let mut random = Random::new(56);
+    let mut found = 0;
+    for _ in 0..30_000 {
+        let file = journals::damaged(&mut random);
+        let answers = (agreed_open(&file), with_version_1_taken(&file));
+        found += usize::from(answers == (OTHER_VERSION, ACCEPTED));
+    }
+    println!("version 1 taken: {found} files");
+    assert!(found > 300, "{found}");
+}
+
 /// What fills a file to its longest, and what passes it by a byte, in buffers
 /// that hold that and more.
 #[test]
@@ -787,7 +812,7 @@ fn rebuilding() {
 /// append leaves what is written here.
 #[test]
 fn files_by_hand() {
-    assert_eq!(written::file(&[]), hex("4B 4C 44 01 00 00 00"));
+    assert_eq!(written::file(&[]), hex("4B 4C 44 02 00 00 00"));
     assert_eq!(written::file(&OFFICE).len(), 160);
     let letters = EVERY_LETTER.map(|(letter, ..)| letter);
     assert_eq!(letters, Letter::ALL.map(Letter::byte));
@@ -811,7 +836,7 @@ fn files_by_hand() {
 /// The values of records, written out from the interface's description.
 #[test]
 fn values_are_as_described() {
-    let file = hex("4B 4C 44 01 00 02 00 \
+    let file = hex("4B 4C 44 02 00 02 00 \
          4C 01 00 02 00 03 01 02 00 55 30 \
          52 05 00 00 00 00 00 00 00");
     let lock = [0x4C, 1, 2, 259, 16, 18];
@@ -874,28 +899,28 @@ fn answers(file: &str, answer: u32) {
 
 #[test]
 fn answers_by_hand() {
-    answers("4B 4C 44 01 00 00 00", ACCEPTED);
+    answers("4B 4C 44 02 00 00 00", ACCEPTED);
     answers("", NOT_JOURNAL);
     answers("4B 4C", NOT_JOURNAL);
-    answers("4B 4C 64 01 00 00 00", NOT_JOURNAL);
+    answers("4B 4C 64 02 00 00 00", NOT_JOURNAL);
     answers("4B 4C 44", CORRUPT);
-    answers("4B 4C 44 02 00 00", CORRUPT);
-    answers("4B 4C 44 02 00 00 00", OTHER_VERSION);
-    answers("4B 4C 44 01 01 00 00", OTHER_VERSION);
-    answers("4B 4C 44 00 01 00 00 FF", OTHER_VERSION);
-    answers("4B 4C 44 01 00 01 00", CORRUPT);
-    answers("4B 4C 44 01 00 00 00 00", CORRUPT);
-    answers("4B 4C 44 01 00 01 00 55 00 00 00 00 00 00 00 00", ACCEPTED);
-    answers("4B 4C 44 01 00 01 00 55 00 00 00 00 00 00 00", CORRUPT);
-    answers("4B 4C 44 01 00 01 00 55 01 00 00 00 00 00 00 00", CORRUPT);
-    answers("4B 4C 44 01 00 01 00 53 01 00 00 01 00 00 00 00", CORRUPT);
-    answers("4B 4C 44 01 00 01 00 43 01 00 01 00 00 01 00 00", CORRUPT);
-    answers("4B 4C 44 01 00 01 00 75 00 00 00 00 00 00 00 00", CORRUPT);
-    answers("4B 4C 44 01 00 01 00 4C 00 00 00 00 00 00 00 00", CORRUPT);
+    answers("4B 4C 44 01 00 00", CORRUPT);
+    answers("4B 4C 44 01 00 00 00", OTHER_VERSION);
+    answers("4B 4C 44 02 01 00 00", OTHER_VERSION);
+    answers("4B 4C 44 00 02 00 00 FF", OTHER_VERSION);
+    answers("4B 4C 44 02 00 01 00", CORRUPT);
+    answers("4B 4C 44 02 00 00 00 00", CORRUPT);
+    answers("4B 4C 44 02 00 01 00 55 00 00 00 00 00 00 00 00", ACCEPTED);
+    answers("4B 4C 44 02 00 01 00 55 00 00 00 00 00 00 00", CORRUPT);
+    answers("4B 4C 44 02 00 01 00 55 01 00 00 00 00 00 00 00", CORRUPT);
+    answers("4B 4C 44 02 00 01 00 53 01 00 00 01 00 00 00 00", CORRUPT);
+    answers("4B 4C 44 02 00 01 00 43 01 00 01 00 00 01 00 00", CORRUPT);
+    answers("4B 4C 44 02 00 01 00 75 00 00 00 00 00 00 00 00", CORRUPT);
+    answers("4B 4C 44 02 00 01 00 4C 00 00 00 00 00 00 00 00", CORRUPT);
     // Wrong values, which are no fault of the file: N with b 2, A with c 1, and
     // L with a text that is no formula.
     answers(
-        "4B 4C 44 01 00 03 00 4E 09 00 02 00 00 00 00 00 \
+        "4B 4C 44 02 00 03 00 4E 09 00 02 00 00 00 00 00 \
          41 00 00 00 00 01 00 00 00 4C 00 00 00 00 F0 FF 03 00 20 29 FF",
         ACCEPTED,
     );
@@ -913,7 +938,7 @@ fn append_answers(buffer: &str, length: usize, record: &Record, answer: u32) {
 fn refused_appends_by_hand() {
     let user = bare(b'U', 0);
     let unfit = bare(b'U', 1);
-    let nothing = "4B 4C 44 01 00 00 00";
+    let nothing = "4B 4C 44 02 00 00 00";
     // The length comes first, then the file, the record and the room.
     append_answers("00 00 00", 4, &unfit, CORRUPT);
     append_answers("00 00 00", usize::MAX, &user, CORRUPT);
@@ -921,8 +946,14 @@ fn refused_appends_by_hand() {
     append_answers("", 0, &unfit, NOT_JOURNAL);
     append_answers(nothing, 2, &user, NOT_JOURNAL);
     append_answers(nothing, 6, &user, CORRUPT);
-    append_answers("4B 4C 44 02 00 00 00", 7, &unfit, OTHER_VERSION);
-    append_answers("4B 4C 44 01 00 01 00", 7, &user, CORRUPT);
+    append_answers("4B 4C 44 01 00 00 00", 7, &unfit, OTHER_VERSION);
+    append_answers(
+        "4B 4C 44 01 00 00 00 00 00 00 00 00 00 00 00 00",
+        7,
+        &user,
+        OTHER_VERSION,
+    );
+    append_answers("4B 4C 44 02 00 01 00", 7, &user, CORRUPT);
     append_answers(nothing, 7, &unfit, CORRUPT);
     append_answers(nothing, 7, &bare(b'L', 0), CORRUPT);
     append_answers(nothing, 7, &bare(b'L', MAX_TEXT_BYTES + 1), CORRUPT);
@@ -930,7 +961,7 @@ fn refused_appends_by_hand() {
     append_answers(nothing, 7, &bare(b'X', 0), CORRUPT);
     append_answers(nothing, 7, &user, FULL);
     append_answers(
-        "4B 4C 44 01 00 00 00 00 00 00 00 00 00 00 00",
+        "4B 4C 44 02 00 00 00 00 00 00 00 00 00 00 00",
         7,
         &user,
         FULL,

@@ -86,11 +86,12 @@ impl Office {
         answer
     }
 
-    /// Every code segment gets a lock that opens for everyone, if it has room.
+    /// Every code segment gets a lock that opens for everyone, if it has room and
+    /// its owner a thread.
     fn open_to_all(&mut self) {
         for segment in Vec::from_iter(self.history.segments()) {
-            let owner = self.owner(segment);
-            let _ = self.call(&lock(owner, segment, EXECUTE, b"U0|!U0"));
+            let editor = self.editor(segment);
+            let _ = self.call(&lock(editor, segment, EXECUTE, b"U0|!U0"));
         }
     }
 
@@ -103,10 +104,13 @@ impl Office {
             let (thread, segment) = (random.pick(&threads), random.pick(&segments));
             let record = match random.below(12) {
                 0 => call(b'R', thread, 0, 0),
-                1 => call(b'T', self.owner(segment), segment, self.newest_key(segment)),
+                1 => {
+                    let key = self.newest_key(segment);
+                    call(b'T', self.editor(segment), segment, key)
+                }
                 2 => {
                     let key = random.below(self.history.issued().defined as usize);
-                    call(b'G', self.owner(segment), segment, key as u16)
+                    call(b'G', self.editor(segment), segment, key as u16)
                 }
                 _ => call(b'C', thread, segment, 0),
             };
@@ -114,9 +118,18 @@ impl Office {
         }
     }
 
-    fn owner(&self, segment: u16) -> u16 {
+    /// A live thread of the segment's owner, which is started where there is none
+    /// and there is room for it.
+    fn editor(&mut self, segment: u16) -> u16 {
         let segment = self.history.segment(segment);
-        segment.expect("it is handed out").owner
+        let owner = segment.expect("it is handed out").owner;
+        let is_owners = |thread: &u16| {
+            let thread = self.history.thread(*thread);
+            thread.is_some_and(|thread| thread.user == owner)
+        };
+        let live = self.history.live_threads().find(is_owners);
+        let started = |office: &mut Office| office.call(&call(b'S', owner, 0, 0)).ok();
+        live.or_else(|| started(self)).unwrap_or(NOBODY)
     }
 
     /// The key that was given to the segment last, or the segment's own.
@@ -357,7 +370,7 @@ fn lists_of_calls() {
 /// Every segment and every defined key is handed out. The older of two open calls
 /// hands over S63 and defined keys at the edges, the newer one S0.
 fn at_the_edges() -> Office {
-    let mut list = vec![call(b'U', 0, 0, 0)];
+    let mut list = vec![call(b'U', 0, 0, 0), call(b'S', 0, 0, 0)];
     for segment in 0..64 {
         list.push(call(b'N', 0, 0, 0));
         list.push(lock(0, segment, 1, b"U0"));
@@ -366,7 +379,6 @@ fn at_the_edges() -> Office {
     for key in [0, 1, 36, 63, 64, 1_023] {
         list.push(call(b'G', 0, 63, key));
     }
-    list.push(call(b'S', 0, 0, 0));
     list.push(call(b'C', 0, 63, 0));
     list.push(call(b'C', 0, 0, 0));
     let office = Office::after(&list);

@@ -40,30 +40,41 @@ fn typed(guard: &mut Guard, call: Call) -> Option<Numbers> {
         Call::NewUser => numbers(guard.new_user(), |User(n)| n),
         Call::StartThread { user } => numbers(guard.start_thread(User(user)), |Thread(n)| n),
         Call::EndThread { thread } => numbers(guard.end_thread(Thread(thread)), |n| n),
-        Call::NewSegment { user, kind } => {
-            let segment = guard.new_segment(User(user), kind_of(kind)?);
+        Call::NewSegment { thread, kind } => {
+            let segment = guard.new_segment(Thread(thread), kind_of(kind)?);
             numbers(segment, |Segment(n)| n)
         }
-        Call::NewKey { user } => numbers(guard.new_key(User(user)), |Defined(n)| n),
-        Call::GiveKey { user, segment, key } => {
-            let keys = guard.give_key(User(user), Segment(segment), Defined(key));
+        Call::NewKey { thread } => numbers(guard.new_key(Thread(thread)), |Defined(n)| n),
+        Call::GiveKey {
+            thread,
+            segment,
+            key,
+        } => {
+            let keys = guard.give_key(Thread(thread), Segment(segment), Defined(key));
             numbers(keys, |n| n)
         }
-        Call::TakeKey { user, segment, key } => {
-            let keys = guard.take_key(User(user), Segment(segment), Defined(key));
+        Call::TakeKey {
+            thread,
+            segment,
+            key,
+        } => {
+            let keys = guard.take_key(Thread(thread), Segment(segment), Defined(key));
             numbers(keys, |n| n)
         }
         Call::AddLock {
-            user,
+            thread,
             segment,
             operations,
             text,
         } => {
             let (text, operations) = (str::from_utf8(text).ok()?, Operations(operations));
-            let lock = guard.add_lock(User(user), Segment(segment), operations, text);
+            let lock = guard.add_lock(Thread(thread), Segment(segment), operations, text);
             numbers(lock, |Lock(n)| n)
         }
-        Call::DropLock { user, lock } => numbers(guard.drop_lock(User(user), Lock(lock)), |n| n),
+        Call::DropLock { thread, lock } => {
+            let products = guard.drop_lock(Thread(thread), Lock(lock));
+            numbers(products, |n| n)
+        }
         Call::CallSegment { thread, segment } => {
             let lock = guard.call_segment(Thread(thread), Segment(segment));
             numbers(lock, |Lock(n)| n)
@@ -136,9 +147,9 @@ fn calls_by_their_types() {
 fn a_kept_state_goes_on() {
     let mut guard = Guard::new();
     let user = guard.new_user().expect("the first");
-    let sheet = guard.new_segment(user, Kind::Sheet).expect("the first");
-    let lock = guard.add_lock(user, sheet, Operations::READ, "U0");
     let thread = guard.start_thread(user).expect("the first");
+    let sheet = guard.new_segment(thread, Kind::Sheet).expect("the first");
+    let lock = guard.add_lock(thread, sheet, Operations::READ, "U0");
     let kept = Guard::from_bytes(&guard.to_bytes()).expect("a state file");
     assert!(kept == guard);
     assert_eq!(kept.access(thread, sheet, Access::Read).ok(), lock.ok());

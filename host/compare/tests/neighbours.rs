@@ -1,9 +1,10 @@
 //! Neighbours in a shared host (document 02, P2), on both guards. Lists that are
 //! the same once the C, R and A of threads other than one are struck give the
 //! one thread the same answers, and every call that is left the same, but for how
-//! many open calls an E of another thread closes.
+//! many open calls an E of another thread closes. The edits that name a thread are
+//! among its calls; those of others are shared, and stay.
 //!
-//! Five faulty guards, each with an answer in which a neighbour shows, are found.
+//! Six faulty guards, each with an answer in which a neighbour shows, are found.
 //! With `-- --nocapture` it also prints how often calls came to each outcome.
 
 #[path = "guards/faulty.rs"]
@@ -13,6 +14,7 @@ use compare::guard::{Guard, coded, outcome};
 use faulty::{FAULTS, Fault, Faulty};
 use reference::guard::Answer;
 use reference::journal::Record;
+use reference::letter::{Field, Letter};
 use rotundaaloe::raw::Cells;
 use rotundaaloe::view::Thread;
 use std::collections::{BTreeMap, BTreeSet};
@@ -44,9 +46,12 @@ fn records(list: &Answered) -> Vec<Record> {
     list.iter().map(|(record, _)| record.clone()).collect()
 }
 
+/// The letters whose field a names a thread.
+const OF_A_THREAD: &[u8] = b"ENKGTLDCRA";
+
 /// Whether it is one of the thread's own calls.
 fn is_own(one: u16, record: &Record) -> bool {
-    matches!(record.letter, b'C' | b'R' | b'A' | b'E') && record.a == one
+    OF_A_THREAD.contains(&record.letter) && record.a == one
 }
 
 /// The answers to the one thread's own calls.
@@ -97,6 +102,14 @@ fn drawn(random: &mut Random, world: &World) -> Answered {
         list.push((record, coded(answer)));
     }
     list
+}
+
+/// Every letter of a thread is among them, and no other.
+#[test]
+fn letters_of_a_thread() {
+    let names_thread = |letter: &Letter| letter.fields().first() == Some(&Field::Thread);
+    let letters = Letter::ALL.into_iter().filter(names_thread);
+    assert!(letters.map(Letter::byte).eq(OF_A_THREAD.iter().copied()));
 }
 
 /// The accepted calls of a letter.
@@ -243,7 +256,7 @@ impl Tally {
     /// Every outcome that there can be must have come often, to the one thread and
     /// to its neighbours.
     fn assert_complete(&self) {
-        assert_often(&self.own, b"CRAE", LISTS / 200);
+        assert_often(&self.own, OF_A_THREAD, LISTS / 200);
         assert_often(&self.struck, b"CRA", LISTS / 2);
         for letter in ['C', 'R', 'A'] {
             let accepted = self.struck[&(letter, 0)];
@@ -361,7 +374,7 @@ fn a_faulty_guard_is_found() {
 /// And one that no thread notices.
 #[test]
 fn a_fault_in_other_calls_is_found() {
-    let (in_own, in_left) = found(Fault::CountsOpenCalls);
+    let (in_own, in_left) = found(Fault::NumbersByOpenCalls);
     assert_eq!(in_own, 0);
     assert!(in_left > FAULTY_LISTS / 4, "{in_left}");
 }

@@ -40,8 +40,8 @@ fn printed(program: &Path, pieces: [&[u8]; 2]) -> Vec<u8> {
 fn the_lesson_of_the_route() {
     let lesson = concat!(env!("CARGO_MANIFEST_DIR"), "/../../lessons/route.kld");
     let lesson = fs::read(lesson).expect("the lesson");
-    let lines = "0 U ok 0\n1 N ok 0\n2 N ok 1\n3 N ok 2\n4 L ok 0\n5 L ok 1\n6 L ok 2\n7 S ok 0\n\
-                 8 S ok 1\n9 C ok 0\n10 C ok 1\n11 C ok 1\n12 A ok 2\n13 A no 15 0\n14 R ok 1\n\
+    let lines = "0 U ok 0\n1 S ok 0\n2 S ok 1\n3 N ok 0\n4 N ok 1\n5 N ok 2\n6 L ok 0\n7 L ok 1\n\
+                 8 L ok 2\n9 C ok 0\n10 C ok 1\n11 C ok 1\n12 A ok 2\n13 A no 15 0\n14 R ok 1\n\
                  15 A no 15 0\n";
     assert_eq!(printed(&program(), [&lesson, b""]), lines.as_bytes());
 }

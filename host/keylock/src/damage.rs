@@ -6,7 +6,7 @@ use crate::figures::{counted, grouped};
 use crate::letters::Letter;
 use reference::journal::{Step, record_at};
 use rotundaaloe::Refusal;
-use rotundaaloe::journal::MARK;
+use rotundaaloe::journal::{self, MARK};
 use rotundaaloe::limits::{JOURNAL_BYTES, JOURNAL_HEAD, MOST_TEXT};
 use rotundaaloe::refusal::Read;
 use rotundaaloe::state;
@@ -77,8 +77,14 @@ fn no_mark(bytes: &[u8]) -> Finding {
 }
 
 fn other_version(bytes: &[u8]) -> Finding {
-    let version = number_at(bytes, VERSION);
-    let sentence = format!("version {version}, only version 1 is known");
+    let read = journal::VERSION;
+    let sentence = match number_at(bytes, VERSION) {
+        1 => format!(
+            "version 1: its edits (N, K, G, T, L, D) name a user; since version 2 they name a \
+             thread, and this guard reads version {read}"
+        ),
+        version => format!("version {version}, only version {read} is known"),
+    };
     (VERSION, None, sentence)
 }
 

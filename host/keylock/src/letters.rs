@@ -67,7 +67,7 @@ pub fn table() -> String {
         if letter.has_text() {
             call += " FORMULA";
         }
-        format!("  {call:26}  {}\n", summary(letter))
+        format!("  {call:28}  {}\n", summary(letter))
     };
     Letter::ALL.into_iter().map(line).collect()
 }

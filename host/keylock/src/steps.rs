@@ -153,7 +153,9 @@ impl Teller {
         let judgement = judgement::of(&self.state, &self.guard, &record);
         let answer = self.guard.call(record);
         let judgement = judgement.map(|judgement| judgement.answered(answer));
-        let call_in_words = words::call_by_name(&record, &self.state.kept.names);
+        let call_in_words = words::call_by_name(&record, &self.state.kept.names, |thread| {
+            self.state.editor(thread)
+        });
         if let Ok(answer) = answer {
             self.state.kept.learn(&entry, answer);
         }

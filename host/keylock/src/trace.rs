@@ -8,7 +8,7 @@ use paint::{Look, Paint};
 use std::io::{self, Write};
 
 /// Longer calls and words push the answer to the right.
-const WIDEST: usize = 40;
+const WIDEST: usize = 48;
 
 /// Writes the introduction and the steps one under the other, in ANSI colours
 /// if asked for.

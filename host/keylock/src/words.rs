@@ -1,38 +1,46 @@
 //! Calls and answers in words.
 
+use crate::edits;
 use crate::names::{Names, Thing};
 use rotundaaloe::{Call, Defined, Record, Refusal, Segment, Thread, User};
 
 /// What a call asks for: `thread 0 writes segment 2`.
 pub fn call(record: &Record) -> String {
-    call_by_name(record, &Names::default())
+    call_by_name(record, &Names::default(), |_| None)
 }
 
 /// The same by the names that are known: `thread 0 writes the totals sheet
-/// (segment 2)`.
-pub fn call_by_name(record: &Record, names: &Names) -> String {
+/// (segment 2)`. In an edit a thread's user, who edits, is said too, where he is
+/// known: `thread 0, for user 0, makes a sheet`.
+pub fn call_by_name(
+    record: &Record,
+    names: &Names,
+    user_of: impl Fn(Thread) -> Option<User>,
+) -> String {
     let Some(call) = Call::of(record) else {
         return "no call has this shape".to_string();
     };
     let deed = deed(call, names);
-    match actor(call) {
-        Some(actor) => format!("{} {deed}", names.said(actor)),
-        None => deed,
-    }
+    let Some(actor) = actor(call) else {
+        return deed;
+    };
+    let editor = edits::thread(call).and_then(user_of);
+    let editor = editor.map(|user| format!(", for {},", names.said(user)));
+    format!("{}{} {deed}", names.said(actor), editor.unwrap_or_default())
 }
 
 /// Who calls, if the call says it.
 fn actor(call: Call) -> Option<Thing> {
     match call {
         Call::NewUser => None,
-        Call::StartThread { user }
-        | Call::NewSegment { user, .. }
-        | Call::NewKey { user }
-        | Call::GiveKey { user, .. }
-        | Call::TakeKey { user, .. }
-        | Call::AddLock { user, .. }
-        | Call::DropLock { user, .. } => Some(user.into()),
+        Call::StartThread { user } => Some(user.into()),
         Call::EndThread { thread }
+        | Call::NewSegment { thread, .. }
+        | Call::NewKey { thread }
+        | Call::GiveKey { thread, .. }
+        | Call::TakeKey { thread, .. }
+        | Call::AddLock { thread, .. }
+        | Call::DropLock { thread, .. }
         | Call::CallSegment { thread, .. }
         | Call::ReturnCall { thread }
         | Call::Access { thread, .. } => Some(thread.into()),

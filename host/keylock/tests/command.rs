@@ -58,7 +58,7 @@ fn run_prints_what_the_office_program_prints() {
     let file = keylock(&["asm"], TRIAL.as_bytes()).output;
     fine(&keylock(&["run"], &file), OFFICE_LINES);
     fine(&keylock(&["run", "-"], &file), OFFICE_LINES);
-    fine(&keylock(&["run"], b"KLD\x01\0\0\0"), "");
+    fine(&keylock(&["run"], b"KLD\x02\0\0\0"), "");
     fine(&keylock(&["run"], b"# nothing\n"), "");
     fine(
         &keylock(&["run"], b"S 0\nR 0\n"),
@@ -200,9 +200,15 @@ fn refused_files() {
     for command in ["dis", "run", "trace"] {
         refused(&keylock(&[command], &file), 1, right);
     }
+    let changed = "keylock: standard input: byte 3: version 1: its edits (N, K, G, T, L, D) \
+        name a user; since version 2 they name a thread, and this guard reads version 2 \
+        (17 other version)\n";
     let right = "keylock: standard input: byte 3: \
-        version 2, only version 1 is known (17 other version)\n";
-    refused(&keylock(&["dis"], b"KLD\x02\0\0\0"), 1, right);
+        version 3, only version 2 is known (17 other version)\n";
+    for command in ["dis", "run", "trace"] {
+        refused(&keylock(&[command], b"KLD\x01\0\0\0"), 1, changed);
+        refused(&keylock(&[command], b"KLD\x03\0\0\0"), 1, right);
+    }
 }
 
 #[test]
@@ -211,7 +217,7 @@ fn no_bytes() {
     for command in ["dis", "run", "trace"] {
         refused(&keylock(&[command], b""), 1, right);
     }
-    assert_eq!(keylock(&["asm"], b"").output, b"KLD\x01\0\0\0");
+    assert_eq!(keylock(&["asm"], b"").output, b"KLD\x02\0\0\0");
 }
 
 #[test]

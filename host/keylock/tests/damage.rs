@@ -13,7 +13,7 @@ fn damage(file: &[u8]) -> Damage {
 
 /// A file with this count and these records.
 fn file(count: u16, records: &[&[u8]]) -> Vec<u8> {
-    [b"KLD\x01\0", &count.to_le_bytes()[..], &records.concat()].concat()
+    [b"KLD\x02\0", &count.to_le_bytes()[..], &records.concat()].concat()
 }
 
 #[track_caller]
@@ -31,8 +31,8 @@ fn no_mark() {
     for (file, byte) in [
         (&b""[..], 0),
         (b"KL", 2),
-        (b"KLX\x01\0\0\0", 2),
-        (b"kld\x01\0\0\0", 0),
+        (b"KLX\x02\0\0\0", 2),
+        (b"kld\x02\0\0\0", 0),
         (b"U\nN 0 0\n", 0),
     ] {
         let damage = damage(file);
@@ -42,19 +42,31 @@ fn no_mark() {
     }
 }
 
+/// Whatever follows the head.
 #[test]
 fn other_version() {
-    let damage = damage(b"KLD\x02\x01\0\0");
-    assert_eq!(damage.refusal.number(), 17);
-    assert_eq!((damage.byte, damage.record), (3, None));
-    assert_eq!(damage.sentence, "version 258, only version 1 is known");
+    let changed = "version 1: its edits (N, K, G, T, L, D) name a user; \
+                   since version 2 they name a thread, and this guard reads version 2";
+    for (file, sentence) in [
+        (&b"KLD\x01\0\0\0"[..], changed),
+        (b"KLD\x01\0\x01\0U\0\0\0\0\0\0\0\0", changed),
+        (b"KLD\x01\0\x09\0Z", changed),
+        (b"KLD\0\0\0\0", "version 0, only version 2 is known"),
+        (b"KLD\x03\0\0\0", "version 3, only version 2 is known"),
+        (b"KLD\x02\x01\0\0", "version 258, only version 2 is known"),
+    ] {
+        let damage = damage(file);
+        assert_eq!(damage.refusal.number(), 17);
+        assert_eq!((damage.byte, damage.record), (3, None));
+        assert_eq!(damage.sentence, sentence);
+    }
 }
 
 #[test]
 fn the_head() {
     broken(b"KLD", 3, None, "cut short: 3 of the head's 7 bytes");
     broken(
-        b"KLD\x02\0\0",
+        b"KLD\x01\0\0",
         6,
         None,
         "cut short: 6 of the head's 7 bytes",
@@ -171,9 +183,9 @@ fn shown_with_its_place() {
 
 /// A file, and where its records start.
 fn example() -> (Vec<u8>, Vec<usize>) {
-    let text = b"U\nN 0 1\nL 0 0 4 S0&S1\nS 0\nL 0 0 2 U0\nA 0 0 4\n";
+    let text = b"U\nS 0\nN 0 1\nL 0 0 4 S0&S1\nL 0 0 2 U0\nA 0 0 4\n";
     let journal = text::parse(text).expect("no mistake").journal;
-    let starts = vec![7, 16, 25, 39, 48, 59];
+    let starts = vec![7, 16, 25, 34, 48, 59];
     (journal.as_bytes().to_vec(), starts)
 }
 

@@ -21,8 +21,8 @@ use testing::random::Random;
 
 /// Parts 0 and 1 hand over D0, and part 2 doesn't. Sheet 3 is read by who holds
 /// D0, and written by who doesn't.
-const PARTS: &str = "U; N 0 0; N 0 0; N 0 0; N 0 1; K 0; G 0 0 0; G 0 1 0; L 0 0 1 U0; L 0 1 1 U0; \
-                     L 0 2 1 U0; L 0 3 2 D0; L 0 3 4 !D0; S 0";
+const PARTS: &str = "U; S 0; N 0 0; N 0 0; N 0 0; N 0 1; K 0; G 0 0 0; G 0 1 0; L 0 0 1 U0; \
+                     L 0 1 1 U0; L 0 2 1 U0; L 0 3 2 D0; L 0 3 4 !D0";
 
 /// The literals of the locks that a step was tried on.
 fn literals<'a>(step: &'a Step<'_>) -> impl Iterator<Item = &'a Literal> {

@@ -24,6 +24,9 @@ use testing::random::Random;
 const OFFICE: &str = "\
 U
 U
+S 0
+S 0
+S 1
 N 0 0
 N 0 0
 N 0 1
@@ -36,9 +39,6 @@ G 0 1 1
 G 0 2 2
 L 0 0 1 U0
 L 0 1 1 U0
-S 0
-S 0
-S 1
 C 0 0
 C 0 1
 C 0 0
@@ -98,7 +98,7 @@ fn threads_that_are_not_live() {
             finds(thread, key, "no 2 0");
         }
     }
-    let nobody = keylock(&["key", "-", "0", "S0"], b"KLD\x01\0\0\0");
+    let nobody = keylock(&["key", "-", "0", "S0"], b"KLD\x02\0\0\0");
     fine(&nobody, "no 2 0\n");
 }
 
@@ -154,7 +154,7 @@ fn after_returns() {
 /// Sixteen open calls, the oldest of which alone hands over S1.
 #[test]
 fn the_oldest_of_sixteen() {
-    let start = "U\nN 0 0\nN 0 0\nL 0 0 1 U0\nL 0 1 1 U0\nS 0\nC 0 1\n";
+    let start = "U\nS 0\nN 0 0\nN 0 0\nL 0 0 1 U0\nL 0 1 1 U0\nC 0 1\n";
     for open in 1..=16 {
         let journal = format!("{start}{}", "C 0 0\n".repeat(open - 1));
         let ran = keylock(&["key", "-", "0", "S1"], journal.as_bytes());

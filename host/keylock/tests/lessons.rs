@@ -1,15 +1,17 @@
 //! The lessons: their expected answers are the proved guard's, the reference's
 //! and those of a small guard. Each of five broken guards is caught by its own
-//! lesson and by no other, and each of four more by its own trap. In a last four
+//! lesson and by no other, and each of four more by its own trap. In another four
 //! one thread disturbs another, which lesson 8 shows, and which is seen too where
-//! the lines of the other are struck.
+//! the lines of the other are struck. A last three mistake who edits, which lesson
+//! 9 shows and no other.
 
 mod faults;
 
 use faults::{Fault, Guard};
 use keylock::answer::Answer;
+use keylock::edits;
 use keylock::text::{self, Text};
-use rotundaaloe::Record;
+use rotundaaloe::{Field, Letter, Record};
 use std::fs;
 use std::path::{Path, PathBuf};
 
@@ -24,6 +26,7 @@ const LESSONS: [&str; 5] = [
 const ALL_FIVE: &str = "6-five-faults.txt";
 const TRAPS: &str = "7-traps.txt";
 const NEIGHBOURS: &str = "8-neighbours.txt";
+const WINDOWS: &str = "9-two-windows.txt";
 const ROUTE: &str = "route.txt";
 
 fn path(name: &str) -> PathBuf {
@@ -99,7 +102,7 @@ fn small(guard: &mut Guard, record: &Record) -> Answer {
 fn names() -> Vec<&'static str> {
     let names: Vec<&str> = LESSONS
         .into_iter()
-        .chain([ALL_FIVE, TRAPS, NEIGHBOURS, ROUTE])
+        .chain([ALL_FIVE, TRAPS, NEIGHBOURS, WINDOWS, ROUTE])
         .collect();
     let folder = fs::read_dir(path("")).expect("the lessons");
     let texts = folder.filter(|entry| {
@@ -116,6 +119,13 @@ fn names() -> Vec<&'static str> {
 fn every_lesson_says_in_three_lines_what_it_catches() {
     for name in names() {
         assert_eq!(lesson(name).introduction.len(), 3, "{name}");
+    }
+}
+
+#[test]
+fn every_lesson_starts_a_thread_before_its_edits() {
+    for name in names() {
+        assert_eq!(edits::note(&lesson(name)), None, "{name}");
     }
 }
 
@@ -222,9 +232,9 @@ fn none_of_these_four_shows_in_the_first_five() {
     }
 }
 
-/// The threads of lesson 8.
-const JANUARY: u16 = 0;
-const FEBRUARY: u16 = 1;
+/// The threads of lesson 8 that call.
+const JANUARY: u16 = 1;
+const FEBRUARY: u16 = 2;
 
 /// Lesson 8 without the C, R and A lines of all threads but one.
 fn struck_but_for(one: u16) -> Text {
@@ -252,11 +262,17 @@ fn all_answers_that_are_left_stay() {
     }
 }
 
+/// Whether field a of a letter's call names a thread.
+fn names_a_thread(letter: u8) -> bool {
+    let letter = Letter::of(letter).expect("a call's letter");
+    letter.fields().first() == Some(&Field::Thread)
+}
+
 /// What the small guard answers to the one thread's own calls.
 fn answers_to(one: u16, text: &Text, fault: Option<Fault>) -> Vec<Answer> {
     let mut guard = Guard::with(fault);
     let answers = text.calls().map(|(_, record)| {
-        let own = b"CRAE".contains(&record.letter) && record.a == one;
+        let own = names_a_thread(record.letter) && record.a == one;
         (own, small(&mut guard, &record))
     });
     answers
@@ -293,11 +309,39 @@ fn each_of_the_four_lets_a_neighbour_disturb() {
 /// Neither where there is no fault, nor with those of the other lessons.
 #[test]
 fn no_other_guard_lets_a_neighbour_disturb() {
-    let others = Fault::FIVE.into_iter().chain(Fault::TRAPS).map(Some);
+    let others = Fault::FIVE.into_iter().chain(Fault::TRAPS);
+    let others = others.chain(Fault::WINDOWS).map(Some);
     for fault in others.chain([None]) {
         for one in [JANUARY, FEBRUARY] {
             assert!(!is_disturbed(one, fault), "{fault:?}: thread {one}");
         }
+    }
+}
+
+#[test]
+fn all_three_are_caught_between_two_windows_in_the_ninth() {
+    for (fault, number) in Fault::WINDOWS.into_iter().zip(1..) {
+        let words = format!("a guard with fault {number} answers ");
+        gives_itself_away(WINDOWS, fault, &words);
+    }
+}
+
+/// In the other lessons one user edits, in one window.
+#[test]
+fn none_of_these_three_shows_elsewhere() {
+    for name in names().into_iter().filter(|name| *name != WINDOWS) {
+        for fault in Fault::WINDOWS {
+            assert_eq!(faulty(&lesson(name), Some(fault)), [], "{name}: {fault:?}");
+        }
+    }
+}
+
+/// Nobody calls there, so the others answer rightly.
+#[test]
+fn none_of_the_others_shows_in_the_ninth() {
+    let others = Fault::FIVE.into_iter().chain(Fault::TRAPS);
+    for fault in others.chain(Fault::NEIGHBOURS) {
+        assert_eq!(faulty(&lesson(WINDOWS), Some(fault)), [], "{fault:?}");
     }
 }
 

@@ -12,7 +12,8 @@ use rotundaaloe::LockRow;
 
 /// A sheet with two locks, the first of which has two products and is dropped.
 /// Until the second U there is nobody but the owner.
-const CALLS: &str = "U; N 0 1; N 0 0; L 0 0 2 S1&!U0|S0; L 0 0 12 U0; D 0 0; U; L 1 0 2 U1; N 1 1";
+const CALLS: &str = "U; S 0; N 0 1; N 0 0; L 0 0 2 S1&!U0|S0; L 0 0 12 U0; D 0 0; \
+                     U; S 1; L 1 0 2 U1; N 1 1";
 
 /// What the owner and what a colleague sees after a step of the segment that it
 /// changes or asks for.
@@ -32,22 +33,22 @@ fn the_lists_after_each_call() {
         &["0 2 grant", "1 4 deny"],
     ];
     let second: [&[&str]; 2] = [&["1 4 deny U0"], &["1 4 deny"]];
-    assert_eq!(lists(&steps[1]), none);
     assert_eq!(lists(&steps[2]), none);
-    assert_eq!(lists(&steps[4]), both);
-    assert_eq!(lists(&steps[5]), second);
+    assert_eq!(lists(&steps[3]), none);
+    assert_eq!(lists(&steps[5]), both);
+    assert_eq!(lists(&steps[6]), second);
     // The colleague who was only thought of took no number.
-    assert_eq!(steps[6].given().to_string(), "ok 1");
+    assert_eq!(steps[7].given().to_string(), "ok 1");
     // The other owns another sheet, and this lock is refused.
-    assert_eq!(steps[7].given().to_string(), "no 6 0");
-    assert_eq!(lists(&steps[7]), second);
-    assert_eq!(lists(&steps[8]), none);
+    assert_eq!(steps[9].given().to_string(), "no 6 0");
+    assert_eq!(lists(&steps[9]), second);
+    assert_eq!(lists(&steps[10]), none);
 }
 
 /// Accesses and calls, whatever they are answered, show the lists of that moment.
 #[test]
 fn the_lists_at_accesses() {
-    let calls = "U; N 0 1; N 0 0; S 0; L 0 0 2 S1&!U0|S0; A 0 0 2; L 0 0 12 U0; A 0 0 4; \
+    let calls = "U; S 0; N 0 1; N 0 0; L 0 0 2 S1&!U0|S0; A 0 0 2; L 0 0 12 U0; A 0 0 4; \
                  D 0 0; A 9 0 2; L 0 1 1 U0; C 0 1; A 0 1 2; A 0 7 2; R 0; E 0";
     let steps = explained(calls);
     let first: [&[&str]; 2] = [&["0 2 grant !U0 S1", "0 2 grant S0"], &["0 2 grant"]];
@@ -68,7 +69,7 @@ fn the_lists_at_accesses() {
         assert_eq!(lists(&steps[place]), right, "{place}");
     }
     // A segment that isn't handed out, and calls that ask for none.
-    for (place, answer) in [(13, "no 3 0"), (14, "ok 1"), (15, "ok 0"), (3, "ok 0")] {
+    for (place, answer) in [(13, "no 3 0"), (14, "ok 1"), (15, "ok 0"), (1, "ok 0")] {
         assert_eq!(steps[place].given().to_string(), answer, "{place}");
         assert!(steps[place].asked.is_none(), "{place}");
     }
@@ -77,9 +78,9 @@ fn the_lists_at_accesses() {
 /// The owner needn't be the first user.
 #[test]
 fn another_owner() {
-    let steps = explained("U; U; N 1 0; L 1 0 1 U0&U1");
+    let steps = explained("U; U; S 0; S 1; N 1 0; L 1 0 1 U0&U1");
     let right: [&[&str]; 2] = [&["0 1 grant U0 U1"], &["0 1 grant"]];
-    assert_eq!(lists(&steps[3]), right);
+    assert_eq!(lists(&steps[5]), right);
 }
 
 #[test]
@@ -88,13 +89,13 @@ fn lists_on_a_terminal() {
     trace::write(&[], explained(CALLS), false, &mut out).expect("a vector takes it");
     let out = String::from_utf8(out).expect("text");
     let listed = "\
-   sheet   segment 0 of user 0 [S0]
-   lock    0 grants read if S1&!U0|S0
-   lock    1 denies write if U0
-   owner   sees 0 2 grant !U0 S1; 0 2 grant S0; 1 4 deny U0
-   others  see 0 2 grant; 1 4 deny
-5  D 0 0";
+    sheet   segment 0 of user 0 [S0]
+    lock    0 grants read if S1&!U0|S0
+    lock    1 denies write if U0
+    owner   sees 0 2 grant !U0 S1; 0 2 grant S0; 1 4 deny U0
+    others  see 0 2 grant; 1 4 deny
+ 6  D 0 0";
     assert!(out.contains(listed), "{out}");
-    let bare = "   sheet   segment 0 of user 0 [S0]\n2  N 0 0";
+    let bare = "    sheet   segment 0 of user 0 [S0]\n 3  N 0 0";
     assert!(out.contains(bare), "{out}");
 }

@@ -18,25 +18,27 @@ use std::fs;
 use testing::calls::WORLDS;
 use testing::random::Random;
 
-/// User 0 owns code 0 and sheet 1, and user 1 code 2. On the sheet stand locks 1,
-/// 3 and 4: lock 3 has two products, lock 4 denies, and lock 2 is dropped.
+/// User 0, whose thread is 1, owns code 0 and sheet 1, and user 1, whose thread is
+/// 0, code 2. On the sheet stand locks 1, 3 and 4: lock 3 has two products, lock 4
+/// denies, and lock 2 is dropped.
 const OFFICE: &str = "\
 U
 U
-N 0 0
-N 0 1
-N 1 0
-K 0
-K 1
 S 1
-L 0 0 9 !R0
-L 0 1 4 S2&S0
-L 0 1 2 U1
-L 0 1 2 D1&!D0|U0&S0
-L 0 1 14 !(D0|U1)
-D 0 2
-L 1 2 1 U0|U1
-L 0 1 4 U7 -> no 11 0
+S 0
+N 1 0
+N 1 1
+N 0 0
+K 1
+K 0
+L 1 0 9 !R0
+L 1 1 4 S2&S0
+L 1 1 2 U1
+L 1 1 2 D1&!D0|U0&S0
+L 1 1 14 !(D0|U1)
+D 1 2
+L 0 2 1 U0|U1
+L 1 1 4 U7 -> no 11 0
 ";
 
 /// A product's keys stand by kind, U R S D, and then by number.
@@ -99,14 +101,14 @@ fn rows_are_lent() {
 
 #[test]
 fn a_segment_without_locks_needs_no_rows() {
-    let journal = b"U\nU\nN 0 1\nL 0 0 2 U0\nD 0 0\n";
+    let journal = b"U\nU\nS 0\nN 0 1\nL 0 0 2 U0\nD 0 0\n";
     for user in ["0", "1"] {
         let bare = keylock(&["locks", "-", user, "0"], journal);
         fine(&bare, "ok 0\n");
         let none = keylock(&["locks", "-", user, "0", "--rows", "0"], journal);
         fine(&none, "ok 0\n");
     }
-    let nobody = keylock(&["locks", "-", "0", "0"], b"KLD\x01\0\0\0");
+    let nobody = keylock(&["locks", "-", "0", "0"], b"KLD\x02\0\0\0");
     fine(&nobody, "no 1 0\n");
 }
 
@@ -127,7 +129,7 @@ fn a_file_and_a_text_list_the_same() {
 /// `run` compares them.
 #[test]
 fn expected_answers_are_not_compared() {
-    let ran = keylock(&["locks", "-", "0", "0"], b"U -> ok 7\nN 0 1\n");
+    let ran = keylock(&["locks", "-", "0", "0"], b"U -> ok 7\nS 0\nN 0 1\n");
     fine(&ran, "ok 0\n");
 }
 

@@ -179,6 +179,9 @@ fn names_stand_in_headline_list_and_box() {
     }
     let fallback = "<h2 id=\"call-10\">Thread\u{a0}0 calls segment\u{a0}1</h2>";
     assert!(section(&page, 10).contains(fallback));
+    let edit = "<h2 id=\"call-5\">Thread\u{a0}0, for the office <small>(user\u{a0}0)</small>, \
+                makes a sheet</h2>";
+    assert!(section(&page, 5).contains(edit), "{}", section(&page, 5));
 }
 
 #[test]
@@ -220,7 +223,7 @@ fn the_refused_save_says_what_is_missing() {
 /// Both calls handed over S0, and only the second D0.
 #[test]
 fn a_key_that_stays_held_is_not_crossed_out() {
-    let calls = "U; N 0 0; K 0; L 0 0 1 U0; S 0; C 0 0; G 0 0 0; C 0 0; R 0; E 0";
+    let calls = "U; S 0; N 0 0; K 0; L 0 0 1 U0; C 0 0; G 0 0 0; C 0 0; R 0; E 0";
     let page = page(&[], explained(calls));
     check_nesting(&page);
     let left = "<li class=\"left\"><b>segment\u{a0}0 <em>just left</em></b><div class=\"keys\">\
@@ -233,7 +236,7 @@ fn a_key_that_stays_held_is_not_crossed_out() {
 
 #[test]
 fn a_granted_call_names_the_keys_before_it() {
-    let page = page(&[], explained("U; N 0 0; S 0; C 0 0; L 0 0 1 !S0; C 0 0"));
+    let page = page(&[], explained("U; S 0; N 0 0; C 0 0; L 0 0 1 !S0; C 0 0"));
     let granted = section(&page, 5);
     for part in [
         "Lock\u{a0}0 opened: thread\u{a0}0 didn&#39;t hold S0.",
@@ -250,10 +253,10 @@ fn a_granted_call_names_the_keys_before_it() {
 /// What the owner sees of how a lock opens, a colleague doesn't.
 #[test]
 fn lock_lists_of_owner_and_colleague() {
-    let calls = "U; N 0 1; N 0 0; L 0 0 2 S1&!U0|S0; L 0 0 12 U0; S 0; A 0 0 2";
+    let calls = "U; S 0; N 0 1; N 0 0; L 0 0 2 S1&!U0|S0; L 0 0 12 U0; A 0 0 2";
     let page = page(&[], explained(calls));
     check_nesting(&page);
-    let step = section(&page, 4);
+    let step = section(&page, 5);
     for part in [
         "<h3>Its owner sees in the lock list</h3><ul class=\"stack\">\
          <li><b>Lock 0 grants read</b>\
@@ -267,7 +270,7 @@ fn lock_lists_of_owner_and_colleague() {
         assert!(step.contains(part), "{part}\n{step}");
     }
     // Without a lock there is nothing to see.
-    for place in [1, 2] {
+    for place in [2, 3] {
         assert!(!section(&page, place).contains("colleague"), "{place}");
     }
 }
@@ -310,7 +313,7 @@ fn lock_lists_at_calls_and_accesses() {
 /// As the locks stand at the step, whatever the access is refused for.
 #[test]
 fn a_folded_list_is_of_its_step() {
-    let calls = "U; N 0 1; S 0; A 0 0 2; L 0 0 2 U0; A 0 0 4; L 0 0 12 R0; \
+    let calls = "U; S 0; N 0 1; A 0 0 2; L 0 0 2 U0; A 0 0 4; L 0 0 12 R0; \
                  A 0 0 4; A 1 0 2; A 0 0 1; D 0 0; A 0 0 2; D 0 1; A 0 0 2; A 0 1 2";
     let page = page(&[], explained(calls));
     check_nesting(&page);
@@ -349,9 +352,9 @@ fn space_opens_a_lock_list() {
 /// A line may break after an operator of a formula, and not inside a key.
 #[test]
 fn formulas_break_after_operators() {
-    let page = page(&[], explained("U; N 0 1; K 0; L 0 0 2 U0|!(D0&U0)"));
+    let page = page(&[], explained("U; S 0; N 0 1; K 0; L 0 0 2 U0|!(D0&U0)"));
     let formula = "<code>U0|<wbr>!(D0&amp;<wbr>U0)</code>";
-    let step = section(&page, 3);
+    let step = section(&page, 4);
     assert_eq!(step.matches(formula).count(), 2, "{step}");
     assert!(step.contains("<code>L 0 0 2 U0|<wbr>!(D0&amp;<wbr>U0)</code>"));
 }
@@ -384,7 +387,7 @@ fn texts_are_escaped() {
     let odd: Vec<u8> = (0..96)
         .map(|n: u8| n.wrapping_mul(7).wrapping_add(160))
         .collect();
-    let mut entries = lesson::entries("U; N 0 1");
+    let mut entries = lesson::entries("U; S 0; N 0 1");
     entries.push(lock(b"<script>alert(1)</script>").into());
     entries.push(lock(b"\"'&\x00\x7f\xff\n").into());
     entries.push(lock(&odd).into());
@@ -393,9 +396,9 @@ fn texts_are_escaped() {
     let page = page(&["<i>"], steps::explain(entries));
     check_nesting(&page);
     assert_eq!(page.matches("<script>").count(), 2);
-    assert_eq!(page.matches("<section ").count(), 5);
-    assert!(section(&page, 2).contains("&lt;script&gt;alert(1)&lt;/script&gt;"));
-    assert!(section(&page, 3).contains("&quot;&#39;&amp;<wbr>\\x00\\x7F\\xFF\\x0A"));
+    assert_eq!(page.matches("<section ").count(), 6);
+    assert!(section(&page, 3).contains("&lt;script&gt;alert(1)&lt;/script&gt;"));
+    assert!(section(&page, 4).contains("&quot;&#39;&amp;<wbr>\\x00\\x7F\\xFF\\x0A"));
     assert!(page.contains("&lt;/p&gt;&lt;script&gt;\\u{1}"));
 }
 
@@ -594,14 +597,14 @@ fn the_page_of_the_fullest_journal_is_modest() {
 /// Locks that come and go, so that the lock lists of nearly every step are others.
 #[test]
 fn the_page_of_changing_locks_is_modest() {
-    let mut calls = vec!["U; N 0 1".to_string()];
+    let mut calls = vec!["U; S 0; N 0 1".to_string()];
     calls.extend(vec!["L 0 0 2 U0".to_string(); 7]);
     calls.extend((0..3_200).map(|lock| format!("L 0 0 2 U0; D 0 {lock}")));
     let calls = calls.join("; ");
     let page = page(&[], explained(&calls));
     let (sections, pieces) = (lines(&page, "sections"), lines(&page, "pieces"));
-    assert_eq!(sections.len(), 6_409);
-    let last = drawn(sections[6_408], &pieces);
+    assert_eq!(sections.len(), 6_410);
+    let last = drawn(sections[6_409], &pieces);
     assert_eq!(last.matches("<li><b>Lock 32").count(), 14);
     assert!(page.len() < 7_000_000, "{} bytes", page.len());
 }
@@ -609,7 +612,7 @@ fn the_page_of_changing_locks_is_modest() {
 /// And an access after each, whose lock list is another each time.
 #[test]
 fn the_page_of_accesses_between_changes_is_modest() {
-    let mut calls = vec!["U; N 0 1; S 0".to_string()];
+    let mut calls = vec!["U; S 0; N 0 1".to_string()];
     calls.extend(vec!["L 0 0 2 U0".to_string(); 7]);
     calls.extend((0..1_720).map(|lock| format!("L 0 0 2 U0; A 0 0 2; D 0 {lock}; A 0 0 2")));
     let calls = calls.join("; ");

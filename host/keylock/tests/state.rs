@@ -5,7 +5,7 @@ mod commands;
 
 use commands::{Directory, Ran, keylock};
 use rotundaaloe::raw::Cells;
-use rotundaaloe::{Defined, Guard, Journal, Kind, Lock, Operations, Segment, Thread, User};
+use rotundaaloe::{Defined, Guard, Journal, Kind, Lock, Operations, Segment, User};
 use std::fs;
 
 /// Two users with three segments, three threads, one of them ended, and five
@@ -14,34 +14,33 @@ fn office() -> Guard {
     let mut guard = Guard::new();
     let [owner, other] = [(); 2].map(|()| guard.new_user().unwrap());
     let [first, sheet, second] = [0, 1, 2].map(Segment);
-    for (user, kind) in [
-        (owner, Kind::Code),
-        (other, Kind::Sheet),
-        (owner, Kind::Code),
+    let [owners, others, ended] =
+        [owner, other, owner].map(|user| guard.start_thread(user).unwrap());
+    for (thread, kind) in [
+        (owners, Kind::Code),
+        (others, Kind::Sheet),
+        (ended, Kind::Code),
     ] {
-        guard.new_segment(user, kind).unwrap();
+        guard.new_segment(thread, kind).unwrap();
     }
-    for (user, segment, key) in [(owner, first, 0), (other, sheet, 1)] {
-        assert_eq!(guard.new_key(user), Ok(Defined(key)));
-        guard.give_key(user, segment, Defined(key)).unwrap();
+    for (thread, segment, key) in [(owners, first, 0), (others, sheet, 1)] {
+        assert_eq!(guard.new_key(thread), Ok(Defined(key)));
+        guard.give_key(thread, segment, Defined(key)).unwrap();
     }
-    for user in [owner, other, owner] {
-        guard.start_thread(user).unwrap();
-    }
-    guard.end_thread(Thread(2)).unwrap();
+    guard.end_thread(ended).unwrap();
     let both = Operations::READ.and(Operations::WRITE);
-    for (user, segment, operations, text) in [
-        (owner, first, Operations::EXECUTE, "U0"),
-        (owner, second, Operations::EXECUTE, "(U0|U1)"),
-        (other, sheet, Operations::WRITE, "S0&S2|!D0"),
-        (other, sheet, both.denied(), "R2"),
-        (other, sheet, Operations::READ, "U1"),
+    for (thread, segment, operations, text) in [
+        (owners, first, Operations::EXECUTE, "U0"),
+        (owners, second, Operations::EXECUTE, "(U0|U1)"),
+        (others, sheet, Operations::WRITE, "S0&S2|!D0"),
+        (others, sheet, both.denied(), "R2"),
+        (others, sheet, Operations::READ, "U1"),
     ] {
-        guard.add_lock(user, segment, operations, text).unwrap();
+        guard.add_lock(thread, segment, operations, text).unwrap();
     }
-    guard.drop_lock(other, Lock(4)).unwrap();
-    guard.call_segment(Thread(0), first).unwrap();
-    guard.call_segment(Thread(0), second).unwrap();
+    guard.drop_lock(others, Lock(4)).unwrap();
+    guard.call_segment(owners, first).unwrap();
+    guard.call_segment(owners, second).unwrap();
     assert_eq!(guard.threads()[1].user, User(1));
     guard
 }

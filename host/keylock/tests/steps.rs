@@ -114,7 +114,7 @@ fn a_return() {
 
 #[test]
 fn a_call_is_judged_on_the_keys_before_it() {
-    let calls = "U; N 0 0; L 0 0 1 !S0; S 0; C 0 0; C 0 0";
+    let calls = "U; S 0; N 0 0; L 0 0 1 !S0; C 0 0; C 0 0";
     let steps = explained(calls);
     let judged = |step: &Step| shown_keys(&step.judgement.as_ref().expect("locks").keys);
     assert_eq!(judged(&steps[4]), "U0 R0");
@@ -127,7 +127,7 @@ fn a_call_is_judged_on_the_keys_before_it() {
 
 #[test]
 fn one_part_called_twice() {
-    let calls = "U; N 0 0; L 0 0 1 U0; S 0; C 0 0; C 0 0; R 0; R 0";
+    let calls = "U; S 0; N 0 0; L 0 0 1 U0; C 0 0; C 0 0; R 0; R 0";
     let steps = explained(calls);
     assert_eq!(keys(&steps[6]), "U0 R0 S0");
     let stays = "S0 stays held: another open call of this thread handed it over too.";
@@ -138,7 +138,7 @@ fn one_part_called_twice() {
 #[test]
 fn a_deny_lock_with_a_barred_key() {
     let calls =
-        "U; N 0 0; N 0 1; L 0 0 1 U0; L 0 1 2 U0; L 0 1 10 U0&!S0; S 0; A 0 1 2; C 0 0; A 0 1 2";
+        "U; S 0; N 0 0; N 0 1; L 0 0 1 U0; L 0 1 2 U0; L 0 1 10 U0&!S0; A 0 1 2; C 0 0; A 0 1 2";
     let steps = explained(calls);
     assert_eq!(steps[7].given().to_string(), "no 14 2");
     assert_eq!(
@@ -156,7 +156,7 @@ fn a_deny_lock_with_a_barred_key() {
 
 #[test]
 fn a_lock_with_two_products() {
-    let calls = "U; U; N 0 1; S 1; L 0 0 2 U0&R0|U1; A 0 0 2";
+    let calls = "U; U; S 1; N 0 1; L 0 0 2 U0&R0|U1; A 0 0 2";
     let steps = explained(calls);
     let step = &steps[5];
     let tried = lock(step, 0);
@@ -172,7 +172,7 @@ fn a_lock_with_two_products() {
 #[test]
 fn a_dropped_lock() {
     let calls =
-        "U; N 0 1; L 0 0 6 U0; L 0 0 4 U0; S 0; A 0 0 4; D 0 0; A 0 0 4; D 0 1; A 0 0 4; D 0 1";
+        "U; S 0; N 0 1; L 0 0 6 U0; L 0 0 4 U0; A 0 0 4; D 0 0; A 0 0 4; D 0 1; A 0 0 4; D 0 1";
     let steps = explained(calls);
     assert_eq!(steps[5].given().to_string(), "ok 0");
     assert_eq!(steps[7].given().to_string(), "ok 1");
@@ -184,7 +184,7 @@ fn a_dropped_lock() {
 
 #[test]
 fn an_open_call_keeps_a_key_that_was_taken() {
-    let calls = "U; N 0 0; K 0; G 0 0 0; L 0 0 1 U0; S 0; C 0 0; T 0 0 0; R 0; C 0 0; E 0";
+    let calls = "U; S 0; N 0 0; K 0; G 0 0 0; L 0 0 1 U0; C 0 0; T 0 0 0; R 0; C 0 0; E 0";
     let steps = explained(calls);
     assert_eq!(
         steps[7].reason,
@@ -208,7 +208,7 @@ fn an_open_call_keeps_a_key_that_was_taken() {
 /// taken has it still.
 #[test]
 fn a_key_given_again() {
-    let calls = "U; N 0 0; K 0; L 0 0 1 U0; S 0; G 0 0 0; C 0 0; T 0 0 0; G 0 0 0; T 0 0 0; C 0 0";
+    let calls = "U; S 0; N 0 0; K 0; L 0 0 1 U0; G 0 0 0; C 0 0; T 0 0 0; G 0 0 0; T 0 0 0; C 0 0";
     let steps = explained(calls);
     let given =
         "New calls of segment 0 hand over D0. Open ones keep the keys that they handed over.";
@@ -223,30 +223,30 @@ fn a_key_given_again() {
 
 #[test]
 fn a_key_that_no_open_call_has_is_taken() {
-    let calls = "U; N 0 0; K 0; L 0 0 1 U0; S 0; C 0 0; G 0 0 0; T 0 0 0";
+    let calls = "U; S 0; N 0 0; K 0; L 0 0 1 U0; C 0 0; G 0 0 0; T 0 0 0";
     let taken = "New calls of segment 0 don't hand over D0.";
     assert_eq!(explained(calls)[7].reason, taken);
 }
 
 #[test]
 fn a_sheet_hands_over_nothing() {
-    let steps = explained("U; N 0 1; K 0; G 0 0 0; T 0 0 0");
+    let steps = explained("U; S 0; N 0 1; K 0; G 0 0 0; T 0 0 0");
     let uncalled = "A sheet isn't called, so nobody gets D0 from it.";
-    assert_eq!(steps[3].reason, uncalled);
     assert_eq!(steps[4].reason, uncalled);
+    assert_eq!(steps[5].reason, uncalled);
     let made = "Only user 0 can give D0, and only to segments of his own.";
-    assert_eq!(steps[2].reason, made);
+    assert_eq!(steps[3].reason, made);
 }
 
 /// The call hands over S0, which the lock bars.
 #[test]
 fn a_granted_call_is_explained_with_the_keys_before_it() {
-    let steps = explained("U; N 0 0; L 0 0 1 !S0; S 0; C 0 0; C 0 0");
+    let steps = explained("U; S 0; N 0 0; L 0 0 1 !S0; C 0 0; C 0 0");
     let opened = "Lock 0 opened: thread 0 didn't hold S0.";
     assert_eq!(steps[4].reason, opened);
     assert_eq!(keys(&steps[4]), "U0 R0 S0");
     assert_eq!(steps[5].given().to_string(), "no 15 0");
-    let steps = explained("U; N 0 0; L 0 0 1 U0&!S0; S 0; C 0 0");
+    let steps = explained("U; S 0; N 0 0; L 0 0 1 U0&!S0; C 0 0");
     let opened = "Lock 0 opened: thread 0 held U0 but not S0.";
     assert_eq!(steps[4].reason, opened);
     let out = traced(&[], &steps, false);
@@ -256,8 +256,8 @@ fn a_granted_call_is_explained_with_the_keys_before_it() {
 
 #[test]
 fn keys_given_back_and_keys_that_stay() {
-    let calls = "U; N 0 0; N 0 0; K 0; K 0; G 0 0 1; G 0 0 0; G 0 1 1; L 0 0 1 U0; L 0 1 1 U0; \
-         S 0; C 0 0; C 0 0; R 0; T 0 0 0; C 0 1; R 0; C 0 0; R 0; R 0; E 0";
+    let calls = "U; S 0; N 0 0; N 0 0; K 0; K 0; G 0 0 1; G 0 0 0; G 0 1 1; L 0 0 1 U0; \
+         L 0 1 1 U0; C 0 0; C 0 0; R 0; T 0 0 0; C 0 1; R 0; C 0 0; R 0; R 0; E 0";
     let steps = explained(calls);
     let reasons = [13, 16, 18, 19, 20].map(|place| steps[place].reason.as_str());
     assert_eq!(
@@ -270,8 +270,8 @@ fn keys_given_back_and_keys_that_stay() {
             "It holds no key any more.",
         ]
     );
-    let calls = "U; N 0 0; N 0 0; N 0 0; K 0; K 0; G 0 0 0; G 0 1 1; G 0 2 0; G 0 2 1; \
-         L 0 0 1 U0; L 0 1 1 U0; L 0 2 1 U0; S 0; C 0 0; C 0 1; C 0 2; R 0; R 0; E 0";
+    let calls = "U; S 0; N 0 0; N 0 0; N 0 0; K 0; K 0; G 0 0 0; G 0 1 1; G 0 2 0; G 0 2 1; \
+         L 0 0 1 U0; L 0 1 1 U0; L 0 2 1 U0; C 0 0; C 0 1; C 0 2; R 0; R 0; E 0";
     let steps = explained(calls);
     let back = "It gives back S2. \
                 D0 and D1 stay held: other open calls of this thread handed them over too.";
@@ -282,18 +282,20 @@ fn keys_given_back_and_keys_that_stay() {
 
 #[test]
 fn a_dropped_deny_lock() {
-    let steps = explained("U; N 0 1; L 0 0 2 U0; L 0 0 10 U0; D 0 1; D 0 0");
+    let steps = explained("U; S 0; N 0 1; L 0 0 2 U0; L 0 0 10 U0; D 0 1; D 0 0");
     let denied = "It keeps nobody out any more, threads in mid-run included.";
-    assert_eq!(steps[4].reason, denied);
+    assert_eq!(steps[5].reason, denied);
     let granted = "It opens for nobody any more, threads in mid-run included.";
-    assert_eq!(steps[5].reason, granted);
+    assert_eq!(steps[6].reason, granted);
 }
 
 #[test]
 fn why_other_calls_are_refused() {
-    let calls = "S 3; U; U; N 1 0; N 0 2; N 0 1; K 0; K 1; R 0; S 0; E 0; R 0; S 0; R 1; C 1 7; \
-         G 0 1 5; G 0 0 0; G 0 1 1; G 0 1 0; G 0 1 0; T 0 1 1; L 0 1 1 U0; L 0 1 16 U0; \
-         L 0 1 2 U0&; L 0 1 2 U0|S9; L 0 1 2 u0; L 0 1 2 U0&!U0; A 1 1 1; A 1 0 2; C 1 1; D 0 0";
+    // Thread 1 is user 0's and thread 2 user 1's.
+    let calls = "S 3; U; U; N 0 0; R 0; S 0; E 0; R 0; K 0; S 0; S 1; N 2 0; N 1 2; N 1 1; \
+         K 1; K 2; R 1; C 1 7; G 1 1 5; G 1 0 0; G 1 1 1; G 1 1 0; G 1 1 0; T 1 1 1; T 2 1 0; \
+         L 1 1 1 U0; L 1 1 16 U0; L 1 1 2 U0&; L 1 1 2 U0|S9; L 1 1 2 u0; L 1 1 2 U0&!U0; \
+         A 1 1 1; A 1 0 2; C 1 1; D 1 0; L 1 1 2 U0; D 2 0";
     let reasons: Vec<String> = explained(calls)
         .iter()
         .filter_map(|step| Some((step.answer.err()?.number(), &step.reason)))
@@ -303,16 +305,19 @@ fn why_other_calls_are_refused() {
         reasons,
         [
             "1 There is no user 3: no user was made so far.",
-            "7 A segment is code (0) or a sheet (1).",
+            "2 Thread 0 was never started. Only a live thread edits, for its user.",
             "2 Thread 0 was never started.",
             "2 Thread 0 has ended.",
+            "2 Thread 0 has ended. Only a live thread edits, for its user.",
+            "7 A segment is code (0) or a sheet (1).",
             "9 Thread 1 has no open call to return from.",
             "3 There is no segment 7: 2 segments were made so far.",
             "4 There is no key D5: 2 keys were made so far.",
-            "6 Segment 0 belongs to user 1.",
-            "6 Key D1 was made by user 1: only the maker gives it.",
+            "6 Segment 0 belongs to user 1, and thread 1 edits for user 0.",
+            "6 Key D1 was made by user 1, and thread 1 edits for user 0. Only its maker gives a key.",
             "8 D0 is in the list of segment 1 already: S1 D0.",
             "9 D1 isn't in the list of segment 1: S1 D0.",
+            "6 Segment 1 belongs to user 0, and thread 2 edits for user 1.",
             "7 Segment 1 is a sheet, which takes read and write only.",
             "7 A lock has some of execute (1), read (2) and write (4), and maybe deny (8).",
             "11 At the end of the text: a key, '!' or '(' is missing there.",
@@ -323,6 +328,76 @@ fn why_other_calls_are_refused() {
             "7 Segment 0 is code: it is called, and not read or written.",
             "7 Segment 1 is a sheet: it is read or written, and not called.",
             "5 Lock 0 was never made.",
+            "6 Lock 0 is on segment 1, which belongs to user 0, and thread 2 edits for user 1.",
+        ]
+    );
+}
+
+/// Thread 0 is user 1's, threads 1 and 2 are user 0's. What thread 1 makes is
+/// user 0's still when it has ended, and thread 2 edits it.
+#[test]
+fn who_edits() {
+    let calls = "U; U; S 1; S 0; S 0; N 1 0; K 1; E 1; G 2 0 0; L 0 0 1 U1; N 1 1; T 2 0 0; N 3 1";
+    let steps = explained(calls);
+    let told: Vec<[String; 2]> = steps[5..]
+        .iter()
+        .map(|step| [step.call_in_words.clone(), step.given().to_string()])
+        .collect();
+    assert_eq!(
+        told,
+        [
+            ["thread 1, for user 0, makes a code segment", "ok 0"],
+            ["thread 1, for user 0, makes a key", "ok 0"],
+            ["thread 1 ends", "ok 0"],
+            ["thread 2, for user 0, gives key D0 to segment 0", "ok 2"],
+            ["thread 0, for user 1, locks segment 0: execute", "no 6 0"],
+            ["thread 1 makes a sheet", "no 2 0"],
+            ["thread 2, for user 0, takes key D0 from segment 0", "ok 1"],
+            ["thread 3 makes a sheet", "no 2 0"],
+        ]
+    );
+    let made = "Only user 0 can give D0, and only to segments of his own.";
+    assert_eq!(steps[6].reason, made);
+    for place in [5, 8, 9, 11] {
+        let segment = steps[place].segment.as_ref().expect("a segment");
+        assert_eq!(segment.owner_said, "user 0", "{place}");
+    }
+}
+
+#[test]
+fn who_edits_has_a_name() {
+    let mut entries = lesson::entries("U; U; S 0; S 1; N 0 1; K 1; L 1 0 2 U1; G 0 0 0; E 1; K 1");
+    for (place, note) in [
+        (0, "user 0, the office"),
+        (1, "user 1, the auditor"),
+        (3, "thread 1, the audit"),
+        (4, "segment 0, the totals sheet"),
+        (5, "key D0, the auditor's"),
+    ] {
+        entries[place].note = Some(note.to_string());
+    }
+    let steps: Vec<Step> = steps::explain(entries).collect();
+    let calls = [4, 5, 6, 9].map(|place| steps[place].call_in_words.as_str());
+    assert_eq!(
+        calls,
+        [
+            "thread 0, for the office (user 0), makes a sheet",
+            "the audit (thread 1), for the auditor (user 1), makes a key",
+            "the audit (thread 1), for the auditor (user 1), locks the totals sheet (segment 0): \
+             read",
+            "the audit (thread 1) makes a key",
+        ]
+    );
+    let reasons = [5, 6, 7, 9].map(|place| steps[place].reason.as_str());
+    assert_eq!(
+        reasons,
+        [
+            "Only the auditor (user 1) can give D0, and only to segments of his own.",
+            "The totals sheet (segment 0) belongs to the office (user 0), \
+             and the audit (thread 1) edits for the auditor (user 1).",
+            "The auditor's (key D0) was made by the auditor (user 1), \
+             and thread 0 edits for the office (user 0). Only its maker gives a key.",
+            "The audit (thread 1) has ended. Only a live thread edits, for its user.",
         ]
     );
 }
@@ -335,11 +410,11 @@ fn which_limit_would_be_passed() {
     for (calls, reason) in [
         (many(33, "U"), "There are 32 users, and no more fit."),
         (
-            format!("U; {}", many(65, "N 0 0")),
+            format!("U; S 0; {}", many(65, "N 0 0")),
             "There are 64 segments, and no more fit.",
         ),
         (
-            format!("U; {}", many(1_025, "K 0")),
+            format!("U; S 0; {}", many(1_025, "K 0")),
             "There are 1,024 keys, and no more fit.",
         ),
         (
@@ -347,15 +422,18 @@ fn which_limit_would_be_passed() {
             "There are 64 live threads, and no more fit.",
         ),
         (
-            format!("U; N 0 0; {}; {keys}", many(8, "K 0")),
+            format!("U; S 0; N 0 0; {}; {keys}", many(8, "K 0")),
             "The list of segment 0 has 8 keys, and no more fit: S0 D0 D1 D2 D3 D4 D5 D6.",
         ),
         (
-            format!("U; N 0 0; {}; L 0 0 1 {wide}; L 0 0 1 U0", many(8, "K 0")),
+            format!(
+                "U; S 0; N 0 0; {}; L 0 0 1 {wide}; L 0 0 1 U0",
+                many(8, "K 0")
+            ),
             "The locks of segment 0 have 8 products and this one 1: over 8 don't fit.",
         ),
         (
-            format!("U; N 0 0; L 0 0 1 U0; S 0; {}", many(17, "C 0 0")),
+            format!("U; S 0; N 0 0; L 0 0 1 U0; {}", many(17, "C 0 0")),
             "A lock opens, but thread 0 has 16 open calls, and no more fit.",
         ),
     ] {
@@ -370,16 +448,16 @@ fn which_limit_would_be_passed() {
 #[test]
 fn names_stand_in_every_sentence() {
     let steps: Vec<Step> = steps::explain(lesson::named_route()).collect();
-    let calls = [3, 11, 13].map(|place| steps[place].call_in_words.as_str());
+    let calls = [5, 11, 13].map(|place| steps[place].call_in_words.as_str());
     assert_eq!(
         calls,
         [
-            "the office (user 0) makes a sheet",
+            "thread 0, for the office (user 0), makes a sheet",
             "the February closing (thread 1) calls segment 1",
             "the February closing (thread 1) writes the totals sheet (segment 2)",
         ]
     );
-    let answers = [3, 7, 13, 14].map(|place| steps[place].answer_in_words.as_str());
+    let answers = [5, 1, 13, 14].map(|place| steps[place].answer_in_words.as_str());
     let refused = "refused: no way in (15)";
     assert_eq!(
         answers,
@@ -413,11 +491,12 @@ fn a_step_in_one_sentence() {
     let mut entries = lesson::named_route();
     entries[15].expected = Some(Answer::Ok(2));
     let steps: Vec<Step> = steps::explain(entries).collect();
-    let sentences = [0, 12, 13, 15].map(|place| steps[place].in_a_sentence());
+    let sentences = [0, 8, 12, 13, 15].map(|place| steps[place].in_a_sentence());
     assert_eq!(
         sentences,
         [
             "a new user, the office (user 0).",
+            "thread 0, for the office (user 0), locks the totals sheet (segment 2): write, lock 2.",
             "thread 0 writes the totals sheet (segment 2), granted by lock 2.",
             "the February closing (thread 1) writes the totals sheet (segment 2), \
              refused: no way in (15), S0 is missing.",
@@ -436,7 +515,7 @@ fn lacking(calls: &str) -> String {
 }
 
 /// Segments 0 and 1 are code, 2 is a sheet with a lock that D0 opens.
-const DEFINED: &str = "U; N 0 0; N 0 0; N 0 1; K 0; L 0 0 1 U0; L 0 2 4 D0; S 0";
+const DEFINED: &str = "U; S 0; N 0 0; N 0 0; N 0 1; K 0; L 0 0 1 U0; L 0 2 4 D0";
 
 #[test]
 fn a_missing_key_and_where_it_comes_from() {
@@ -467,10 +546,10 @@ fn a_missing_key_and_where_it_comes_from() {
         let reason = lacking(&format!("{DEFINED}; {calls}A 0 2 4"));
         assert_eq!(reason, format!("D0 is missing: {lack}."), "{calls}");
     }
-    let own = lacking("U; N 0 1; L 0 0 2 S0; S 0; A 0 0 2");
+    let own = lacking("U; S 0; N 0 1; L 0 0 2 S0; A 0 0 2");
     let sheet = "S0 is missing: segment 0 is a sheet, and no sheet is called.";
     assert_eq!(own, sheet);
-    let user = lacking("U; U; N 0 1; L 0 0 2 U1; S 0; A 0 0 2");
+    let user = lacking("U; U; S 0; N 0 1; L 0 0 2 U1; A 0 0 2");
     assert_eq!(user, "U1 is missing: thread 0 runs for user 0.");
     let thread = lacking("U; S 0; S 0; N 0 1; L 0 0 2 R1; A 0 0 2");
     assert_eq!(thread, "R1 is missing: this is thread 0.");
@@ -478,10 +557,10 @@ fn a_missing_key_and_where_it_comes_from() {
 
 #[test]
 fn a_missing_key_has_its_name() {
-    let calls = "U; N 0 0; N 0 1; K 0; G 0 0 0; L 0 1 4 D0; S 0; A 0 1 4";
+    let calls = "U; S 0; N 0 0; N 0 1; K 0; G 0 0 0; L 0 1 4 D0; A 0 1 4";
     let mut entries = lesson::entries(calls);
-    entries[1].note = Some("segment 0, the audit".to_string());
-    entries[3].note = Some("key D0, the auditor's".to_string());
+    entries[2].note = Some("segment 0, the audit".to_string());
+    entries[4].note = Some("key D0, the auditor's".to_string());
     let last = steps::explain(entries).last().expect("a step");
     let missing = "D0, the auditor's, is missing: \
                    the audit (segment 0) hands it over, and this thread has no open call of it.";
@@ -490,11 +569,11 @@ fn a_missing_key_has_its_name() {
 
 #[test]
 fn several_missing_keys_and_barred_ones() {
-    let two = lacking("U; N 0 0; N 0 0; N 0 1; K 0; L 0 2 4 S0&S1&D0; S 0; A 0 2 4");
+    let two = lacking("U; S 0; N 0 0; N 0 0; N 0 1; K 0; L 0 2 4 S0&S1&D0; A 0 2 4");
     let missing = "S0 of segment 0, S1 of segment 1 and D0 are missing: \
                    no open call of this thread hands them over.";
     assert_eq!(two, missing);
-    let barred = lacking("U; N 0 0; N 0 1; L 0 1 2 S0&!U0; S 0; A 0 1 2");
+    let barred = lacking("U; S 0; N 0 0; N 0 1; L 0 1 2 S0&!U0; A 0 1 2");
     let both = "S0 is missing: segment 0 hands it over, and this thread has no open call of it; \
                 U0 is barred, but held: it is an identity key of the thread.";
     assert_eq!(barred, both);
@@ -503,7 +582,7 @@ fn several_missing_keys_and_barred_ones() {
 /// Thread 1 has open calls of segments 0 and 1, and they bring thread 0 nothing.
 #[test]
 fn open_calls_of_another_thread() {
-    let world = "U; N 0 0; N 0 0; N 0 1; L 0 0 1 U0; L 0 1 1 U0; S 0; S 0; C 1 0; C 1 1";
+    let world = "U; S 0; S 0; N 0 0; N 0 0; N 0 1; L 0 0 1 U0; L 0 1 1 U0; C 1 0; C 1 1";
     for (calls, reason) in [
         (
             "L 0 2 2 S0",
@@ -533,12 +612,12 @@ fn open_calls_of_another_thread() {
 /// Of several products the one is named that the fewest keys hold shut.
 #[test]
 fn the_nearest_of_several() {
-    let products = lacking("U; N 0 0; N 0 0; N 0 1; L 0 2 4 S0&S1|S1; S 0; A 0 2 4");
+    let products = lacking("U; S 0; N 0 0; N 0 0; N 0 1; L 0 2 4 S0&S1|S1; A 0 2 4");
     let nearest = "Lock 0 has 2 products, and none opens. \
                    Nearest: S1 is missing: segment 1 hands it over, \
                    and this thread has no open call of it.";
     assert_eq!(products, nearest);
-    let locks = lacking("U; U; N 0 1; L 0 0 2 U1&!U0; L 0 0 2 U1; L 0 0 10 U1; S 0; A 0 0 2");
+    let locks = lacking("U; U; S 0; N 0 1; L 0 0 2 U1&!U0; L 0 0 2 U1; L 0 0 10 U1; A 0 0 2");
     let nearest = "None of the 2 locks that grant read on segment 0 opens. \
                    Nearest is lock 1: U1 is missing: thread 0 runs for user 0.";
     assert_eq!(locks, nearest);
@@ -546,7 +625,7 @@ fn the_nearest_of_several() {
 
 #[test]
 fn a_deny_lock_says_what_opened_it() {
-    let steps = explained("U; N 0 0; N 0 1; L 0 1 2 U0; L 0 1 10 U0&!S0; S 0; A 0 1 2");
+    let steps = explained("U; S 0; N 0 0; N 0 1; L 0 1 2 U0; L 0 1 10 U0&!S0; A 0 1 2");
     let denied =
         "Lock 1 opens: thread 0 holds U0 but not S0. It denies, and a deny beats every grant.";
     assert_eq!(steps[6].reason, denied);
@@ -562,7 +641,9 @@ fn the_terminal_shows_it() {
     let text = |colour| traced(&introduction, &steps, colour);
     let plain = text(false);
     for line in [
-        "13  A 1 2 4        thread 1 writes segment 2        no 15 0  refused: no way in (15)",
+        " 8  L 0 2 4 S0&S1  thread 0, for user 0, locks segment 2: write    ok 2     lock 2",
+        "13  A 1 2 4        thread 1 writes segment 2                       \
+         no 15 0  refused: no way in (15)",
         "    lock    2 grants write if S0&S1: stays shut",
         "    why     S0 is missing: segment 0 hands it over, \
          and this thread has no open call of it.",
@@ -585,7 +666,7 @@ fn the_terminal_shows_it() {
 /// As long as it hands over the same keys.
 #[test]
 fn the_terminal_says_a_repeated_call_once() {
-    let steps = explained("U; N 0 0; K 0; L 0 0 1 U0; S 0; C 0 0; C 0 0; G 0 0 0; C 0 0; E 0");
+    let steps = explained("U; S 0; N 0 0; K 0; L 0 0 1 U0; C 0 0; C 0 0; G 0 0 0; C 0 0; E 0");
     let text = traced(&[], &steps, false);
     let open = "thread 0 [U0 R0] > segment 0 [S0], 2 times > segment 0 [S0 D0]";
     let closed = "thread 0 > segment 0 [S0], 2 times > segment 0 [S0 D0]";

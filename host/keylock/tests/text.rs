@@ -78,9 +78,9 @@ fn every_letter_with_its_fields() {
 #[test]
 fn the_journal_is_the_file_of_document_01() {
     let text = read(b"N 0 1\nL 0 2 260 U0\n");
-    let right = b"KLD\x01\0\x02\0N\0\0\x01\0\0\0\0\0L\0\0\x02\0\x04\x01\x02\0U0";
+    let right = b"KLD\x02\0\x02\0N\0\0\x01\0\0\0\0\0L\0\0\x02\0\x04\x01\x02\0U0";
     assert_eq!(text.journal.as_bytes(), right);
-    assert_eq!(read(b"").journal.as_bytes(), b"KLD\x01\0\0\0");
+    assert_eq!(read(b"").journal.as_bytes(), b"KLD\x02\0\0\0");
 }
 
 #[test]
@@ -213,7 +213,10 @@ fn wrong_letters() {
 #[test]
 fn missing_fields() {
     wrong("S", 2, "S needs a user (field a) here");
-    wrong("E", 2, "E needs a thread (field a) here");
+    for letter in ["E", "N", "K", "G", "T", "L", "D", "C", "R", "A"] {
+        let needs = format!("{letter} needs a thread (field a) here");
+        wrong(letter, 2, &needs);
+    }
     wrong("\t C 0", 6, "C needs a segment (field b) here");
     wrong("C 0   # x", 4, "C needs a segment (field b) here");
     wrong("C 0 -> ok 0", 4, "C needs a segment (field b) here");
@@ -393,18 +396,18 @@ fn a_full_journal() {
 
 #[test]
 fn document_01s_first_trial_as_text() {
-    let calls = b"U\nN 0 0\nN 0 0\nN 0 1\nL 0 0 1 U0\nL 0 1 1 U0\nL 0 2 4 S0&S1\nS 0\nS 0\n\
+    let calls = b"U\nS 0\nS 0\nN 0 0\nN 0 0\nN 0 1\nL 0 0 1 U0\nL 0 1 1 U0\nL 0 2 4 S0&S1\n\
         C 0 0\nC 0 1\nC 1 1\nA 0 2 4\nA 1 2 4\nR 0\nA 0 2 4";
     let right = "\
 U              # 0: a new user
-N 0 0          # 1: user 0 makes a code segment
-N 0 0          # 2: user 0 makes a code segment
-N 0 1          # 3: user 0 makes a sheet
-L 0 0 1 U0     # 4: user 0 locks segment 0: execute
-L 0 1 1 U0     # 5: user 0 locks segment 1: execute
-L 0 2 4 S0&S1  # 6: user 0 locks segment 2: write
-S 0            # 7: user 0 starts a thread
-S 0            # 8: user 0 starts a thread
+S 0            # 1: user 0 starts a thread
+S 0            # 2: user 0 starts a thread
+N 0 0          # 3: thread 0 makes a code segment
+N 0 0          # 4: thread 0 makes a code segment
+N 0 1          # 5: thread 0 makes a sheet
+L 0 0 1 U0     # 6: thread 0 locks segment 0: execute
+L 0 1 1 U0     # 7: thread 0 locks segment 1: execute
+L 0 2 4 S0&S1  # 8: thread 0 locks segment 2: write
 C 0 0          # 9: thread 0 calls segment 0
 C 0 1          # 10: thread 0 calls segment 1
 C 1 1          # 11: thread 1 calls segment 1
@@ -445,7 +448,8 @@ fn what_is_no_formula_is_quoted() {
 fn long_calls_leave_the_column_alone() {
     let long = "!".repeat(58) + "D0";
     let journal = read(format!("U\nL 0 2 4 {long}\n").as_bytes()).journal;
-    let right = format!("U  # 0: a new user\nL 0 2 4 {long}  # 1: user 0 locks segment 2: write\n");
+    let right =
+        format!("U  # 0: a new user\nL 0 2 4 {long}  # 1: thread 0 locks segment 2: write\n");
     assert_eq!(text::disassemble(&journal), right);
 }
 

@@ -159,17 +159,25 @@ impl Guard {
             Call::NewUser => self.new_user(),
             Call::StartThread { user } => self.start_thread(user),
             Call::EndThread { thread } => self.end_thread(thread),
-            Call::NewSegment { user, kind } => self.new_segment(user, kind),
-            Call::NewKey { user } => self.new_key(user),
-            Call::GiveKey { user, segment, key } => self.give_key(user, segment, key),
-            Call::TakeKey { user, segment, key } => self.take_key(user, segment, key),
+            Call::NewSegment { thread, kind } => self.new_segment(thread, kind),
+            Call::NewKey { thread } => self.new_key(thread),
+            Call::GiveKey {
+                thread,
+                segment,
+                key,
+            } => self.give_key(thread, segment, key),
+            Call::TakeKey {
+                thread,
+                segment,
+                key,
+            } => self.take_key(thread, segment, key),
             Call::AddLock {
-                user,
+                thread,
                 segment,
                 operations,
                 text,
-            } => self.add_lock(user, segment, operations, text),
-            Call::DropLock { user, lock } => self.drop_lock(user, lock),
+            } => self.add_lock(thread, segment, operations, text),
+            Call::DropLock { thread, lock } => self.drop_lock(thread, lock),
             Call::CallSegment { thread, segment } => self.call_segment(thread, segment),
             Call::ReturnCall { thread } => self.return_call(thread),
             Call::Access {
@@ -210,8 +218,8 @@ impl Guard {
     }
 
     /// N. Answers the segment.
-    pub fn new_segment(&mut self, user: u16, kind: u16) -> Answer {
-        self.known_user(user)?;
+    pub fn new_segment(&mut self, thread: u16, kind: u16) -> Answer {
+        let user = self.editor(thread)?;
         let kind = match kind {
             0 => SegmentKind::Code,
             1 => SegmentKind::Sheet,
@@ -229,8 +237,8 @@ impl Guard {
     }
 
     /// K. Answers the defined key.
-    pub fn new_key(&mut self, user: u16) -> Answer {
-        self.known_user(user)?;
+    pub fn new_key(&mut self, thread: u16) -> Answer {
+        let user = self.editor(thread)?;
         let key = self.makers.len();
         below_limit(key, MAX_DEFINED_KEYS)?;
         self.makers.push(user);
@@ -238,8 +246,8 @@ impl Guard {
     }
 
     /// G. Answers how many keys are now in the segment's list.
-    pub fn give_key(&mut self, user: u16, segment: u16, key: u16) -> Answer {
-        self.known_user(user)?;
+    pub fn give_key(&mut self, thread: u16, segment: u16, key: u16) -> Answer {
+        let user = self.editor(thread)?;
         self.known_segment(segment)?;
         let maker = self.maker_of(key)?;
         let segment = self.owned_segment(user, segment)?;
@@ -256,8 +264,8 @@ impl Guard {
 
     /// T. Answers how many keys are now in the segment's list. The key may be
     /// anyone's.
-    pub fn take_key(&mut self, user: u16, segment: u16, key: u16) -> Answer {
-        self.known_user(user)?;
+    pub fn take_key(&mut self, thread: u16, segment: u16, key: u16) -> Answer {
+        let user = self.editor(thread)?;
         self.known_segment(segment)?;
         self.maker_of(key)?;
         let segment = self.owned_segment(user, segment)?;
@@ -267,8 +275,8 @@ impl Guard {
     }
 
     /// L. Answers the lock.
-    pub fn add_lock(&mut self, user: u16, segment: u16, operations: u16, text: &[u8]) -> Answer {
-        self.known_user(user)?;
+    pub fn add_lock(&mut self, thread: u16, segment: u16, operations: u16, text: &[u8]) -> Answer {
+        let user = self.editor(thread)?;
         self.known_segment(segment)?;
         let issued = self.issued();
         let number = next_number(self.locks_made, LOCK_NUMBERS);
@@ -292,8 +300,8 @@ impl Guard {
     }
 
     /// D. Answers how many products it removes.
-    pub fn drop_lock(&mut self, user: u16, lock: u16) -> Answer {
-        self.known_user(user)?;
+    pub fn drop_lock(&mut self, thread: u16, lock: u16) -> Answer {
+        let user = self.editor(thread)?;
         let (segment, place) = self.place_of_lock(lock)?;
         let segment = self.owned_segment(user, segment)?;
         let dropped = segment.locks.remove(place);
@@ -329,6 +337,11 @@ impl Guard {
             return Err(Refusal::Unfit);
         }
         check(thread, segment, operation)
+    }
+
+    /// Who edits by a thread: its user, where it is live.
+    fn editor(&self, thread: u16) -> Result<u16, Refusal> {
+        Ok(self.thread(thread)?.user)
     }
 
     /// A live thread.

@@ -103,7 +103,7 @@ impl History {
             Call::EndThread { thread } => {
                 self.live.remove(&thread);
             }
-            Call::NewSegment { user, kind } => self.hand_out(answer, user, kind),
+            Call::NewSegment { thread, kind } => self.hand_out(answer, thread, kind),
             Call::GiveKey { segment, key, .. } => self.segment_mut(segment).list.push(defined(key)),
             Call::TakeKey { segment, key, .. } => {
                 let list = &mut self.segment_mut(segment).list;
@@ -134,13 +134,14 @@ impl History {
         self.live.insert(thread, Thread { user, open_calls });
     }
 
-    fn hand_out(&mut self, number: u16, owner: u16, kind: u16) {
+    fn hand_out(&mut self, number: u16, thread: u16, kind: u16) {
+        let owner = self.editor(thread);
         let own = Key {
             kind: Kind::Segment,
             number,
         };
         let segment = Segment {
-            owner,
+            owner: owner.expect("an accepted edit names a live thread"),
             sheet: kind == 1,
             list: vec![own],
         };
@@ -161,6 +162,9 @@ impl History {
     /// names what isn't there, so that it can't be.
     pub fn answer(&self, record: &Record) -> Option<u32> {
         let call = Call::of(record)?;
+        if call.letter().is_edit() {
+            self.editor(record.a)?;
+        }
         let keys = |segment| Some(self.segments.get(&segment)?.list.len() as u32);
         let open_calls = |thread| Some(&self.live.get(&thread)?.open_calls);
         match call {
@@ -237,6 +241,11 @@ impl History {
             (None, Some(_)) if full => Verdict::Full,
             (None, Some((grant, _))) => Verdict::Granted(*grant),
         })
+    }
+
+    /// Who edits by a thread: its user. `None` where it isn't live.
+    pub fn editor(&self, thread: u16) -> Option<u16> {
+        self.thread(thread).map(|thread| thread.user)
     }
 
     /// The key set of a live thread.

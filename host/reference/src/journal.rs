@@ -16,7 +16,8 @@ pub const HEAD_BYTES: usize = 7;
 pub const RECORD_HEAD_BYTES: usize = 9;
 
 const MARK: [u8; 3] = *b"KLD";
-const VERSION: u16 = 1;
+/// Since edits name a thread. In version 1 their field a was a user.
+const VERSION: u16 = 2;
 /// Where a file's record count stands.
 const COUNT: Range<usize> = 5..7;
 

@@ -39,6 +39,17 @@ impl Letter {
         self as u8 as char
     }
 
+    /// Whether its call makes or changes segments, defined keys or locks. Field a is
+    /// then the thread by which a user does it.
+    pub const fn is_edit(self) -> bool {
+        match self {
+            Letter::NewSegment | Letter::NewKey | Letter::GiveKey => true,
+            Letter::TakeKey | Letter::AddLock | Letter::DropLock => true,
+            Letter::NewUser | Letter::StartThread | Letter::EndThread => false,
+            Letter::CallSegment | Letter::ReturnCall | Letter::Access => false,
+        }
+    }
+
     /// Whether a call with this letter is well formed: 0 in every field that it
     /// doesn't name, and a text only where it has one.
     #[inline(always)]
@@ -57,7 +68,7 @@ impl From<Letter> for u8 {
 
 #[cfg(test)]
 mod tests {
-    use super::Letter;
+    use super::{Field, Letter};
 
     #[test]
     fn all_has_every_letter_once() {
@@ -69,5 +80,18 @@ mod tests {
             assert_eq!(Letter::of(letter.byte()), Some(letter));
             assert!(letter.fields().len() <= 3, "{letter:?}");
         }
+    }
+
+    /// Document 02, P4. Of the others, S alone names a user.
+    #[test]
+    fn six_letters_edit_by_a_thread() {
+        let of = |suits: &dyn Fn(Letter) -> bool| -> String {
+            let letters = Letter::ALL.into_iter().filter(|letter| suits(*letter));
+            letters.map(Letter::char).collect()
+        };
+        let first_is = |field| move |letter: Letter| letter.fields().first() == Some(&field);
+        assert_eq!(of(&Letter::is_edit), "NKGTLD");
+        assert_eq!(of(&first_is(Field::Thread)), "ENKGTLDCRA");
+        assert_eq!(of(&first_is(Field::User)), "S");
     }
 }

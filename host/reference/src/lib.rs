@@ -1,8 +1,9 @@
 //! A second guard, in plain Rust, to compare the proved one with.
 //!
-//! It is written from document 01 (docs/DECISIONS.md, 49). It shares no code and no tables with
-//! the proved guard, and where one can choose it takes another road: sets and
-//! vectors, a tree on the heap, no fixed arrays. Obvious comes before fast.
+//! It is written from documents 01 and 02 (docs/DECISIONS.md, 49). It shares no
+//! code and no tables with the proved guard, and where one can choose it takes
+//! another road: sets and vectors, a tree on the heap, no fixed arrays. Obvious
+//! comes before fast.
 //!
 //! Two layers know nothing of each other: [`formula`], from a formula text to a
 //! sum of products, and [`journal`], the file of call records. Over the first

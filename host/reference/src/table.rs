@@ -1,5 +1,6 @@
-//! Document 01's table of calls, once: each letter with the fields that its call
-//! names, from a on. [`Letter`] and [`Call`] are made of it.
+//! Document 01's table of calls, as document 02's P4 leaves it, once: each letter
+//! with the fields that its call names, from a on. [`Letter`] and [`Call`] are made
+//! of it.
 
 use crate::letter::Field;
 
@@ -85,12 +86,12 @@ calls! {
     NewUser = b'U';
     StartThread = b'S' { user: User };
     EndThread = b'E' { thread: Thread };
-    NewSegment = b'N' { user: User, kind: Kind };
-    NewKey = b'K' { user: User };
-    GiveKey = b'G' { user: User, segment: Segment, key: Key };
-    TakeKey = b'T' { user: User, segment: Segment, key: Key };
-    AddLock = b'L' { user: User, segment: Segment, operations: Operations; text };
-    DropLock = b'D' { user: User, lock: Lock };
+    NewSegment = b'N' { thread: Thread, kind: Kind };
+    NewKey = b'K' { thread: Thread };
+    GiveKey = b'G' { thread: Thread, segment: Segment, key: Key };
+    TakeKey = b'T' { thread: Thread, segment: Segment, key: Key };
+    AddLock = b'L' { thread: Thread, segment: Segment, operations: Operations; text };
+    DropLock = b'D' { thread: Thread, lock: Lock };
     CallSegment = b'C' { thread: Thread, segment: Segment };
     ReturnCall = b'R' { thread: Thread };
     Access = b'A' { thread: Thread, segment: Segment, operation: Operation };

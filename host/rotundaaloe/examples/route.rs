@@ -18,15 +18,15 @@ fn tell(what: &str, answer: Result<Lock, refusal::Access>) {
 fn main() -> Result<(), Refusal> {
     let mut guard = Guard::new();
     let owner = guard.new_user()?;
-    let loader = guard.new_segment(owner, Kind::Code)?;
-    let recalculation = guard.new_segment(owner, Kind::Code)?;
-    let totals = guard.new_segment(owner, Kind::Sheet)?;
-    guard.add_lock(owner, loader, Operations::EXECUTE, "U0")?;
-    guard.add_lock(owner, recalculation, Operations::EXECUTE, "U0")?;
-    let route = format!("{loader}&{recalculation}");
-    guard.add_lock(owner, totals, Operations::WRITE, &route)?;
-
     let january = guard.start_thread(owner)?;
+    let loader = guard.new_segment(january, Kind::Code)?;
+    let recalculation = guard.new_segment(january, Kind::Code)?;
+    let totals = guard.new_segment(january, Kind::Sheet)?;
+    guard.add_lock(january, loader, Operations::EXECUTE, "U0")?;
+    guard.add_lock(january, recalculation, Operations::EXECUTE, "U0")?;
+    let route = format!("{loader}&{recalculation}");
+    guard.add_lock(january, totals, Operations::WRITE, &route)?;
+
     guard.call_segment(january, loader)?;
     guard.call_segment(january, recalculation)?;
     let saved = guard.access(january, totals, Access::Write);

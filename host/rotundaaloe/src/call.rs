@@ -126,19 +126,20 @@ calls! {
     /// E.
     EndThread = b'E' { thread: Thread as Thread };
     /// N: 0 code, 1 sheet.
-    NewSegment = b'N' { user: User as User, kind: Kind as u16 };
+    NewSegment = b'N' { thread: Thread as Thread, kind: Kind as u16 };
     /// K.
-    NewKey = b'K' { user: User as User };
+    NewKey = b'K' { thread: Thread as Thread };
     /// G.
-    GiveKey = b'G' { user: User as User, segment: Segment as Segment, key: Key as Defined };
+    GiveKey = b'G' { thread: Thread as Thread, segment: Segment as Segment, key: Key as Defined };
     /// T.
-    TakeKey = b'T' { user: User as User, segment: Segment as Segment, key: Key as Defined };
+    TakeKey = b'T' { thread: Thread as Thread, segment: Segment as Segment, key: Key as Defined };
     /// L.
     AddLock = b'L' {
-        user: User as User, segment: Segment as Segment, operations: Operations as Operations; text
+        thread: Thread as Thread, segment: Segment as Segment,
+        operations: Operations as Operations; text
     };
     /// D.
-    DropLock = b'D' { user: User as User, lock: Lock as Lock };
+    DropLock = b'D' { thread: Thread as Thread, lock: Lock as Lock };
     /// C.
     CallSegment = b'C' { thread: Thread as Thread, segment: Segment as Segment };
     /// R.
@@ -163,7 +164,7 @@ mod tests {
     use super::{Call, Letter};
     use crate::guard::Guard;
     use crate::journal::{Journal, Record};
-    use crate::numbers::{Operations, Segment, User};
+    use crate::numbers::{Operations, Segment, Thread, User};
     use crate::refusal::Refusal;
 
     #[test]
@@ -204,7 +205,7 @@ mod tests {
         assert_eq!(
             Call::of(&record(Letter::AddLock)),
             Some(Call::AddLock {
-                user: User(1),
+                thread: Thread(1),
                 segment: Segment(2),
                 operations: Operations(3),
                 text: b"U0"

@@ -20,6 +20,9 @@ pub(crate) fn answered(answer: u32) -> Result<u16, Refusal> {
 /// The guard and its protection state (document 01: desk). A refused call
 /// changes nothing; no call panics, whatever it is handed.
 ///
+/// An edit, which is N, K, G, T, L or D, names a live thread, whose user is the
+/// editor: a host starts a thread before its first edit.
+///
 /// A clone is a copy of the whole state.
 #[derive(Clone, PartialEq, Eq)]
 pub struct Guard {
@@ -82,7 +85,8 @@ impl Guard {
         answer.map(User).map_err(refusal::NewUser::of)
     }
 
-    /// S: the user's new thread.
+    /// S: the user's new thread; an edit that names it is this user's. That the
+    /// user is the person signed in is the host's to know.
     pub fn start_thread(&mut self, user: User) -> Result<Thread, refusal::StartThread> {
         let answer = self.call(Record::start_thread(user));
         answer.map(Thread).map_err(refusal::StartThread::of)
@@ -94,55 +98,59 @@ impl Guard {
         answer.map_err(refusal::EndThread::of)
     }
 
-    /// N: the owner's new segment.
-    pub fn new_segment(&mut self, owner: User, kind: Kind) -> Result<Segment, refusal::NewSegment> {
-        let answer = self.call(Record::new_segment(owner, kind));
+    /// N: a new segment, whose owner is the thread's user.
+    pub fn new_segment(
+        &mut self,
+        thread: Thread,
+        kind: Kind,
+    ) -> Result<Segment, refusal::NewSegment> {
+        let answer = self.call(Record::new_segment(thread, kind));
         answer.map(Segment).map_err(refusal::NewSegment::of)
     }
 
-    /// K: a new key that the user defines.
-    pub fn new_key(&mut self, maker: User) -> Result<Defined, refusal::NewKey> {
-        let answer = self.call(Record::new_key(maker));
+    /// K: a new defined key, whose maker is the thread's user.
+    pub fn new_key(&mut self, thread: Thread) -> Result<Defined, refusal::NewKey> {
+        let answer = self.call(Record::new_key(thread));
         answer.map(Defined).map_err(refusal::NewKey::of)
     }
 
     /// G: puts the key into the segment's list. Answers the keys now in it.
     pub fn give_key(
         &mut self,
-        user: User,
+        thread: Thread,
         segment: Segment,
         key: Defined,
     ) -> Result<u16, refusal::GiveKey> {
-        let answer = self.call(Record::give_key(user, segment, key));
+        let answer = self.call(Record::give_key(thread, segment, key));
         answer.map_err(refusal::GiveKey::of)
     }
 
     /// T: takes the key out of the segment's list. Answers the keys now in it.
     pub fn take_key(
         &mut self,
-        user: User,
+        thread: Thread,
         segment: Segment,
         key: Defined,
     ) -> Result<u16, refusal::TakeKey> {
-        let answer = self.call(Record::take_key(user, segment, key));
+        let answer = self.call(Record::take_key(thread, segment, key));
         answer.map_err(refusal::TakeKey::of)
     }
 
     /// L: a new lock on the segment, for these operations, with this formula.
     pub fn add_lock(
         &mut self,
-        user: User,
+        thread: Thread,
         segment: Segment,
         operations: Operations,
         text: &str,
     ) -> Result<Lock, refusal::AddLock> {
-        let answer = self.call(Record::add_lock(user, segment, operations, text));
+        let answer = self.call(Record::add_lock(thread, segment, operations, text));
         answer.map(Lock).map_err(refusal::AddLock::of)
     }
 
     /// D: drops the lock. Answers how many products that removes.
-    pub fn drop_lock(&mut self, user: User, lock: Lock) -> Result<u16, refusal::DropLock> {
-        let answer = self.call(Record::drop_lock(user, lock));
+    pub fn drop_lock(&mut self, thread: Thread, lock: Lock) -> Result<u16, refusal::DropLock> {
+        let answer = self.call(Record::drop_lock(thread, lock));
         answer.map_err(refusal::DropLock::of)
     }
 
@@ -193,11 +201,11 @@ impl Guard {
     /// # fn main() -> Result<(), Refusal> {
     /// # let mut guard = Guard::new();
     /// # let user = guard.new_user()?;
-    /// # let loader = guard.new_segment(user, Kind::Code)?;
-    /// # let totals = guard.new_segment(user, Kind::Sheet)?;
-    /// # guard.add_lock(user, loader, Operations::EXECUTE, "U0")?;
-    /// # guard.add_lock(user, totals, Operations::WRITE, "S0")?;
     /// # let thread = guard.start_thread(user)?;
+    /// # let loader = guard.new_segment(thread, Kind::Code)?;
+    /// # let totals = guard.new_segment(thread, Kind::Sheet)?;
+    /// # guard.add_lock(thread, loader, Operations::EXECUTE, "U0")?;
+    /// # guard.add_lock(thread, totals, Operations::WRITE, "S0")?;
     /// guard.within(thread, loader, |guard| {
     ///     guard.access(thread, totals, Access::Write)
     /// })??;

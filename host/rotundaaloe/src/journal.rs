@@ -9,6 +9,9 @@ use std::iter::FusedIterator;
 
 /// What a journal begins with.
 pub const MARK: &[u8; 3] = b"KLD";
+/// The version that follows the mark; a file with another is refused. In files of
+/// version 1 the six edits named a user.
+pub const VERSION: u16 = 2;
 /// The bytes of a record before its text.
 const RECORD_HEAD: usize = 9;
 
@@ -56,36 +59,36 @@ impl<'a> Record<'a> {
         call('E', thread.0, 0, 0)
     }
 
-    pub const fn new_segment(owner: User, kind: Kind) -> Record<'a> {
-        call('N', owner.0, kind as u16, 0)
+    pub const fn new_segment(thread: Thread, kind: Kind) -> Record<'a> {
+        call('N', thread.0, kind as u16, 0)
     }
 
-    pub const fn new_key(maker: User) -> Record<'a> {
-        call('K', maker.0, 0, 0)
+    pub const fn new_key(thread: Thread) -> Record<'a> {
+        call('K', thread.0, 0, 0)
     }
 
-    pub const fn give_key(user: User, segment: Segment, key: Defined) -> Record<'a> {
-        call('G', user.0, segment.0, key.0)
+    pub const fn give_key(thread: Thread, segment: Segment, key: Defined) -> Record<'a> {
+        call('G', thread.0, segment.0, key.0)
     }
 
-    pub const fn take_key(user: User, segment: Segment, key: Defined) -> Record<'a> {
-        call('T', user.0, segment.0, key.0)
+    pub const fn take_key(thread: Thread, segment: Segment, key: Defined) -> Record<'a> {
+        call('T', thread.0, segment.0, key.0)
     }
 
     pub const fn add_lock(
-        user: User,
+        thread: Thread,
         segment: Segment,
         operations: Operations,
         text: &'a str,
     ) -> Record<'a> {
         Record {
             text: text.as_bytes(),
-            ..call('L', user.0, segment.0, operations.0)
+            ..call('L', thread.0, segment.0, operations.0)
         }
     }
 
-    pub const fn drop_lock(user: User, lock: Lock) -> Record<'a> {
-        call('D', user.0, lock.0, 0)
+    pub const fn drop_lock(thread: Thread, lock: Lock) -> Record<'a> {
+        call('D', thread.0, lock.0, 0)
     }
 
     pub const fn call_segment(thread: Thread, segment: Segment) -> Record<'a> {

@@ -22,11 +22,11 @@ impl Guard {
     /// # fn main() -> Result<(), Refusal> {
     /// # let mut guard = Guard::new();
     /// # let user = guard.new_user()?;
-    /// # let loader = guard.new_segment(user, Kind::Code)?;
-    /// # let recalculation = guard.new_segment(user, Kind::Code)?;
-    /// # guard.add_lock(user, loader, Operations::EXECUTE, "U0")?;
-    /// # guard.add_lock(user, recalculation, Operations::EXECUTE, "U0")?;
     /// # let thread = guard.start_thread(user)?;
+    /// # let loader = guard.new_segment(thread, Kind::Code)?;
+    /// # let recalculation = guard.new_segment(thread, Kind::Code)?;
+    /// # guard.add_lock(thread, loader, Operations::EXECUTE, "U0")?;
+    /// # guard.add_lock(thread, recalculation, Operations::EXECUTE, "U0")?;
     /// guard.call_segment(thread, loader)?;
     /// guard.call_segment(thread, recalculation)?;
     /// let place = |key| guard.find_key(thread, key);

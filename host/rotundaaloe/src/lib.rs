@@ -17,12 +17,12 @@
 //! # fn main() -> Result<(), rotundaaloe::Refusal> {
 //! let mut guard = Guard::new();
 //! let owner = guard.new_user()?;
-//! let loader = guard.new_segment(owner, Kind::Code)?;
-//! let totals = guard.new_segment(owner, Kind::Sheet)?;
-//! guard.add_lock(owner, loader, Operations::EXECUTE, "U0")?;
-//! let lock = guard.add_lock(owner, totals, Operations::WRITE, "S0")?;
-//!
 //! let thread = guard.start_thread(owner)?;
+//! let loader = guard.new_segment(thread, Kind::Code)?;
+//! let totals = guard.new_segment(thread, Kind::Sheet)?;
+//! guard.add_lock(thread, loader, Operations::EXECUTE, "U0")?;
+//! let lock = guard.add_lock(thread, totals, Operations::WRITE, "S0")?;
+//!
 //! let refused = guard.access(thread, totals, Access::Write);
 //! assert_eq!(refused, Err(refusal::Access::NotGranted));
 //! guard.call_segment(thread, loader)?;
@@ -38,7 +38,7 @@
 //! # fn main() -> Result<(), Refusal> {
 //! let mut guard = Guard::new();
 //! let user = guard.new_user()?;
-//! guard.return_call(user)?;
+//! guard.new_key(user)?;
 //! # Ok(())
 //! # }
 //! ```

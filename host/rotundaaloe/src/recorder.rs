@@ -157,12 +157,12 @@ recorded! {
     new_user() -> User, NewUser;
     start_thread(user: User) -> Thread, StartThread;
     end_thread(thread: Thread) -> u16, EndThread;
-    new_segment(owner: User, kind: Kind) -> Segment, NewSegment;
-    new_key(maker: User) -> Defined, NewKey;
-    give_key(user: User, segment: Segment, key: Defined) -> u16, GiveKey;
-    take_key(user: User, segment: Segment, key: Defined) -> u16, TakeKey;
-    add_lock(user: User, segment: Segment, operations: Operations, text: &str) -> Lock, AddLock;
-    drop_lock(user: User, lock: Lock) -> u16, DropLock;
+    new_segment(thread: Thread, kind: Kind) -> Segment, NewSegment;
+    new_key(thread: Thread) -> Defined, NewKey;
+    give_key(thread: Thread, segment: Segment, key: Defined) -> u16, GiveKey;
+    take_key(thread: Thread, segment: Segment, key: Defined) -> u16, TakeKey;
+    add_lock(thread: Thread, segment: Segment, operations: Operations, text: &str) -> Lock, AddLock;
+    drop_lock(thread: Thread, lock: Lock) -> u16, DropLock;
     call_segment(thread: Thread, segment: Segment) -> Lock, CallSegment;
     return_call(thread: Thread) -> Segment, ReturnCall;
     access(thread: Thread, segment: Segment, access: Access) -> Lock, Access;

@@ -78,7 +78,7 @@ refusals! {
     NotGranted = 15 "no way in";
     /// The file doesn't begin with the mark.
     NotJournal = 16 "not a desk file";
-    /// The file's version isn't 1.
+    /// The file's version isn't 2.
     OtherVersion = 17 "other version";
     /// The file, or a call handed straight to the guard, has no known shape.
     Corrupt = 18 "broken file";
@@ -154,17 +154,17 @@ some_of_them! {
     /// Why [`Guard::end_thread`](crate::Guard::end_thread) is refused.
     EndThread { NoThread }
     /// Why [`Guard::new_segment`](crate::Guard::new_segment) is refused.
-    NewSegment { UnknownUser, Full }
+    NewSegment { NoThread, Full }
     /// Why [`Guard::new_key`](crate::Guard::new_key) is refused.
-    NewKey { UnknownUser, Full }
+    NewKey { NoThread, Full }
     /// Why [`Guard::give_key`](crate::Guard::give_key) is refused.
-    GiveKey { UnknownUser, NoSegment, NoKey, NotOwner, AlreadyPresent, Full }
+    GiveKey { NoThread, NoSegment, NoKey, NotOwner, AlreadyPresent, Full }
     /// Why [`Guard::take_key`](crate::Guard::take_key) is refused.
-    TakeKey { UnknownUser, NoSegment, NoKey, NotOwner, NotPresent }
+    TakeKey { NoThread, NoSegment, NoKey, NotOwner, NotPresent }
     /// Why [`Guard::add_lock`](crate::Guard::add_lock) is refused.
-    AddLock { UnknownUser, NoSegment, NotOwner, Unfit, Malformed, TooWide, Unsatisfiable, Full }
+    AddLock { NoThread, NoSegment, NotOwner, Unfit, Malformed, TooWide, Unsatisfiable, Full }
     /// Why [`Guard::drop_lock`](crate::Guard::drop_lock) is refused.
-    DropLock { UnknownUser, NoLock, NotOwner }
+    DropLock { NoThread, NoLock, NotOwner }
     /// Why [`Guard::call_segment`](crate::Guard::call_segment) is refused.
     CallSegment { NoThread, NoSegment, Unfit, Denied(lock), NotGranted, Full }
     /// Why [`Guard::return_call`](crate::Guard::return_call) is refused.

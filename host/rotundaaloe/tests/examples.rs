@@ -25,7 +25,7 @@ fn printed(output: Output) -> String {
 }
 
 const ROUTE: &str = "\
-0 U ok 0\n1 N ok 0\n2 N ok 1\n3 N ok 2\n4 L ok 0\n5 L ok 1\n6 L ok 2\n7 S ok 0\n8 S ok 1\n\
+0 U ok 0\n1 S ok 0\n2 S ok 1\n3 N ok 0\n4 N ok 1\n5 N ok 2\n6 L ok 0\n7 L ok 1\n8 L ok 2\n\
 9 C ok 0\n10 C ok 1\n11 C ok 1\n12 A ok 2\n13 A no 15 0\n14 R ok 1\n15 A no 15 0\n";
 
 #[test]

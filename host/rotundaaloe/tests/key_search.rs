@@ -31,14 +31,17 @@ fn d(number: u16) -> Key {
 fn office() -> Guard {
     let mut guard = Guard::new();
     assert_eq!(guard.new_user(), Ok(OWNER));
+    for thread in [BUSY, IDLE] {
+        assert_eq!(guard.start_thread(OWNER), Ok(thread));
+    }
     for segment in [LOADER, RECALCULATION, AUDIT] {
-        assert_eq!(guard.new_segment(OWNER, Kind::Code), Ok(segment));
-        let lock = guard.add_lock(OWNER, segment, Operations::EXECUTE, "U0");
+        assert_eq!(guard.new_segment(BUSY, Kind::Code), Ok(segment));
+        let lock = guard.add_lock(BUSY, segment, Operations::EXECUTE, "U0");
         lock.expect("a lock");
     }
-    assert_eq!(guard.new_segment(OWNER, Kind::Sheet), Ok(SHEET));
+    assert_eq!(guard.new_segment(BUSY, Kind::Sheet), Ok(SHEET));
     for key in 0..3 {
-        assert_eq!(guard.new_key(OWNER), Ok(Defined(key)));
+        assert_eq!(guard.new_key(BUSY), Ok(Defined(key)));
     }
     for (segment, key) in [
         (LOADER, 0),
@@ -48,14 +51,11 @@ fn office() -> Guard {
     ] {
         give(&mut guard, segment, key);
     }
-    for thread in [BUSY, IDLE] {
-        assert_eq!(guard.start_thread(OWNER), Ok(thread));
-    }
     guard
 }
 
 fn give(guard: &mut Guard, segment: Segment, key: u16) {
-    let given = guard.give_key(OWNER, segment, Defined(key));
+    let given = guard.give_key(BUSY, segment, Defined(key));
     given.expect("a key of the owner's");
 }
 
@@ -166,7 +166,7 @@ fn what_no_open_call_hands_over() {
 fn an_open_call_keeps_its_keys() {
     let mut guard = office();
     call(&mut guard, &[LOADER]);
-    assert_eq!(guard.take_key(OWNER, LOADER, Defined(0)), Ok(1));
+    assert_eq!(guard.take_key(BUSY, LOADER, Defined(0)), Ok(1));
     found(&guard, &[(d(0), Some(0))]);
     call(&mut guard, &[LOADER]);
     found(&guard, &[(s(LOADER), Some(0)), (d(0), Some(1))]);

@@ -1,10 +1,12 @@
 //! The limits are where the guard refuses, and what is left counts down to them.
 
 use rotundaaloe::formula::{Issued, compile};
-use rotundaaloe::journal::MARK;
+use rotundaaloe::journal::{self, MARK};
 use rotundaaloe::limits::*;
 use rotundaaloe::raw::Cells;
-use rotundaaloe::{Guard, Journal, Kind, Left, Operations, Record, User, VERSION, raw, refusal};
+use rotundaaloe::{
+    Guard, Journal, Kind, Left, Operations, Record, Thread, User, VERSION, raw, refusal,
+};
 
 /// How often something is accepted, until it isn't.
 fn accepted<T, E>(mut ask: impl FnMut() -> Result<T, E>) -> usize {
@@ -12,10 +14,12 @@ fn accepted<T, E>(mut ask: impl FnMut() -> Result<T, E>) -> usize {
 }
 
 const OWNER: User = User(0);
+const EDITOR: Thread = Thread(0);
 
-fn guard_with_a_user() -> Guard {
+fn guard_with_an_editor() -> Guard {
     let mut guard = Guard::new();
     assert_eq!(guard.new_user(), Ok(OWNER));
+    assert_eq!(guard.start_thread(OWNER), Ok(EDITOR));
     guard
 }
 
@@ -31,32 +35,31 @@ fn the_version_is_that_of_the_proved_functions() {
 fn numbers_that_are_handed_out() {
     let mut guard = Guard::new();
     assert_eq!(accepted(|| guard.new_user()), MOST_USERS);
+    assert_eq!(accepted(|| guard.start_thread(OWNER)), MOST_THREADS);
     assert_eq!(
-        accepted(|| guard.new_segment(OWNER, Kind::Code)),
+        accepted(|| guard.new_segment(EDITOR, Kind::Code)),
         MOST_SEGMENTS
     );
-    assert_eq!(accepted(|| guard.new_key(OWNER)), MOST_KEYS);
-    assert_eq!(accepted(|| guard.start_thread(OWNER)), MOST_THREADS);
+    assert_eq!(accepted(|| guard.new_key(EDITOR)), MOST_KEYS);
 }
 
 #[test]
 fn key_lists_and_open_calls() {
-    let mut guard = guard_with_a_user();
-    let segment = guard.new_segment(OWNER, Kind::Code).unwrap();
+    let mut guard = guard_with_an_editor();
+    let segment = guard.new_segment(EDITOR, Kind::Code).unwrap();
     let given = accepted(|| {
-        let key = guard.new_key(OWNER).unwrap();
-        guard.give_key(OWNER, segment, key)
+        let key = guard.new_key(EDITOR).unwrap();
+        guard.give_key(EDITOR, segment, key)
     });
     assert_eq!(1 + given, MOST_LISTED);
     guard
-        .add_lock(OWNER, segment, Operations::EXECUTE, "U0")
+        .add_lock(EDITOR, segment, Operations::EXECUTE, "U0")
         .unwrap();
-    let thread = guard.start_thread(OWNER).unwrap();
     assert_eq!(
-        accepted(|| guard.call_segment(thread, segment)),
+        accepted(|| guard.call_segment(EDITOR, segment)),
         MOST_OPEN_CALLS
     );
-    assert_eq!(guard.depth(thread), Some(MOST_OPEN_CALLS));
+    assert_eq!(guard.depth(EDITOR), Some(MOST_OPEN_CALLS));
 }
 
 #[test]
@@ -98,9 +101,9 @@ fn formulas() {
 
 #[test]
 fn standing_products_of_a_segment() {
-    let mut guard = guard_with_a_user();
-    let sheet = guard.new_segment(OWNER, Kind::Sheet).unwrap();
-    let locks = accepted(|| guard.add_lock(OWNER, sheet, Operations::READ, "U0"));
+    let mut guard = guard_with_an_editor();
+    let sheet = guard.new_segment(EDITOR, Kind::Sheet).unwrap();
+    let locks = accepted(|| guard.add_lock(EDITOR, sheet, Operations::READ, "U0"));
     assert_eq!(locks, MOST_PRODUCTS);
 }
 
@@ -109,6 +112,7 @@ fn journals() {
     let mut journal = Journal::new();
     assert_eq!(journal.as_bytes().len(), JOURNAL_HEAD);
     assert!(journal.as_bytes().starts_with(MARK));
+    assert_eq!(journal.as_bytes()[3..5], journal::VERSION.to_le_bytes());
     let records = accepted(|| journal.append(Record::new_user()));
     assert_eq!(records, (JOURNAL_BYTES - JOURNAL_HEAD) / 9);
 }
@@ -117,18 +121,19 @@ fn journals() {
 /// runs and dropped locks are not handed out again.
 #[test]
 fn threads_and_locks_wear_out() {
-    let mut guard = guard_with_a_user();
-    let sheet = guard.new_segment(OWNER, Kind::Sheet).unwrap();
+    let mut guard = guard_with_an_editor();
+    let sheet = guard.new_segment(EDITOR, Kind::Sheet).unwrap();
     let threads = accepted(|| {
         guard
             .start_thread(OWNER)
             .map(|thread| guard.end_thread(thread))
     });
     let locks = accepted(|| {
-        let lock = guard.add_lock(OWNER, sheet, Operations::READ, "U0");
-        lock.map(|lock| guard.drop_lock(OWNER, lock))
+        let lock = guard.add_lock(EDITOR, sheet, Operations::READ, "U0");
+        lock.map(|lock| guard.drop_lock(EDITOR, lock))
     });
-    assert_eq!([threads, locks], [MOST_NUMBERS; 2]);
+    assert_eq!([1 + threads, locks], [MOST_NUMBERS; 2]);
+    guard.end_thread(EDITOR).unwrap();
     let left = Left {
         users: 31,
         threads: 0,
@@ -152,13 +157,14 @@ fn what_is_left_counts_down() {
     };
     assert_eq!(guard.left(), new);
     guard.new_user().unwrap();
-    guard.new_key(OWNER).unwrap();
-    guard.new_key(OWNER).unwrap();
-    let sheet = guard.new_segment(OWNER, Kind::Sheet).unwrap();
+    guard.start_thread(OWNER).unwrap();
+    guard.new_key(EDITOR).unwrap();
+    guard.new_key(EDITOR).unwrap();
+    let sheet = guard.new_segment(EDITOR, Kind::Sheet).unwrap();
     guard
-        .add_lock(OWNER, sheet, Operations::READ, "D1")
+        .add_lock(EDITOR, sheet, Operations::READ, "D1")
         .unwrap();
-    for _ in 0..3 {
+    for _ in 0..2 {
         let thread = guard.start_thread(OWNER).unwrap();
         guard.end_thread(thread).unwrap();
     }

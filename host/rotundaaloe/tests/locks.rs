@@ -11,6 +11,9 @@ const COLLEAGUE: User = User(1);
 /// Not handed out.
 const STRANGER: User = User(2);
 
+/// The owner's thread, after the colleague's.
+const EDITOR: Thread = Thread(1);
+
 const CODE: Segment = Segment(0);
 const SHEET: Segment = Segment(1);
 /// Not handed out.
@@ -52,17 +55,18 @@ fn lent(count: u16) -> Vec<LockRow> {
     (0..count).map(row).collect()
 }
 
-/// Users 0 and 1. The first owns code 0 and sheet 1 and made D0 to D3; the second
-/// has thread 0.
+/// Users 0 and 1. The first owns code 0 and sheet 1 and made D0 to D3, by thread
+/// 1; the second has thread 0.
 fn office() -> Guard {
     let mut guard = Guard::new();
     assert_eq!(guard.new_user(), Ok(OWNER));
     assert_eq!(guard.new_user(), Ok(COLLEAGUE));
-    assert_eq!(guard.new_segment(OWNER, Kind::Code), Ok(CODE));
-    assert_eq!(guard.new_segment(OWNER, Kind::Sheet), Ok(SHEET));
     assert_eq!(guard.start_thread(COLLEAGUE), Ok(Thread(0)));
+    assert_eq!(guard.start_thread(OWNER), Ok(EDITOR));
+    assert_eq!(guard.new_segment(EDITOR, Kind::Code), Ok(CODE));
+    assert_eq!(guard.new_segment(EDITOR, Kind::Sheet), Ok(SHEET));
     for key in 0..4 {
-        assert_eq!(guard.new_key(OWNER), Ok(Defined(key)));
+        assert_eq!(guard.new_key(EDITOR), Ok(Defined(key)));
     }
     guard
 }
@@ -70,7 +74,7 @@ fn office() -> Guard {
 /// With locks 0 to 2 on the sheet: a product, two, and one that denies.
 fn locked_office() -> Guard {
     let mut guard = office();
-    let mut lock = |operations, text| guard.add_lock(OWNER, SHEET, operations, text);
+    let mut lock = |operations, text| guard.add_lock(EDITOR, SHEET, operations, text);
     assert_eq!(lock(Operations::WRITE, "S0&U1"), Ok(Lock(0)));
     assert_eq!(lock(BOTH, "D1&!D0|U0"), Ok(Lock(1)));
     assert_eq!(lock(Operations::READ.denied(), "D2"), Ok(Lock(2)));
@@ -181,7 +185,7 @@ fn a_segment_without_locks_needs_no_row() {
 fn a_rows_keys_are_in_the_products_order() {
     let mut guard = office();
     let text = "D3&!D1&S1&S0&!R0&U1";
-    let lock = guard.add_lock(OWNER, CODE, Operations::EXECUTE.denied(), text);
+    let lock = guard.add_lock(EDITOR, CODE, Operations::EXECUTE.denied(), text);
     assert_eq!(lock, Ok(Lock(0)));
     let keys = [
         Plain(u(1)),
@@ -201,8 +205,8 @@ fn a_rows_keys_are_in_the_products_order() {
 #[test]
 fn a_dropped_lock_is_gone() {
     let mut guard = locked_office();
-    assert_eq!(guard.drop_lock(OWNER, Lock(1)), Ok(2));
-    assert_eq!(guard.add_lock(OWNER, SHEET, BOTH, "!U1"), Ok(Lock(3)));
+    assert_eq!(guard.drop_lock(EDITOR, Lock(1)), Ok(2));
+    assert_eq!(guard.add_lock(EDITOR, SHEET, BOTH, "!U1"), Ok(Lock(3)));
     let [mut rows, _] = rows_of_locked_office();
     rows.drain(1..3);
     rows.push(grants(3, BOTH, &[Barred(u(1))]));
@@ -214,7 +218,7 @@ fn a_dropped_lock_is_gone() {
 fn as_many_rows_as_a_list_ever_needs() {
     let mut guard = office();
     let text = "D3|!D3|D2|!D2|D1|!D1|D0|!D0";
-    assert_eq!(guard.add_lock(OWNER, SHEET, BOTH, text), Ok(Lock(0)));
+    assert_eq!(guard.add_lock(EDITOR, SHEET, BOTH, text), Ok(Lock(0)));
     let keys = [3, 2, 1, 0].map(|n| [Plain(d(n)), Barred(d(n))]);
     let rows = keys
         .as_flattened()
@@ -225,9 +229,9 @@ fn as_many_rows_as_a_list_ever_needs() {
         guard.locks(COLLEAGUE, SHEET),
         Ok(vec![grants(0, BOTH, &[])])
     );
-    assert_eq!(guard.drop_lock(OWNER, Lock(0)), Ok(8));
+    assert_eq!(guard.drop_lock(EDITOR, Lock(0)), Ok(8));
     for number in 1..=8 {
-        let lock = guard.add_lock(OWNER, SHEET, Operations::READ, "U0");
+        let lock = guard.add_lock(EDITOR, SHEET, Operations::READ, "U0");
         assert_eq!(lock, Ok(Lock(number)));
     }
     let rows = (1..=8).map(|number| grants(number, Operations::READ, &[]));

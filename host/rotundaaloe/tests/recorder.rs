@@ -11,6 +11,8 @@ const OWNER: User = User(0);
 const CODE: Segment = Segment(0);
 const SHEET: Segment = Segment(1);
 const THREAD: Thread = Thread(0);
+/// Never started.
+const NOBODY: Thread = Thread(9);
 
 /// Each of the twelve calls, some of them refused.
 #[test]
@@ -21,38 +23,43 @@ fn answers_and_records() {
         Err(refusal::StartThread::UnknownUser)
     );
     assert_eq!(recorder.new_user(), Ok(OWNER));
-    assert_eq!(recorder.new_segment(OWNER, Kind::Code), Ok(CODE));
-    assert_eq!(recorder.new_segment(OWNER, Kind::Sheet), Ok(SHEET));
-    assert_eq!(recorder.new_key(OWNER), Ok(Defined(0)));
-    assert_eq!(recorder.give_key(OWNER, CODE, Defined(0)), Ok(2));
     assert_eq!(
-        recorder.add_lock(OWNER, CODE, Operations::EXECUTE, "U0"),
+        recorder.new_segment(THREAD, Kind::Code),
+        Err(refusal::NewSegment::NoThread)
+    );
+    assert_eq!(recorder.start_thread(OWNER), Ok(THREAD));
+    assert_eq!(recorder.new_segment(THREAD, Kind::Code), Ok(CODE));
+    assert_eq!(recorder.new_segment(THREAD, Kind::Sheet), Ok(SHEET));
+    assert_eq!(recorder.new_key(THREAD), Ok(Defined(0)));
+    assert_eq!(recorder.give_key(THREAD, CODE, Defined(0)), Ok(2));
+    assert_eq!(
+        recorder.add_lock(THREAD, CODE, Operations::EXECUTE, "U0"),
         Ok(Lock(0))
     );
-    let barred = recorder.add_lock(OWNER, SHEET, Operations::WRITE.denied(), "!D0");
+    let barred = recorder.add_lock(THREAD, SHEET, Operations::WRITE.denied(), "!D0");
     assert_eq!(barred, Ok(Lock(1)));
-    assert_eq!(recorder.start_thread(OWNER), Ok(THREAD));
     let denied = recorder.access(THREAD, SHEET, Access::Write);
     assert_eq!(denied, Err(refusal::Access::Denied(Lock(1))));
     assert_eq!(recorder.call_segment(THREAD, CODE), Ok(Lock(0)));
-    assert_eq!(recorder.take_key(OWNER, CODE, Defined(0)), Ok(1));
+    assert_eq!(recorder.take_key(THREAD, CODE, Defined(0)), Ok(1));
     assert_eq!(recorder.return_call(THREAD), Ok(CODE));
-    assert_eq!(recorder.drop_lock(OWNER, Lock(1)), Ok(1));
+    assert_eq!(recorder.drop_lock(THREAD, Lock(1)), Ok(1));
     assert_eq!(recorder.call(Call::EndThread { thread: THREAD }), Ok(0));
     assert_eq!(
         recorder.end_thread(THREAD),
         Err(refusal::EndThread::NoThread)
     );
-    let expected: [(u8, [u16; 3], &[u8]); 16] = [
+    let expected: [(u8, [u16; 3], &[u8]); 17] = [
         (b'S', [0, 0, 0], b""),
         (b'U', [0, 0, 0], b""),
+        (b'N', [0, 0, 0], b""),
+        (b'S', [0, 0, 0], b""),
         (b'N', [0, 0, 0], b""),
         (b'N', [0, 1, 0], b""),
         (b'K', [0, 0, 0], b""),
         (b'G', [0, 0, 0], b""),
         (b'L', [0, 0, 1], b"U0"),
         (b'L', [0, 1, 12], b"!D0"),
-        (b'S', [0, 0, 0], b""),
         (b'A', [0, 1, 4], b""),
         (b'C', [0, 0, 0], b""),
         (b'T', [0, 0, 0], b""),
@@ -87,28 +94,29 @@ fn replays_the_same(recorder: &Recorder) -> bool {
 fn texts_that_no_record_holds() {
     let mut recorder = Recorder::new();
     recorder.new_user().unwrap();
-    recorder.new_segment(OWNER, Kind::Sheet).unwrap();
+    recorder.start_thread(OWNER).unwrap();
+    recorder.new_segment(THREAD, Kind::Sheet).unwrap();
     let malformed = Err(refusal::AddLock::Malformed);
     assert_eq!(
-        recorder.add_lock(OWNER, CODE, Operations::READ, ""),
+        recorder.add_lock(THREAD, CODE, Operations::READ, ""),
         malformed
     );
     let missing = |calls| Missing {
         calls,
-        first: 2,
+        first: 3,
         refusal: refusal::Append::Corrupt,
         ended: false,
     };
     assert_eq!(recorder.missing(), Some(missing(1)));
     let long = "!".repeat(95) + "U0";
     assert_eq!(
-        recorder.add_lock(OWNER, CODE, Operations::READ, &long),
+        recorder.add_lock(THREAD, CODE, Operations::READ, &long),
         malformed
     );
     assert_eq!(recorder.missing(), Some(missing(2)));
     // The journal goes on, and replays the same.
     assert_eq!(recorder.new_user(), Ok(User(1)));
-    assert_eq!(recorder.journal().records().count(), 3);
+    assert_eq!(recorder.journal().records().count(), 4);
     assert_eq!(recorder.missing(), Some(missing(2)));
     assert!(replays_the_same(&recorder));
 }
@@ -117,17 +125,18 @@ fn texts_that_no_record_holds() {
 fn with_bytes_left(left: usize) -> Recorder {
     let mut journal = Journal::new();
     journal.append(Record::new_user()).unwrap();
+    journal.append(Record::start_thread(OWNER)).unwrap();
     journal
-        .append(Record::new_segment(OWNER, Kind::Sheet))
+        .append(Record::new_segment(THREAD, Kind::Sheet))
         .unwrap();
     let bytes_left = |journal: &Journal| JOURNAL_BYTES - journal.as_bytes().len();
     while bytes_left(&journal) >= left + 9 + 9 {
-        journal.append(Record::new_key(User(9))).unwrap();
+        journal.append(Record::new_key(NOBODY)).unwrap();
     }
     let text = "!".repeat(bytes_left(&journal) - left - 9);
     let last = match text.is_empty() {
-        true => Record::new_key(User(9)),
-        false => Record::add_lock(User(9), CODE, Operations::READ, &text),
+        true => Record::new_key(NOBODY),
+        false => Record::add_lock(NOBODY, CODE, Operations::READ, &text),
     };
     journal.append(last).unwrap();
     assert_eq!(bytes_left(&journal), left);
@@ -140,7 +149,7 @@ fn a_full_journal_keeps_nobody_from_asking() {
     let asked = recorder.journal().records().count() as u64;
     let full = recorder.journal().clone();
     // A refused call changed nothing.
-    let refused = recorder.end_thread(THREAD);
+    let refused = recorder.end_thread(NOBODY);
     assert_eq!(refused, Err(refusal::EndThread::NoThread));
     let missing = |calls, ended| Missing {
         calls,
@@ -167,10 +176,10 @@ fn nothing_follows_an_accepted_call_that_is_missing() {
     let mut recorder = with_bytes_left(20);
     let before = recorder.journal().clone();
     // 9 bytes and a text of 12.
-    let lock = recorder.add_lock(OWNER, CODE, Operations::READ, "!!!!!!!!!!U0");
+    let lock = recorder.add_lock(THREAD, CODE, Operations::READ, "!!!!!!!!!!U0");
     assert_eq!(lock, Ok(Lock(0)));
     assert!(recorder.missing().is_some_and(|missing| missing.ended));
-    let lock = recorder.add_lock(OWNER, CODE, Operations::READ, "(((((U0)))))");
+    let lock = recorder.add_lock(THREAD, CODE, Operations::READ, "(((((U0)))))");
     assert_eq!(lock, Ok(Lock(1)));
     assert_eq!(recorder.new_user(), Ok(User(1)));
     assert_eq!(*recorder.journal(), before);
@@ -178,7 +187,7 @@ fn nothing_follows_an_accepted_call_that_is_missing() {
     // A text of 11 fills it.
     let mut recorder = with_bytes_left(20);
     recorder
-        .add_lock(OWNER, CODE, Operations::READ, "((((U0))))!")
+        .add_lock(THREAD, CODE, Operations::READ, "((((U0))))!")
         .unwrap_err();
     assert_eq!(recorder.missing(), None);
     assert_eq!(recorder.journal().as_bytes().len(), JOURNAL_BYTES);
@@ -187,7 +196,7 @@ fn nothing_follows_an_accepted_call_that_is_missing() {
 #[test]
 fn what_fits_follows_a_refused_call_that_is_missing() {
     let mut recorder = with_bytes_left(20);
-    let malformed = recorder.add_lock(OWNER, CODE, Operations::READ, "!!!!!!!!!!!!");
+    let malformed = recorder.add_lock(THREAD, CODE, Operations::READ, "!!!!!!!!!!!!");
     assert_eq!(malformed, Err(refusal::AddLock::Malformed));
     assert_eq!(recorder.new_user(), Ok(User(1)));
     let missing = recorder.missing().expect("the lock");

@@ -18,19 +18,19 @@ const THREAD: Thread = Thread(0);
 fn office() -> Guard {
     let mut guard = Guard::new();
     guard.new_user().unwrap();
-    guard.new_segment(OWNER, Kind::Code).unwrap();
-    guard.new_segment(OWNER, Kind::Code).unwrap();
-    guard.new_segment(OWNER, Kind::Sheet).unwrap();
-    guard
-        .add_lock(OWNER, LOADER, Operations::EXECUTE, "U0")
-        .unwrap();
-    guard
-        .add_lock(OWNER, RECALCULATION, Operations::EXECUTE, "U0")
-        .unwrap();
-    guard
-        .add_lock(OWNER, TOTALS, Operations::WRITE, "S0&S1")
-        .unwrap();
     guard.start_thread(OWNER).unwrap();
+    guard.new_segment(THREAD, Kind::Code).unwrap();
+    guard.new_segment(THREAD, Kind::Code).unwrap();
+    guard.new_segment(THREAD, Kind::Sheet).unwrap();
+    guard
+        .add_lock(THREAD, LOADER, Operations::EXECUTE, "U0")
+        .unwrap();
+    guard
+        .add_lock(THREAD, RECALCULATION, Operations::EXECUTE, "U0")
+        .unwrap();
+    guard
+        .add_lock(THREAD, TOTALS, Operations::WRITE, "S0&S1")
+        .unwrap();
     guard
 }
 
@@ -182,11 +182,11 @@ fn threads_away_from_home() {
 fn a_recorder_records_the_returns() {
     let mut recorder = Recorder::new();
     recorder.new_user().unwrap();
-    recorder.new_segment(OWNER, Kind::Code).unwrap();
-    recorder
-        .add_lock(OWNER, LOADER, Operations::EXECUTE, "U0")
-        .unwrap();
     recorder.start_thread(OWNER).unwrap();
+    recorder.new_segment(THREAD, Kind::Code).unwrap();
+    recorder
+        .add_lock(THREAD, LOADER, Operations::EXECUTE, "U0")
+        .unwrap();
     let caught = catch_unwind(AssertUnwindSafe(|| {
         recorder.within(THREAD, LOADER, |recorder| {
             recorder.call_segment(THREAD, LOADER).unwrap();

@@ -23,12 +23,12 @@ fn row(letter: Letter) -> ([usize; WORLDS.len()], &'static [u32]) {
         Letter::NewUser => ([1, 0, 0, 6, 1], &[0, 10, 18]),
         Letter::StartThread => ([4, 2, 40, 4, 1], &[0, 1, 10, 18]),
         Letter::EndThread => ([2, 1, 27, 1, 1], &[0, 2, 18]),
-        Letter::NewSegment => ([2, 0, 0, 8, 1], &[0, 1, 7, 10, 18]),
-        Letter::NewKey => ([3, 1, 0, 34, 1], &[0, 1, 10, 18]),
-        Letter::GiveKey => ([8, 5, 1, 26, 1], &[0, 1, 3, 4, 6, 8, 10, 18]),
-        Letter::TakeKey => ([5, 4, 1, 3, 1], &[0, 1, 3, 4, 6, 9, 18]),
-        Letter::AddLock => ([12, 3, 2, 10, 1], &[0, 1, 3, 6, 7, 10, 11, 12, 13]),
-        Letter::DropLock => ([7, 2, 1, 2, 1], &[0, 1, 5, 6, 18]),
+        Letter::NewSegment => ([2, 0, 0, 8, 1], &[0, 2, 7, 10, 18]),
+        Letter::NewKey => ([3, 1, 0, 34, 1], &[0, 2, 10, 18]),
+        Letter::GiveKey => ([8, 5, 1, 26, 1], &[0, 2, 3, 4, 6, 8, 10, 18]),
+        Letter::TakeKey => ([5, 4, 1, 3, 1], &[0, 2, 3, 4, 6, 9, 18]),
+        Letter::AddLock => ([12, 3, 2, 10, 1], &[0, 2, 3, 6, 7, 10, 11, 12, 13]),
+        Letter::DropLock => ([7, 2, 1, 2, 1], &[0, 2, 5, 6, 18]),
         Letter::CallSegment => ([25, 60, 14, 3, 1], &[0, 2, 3, 7, 10, 14, 15, 18]),
         Letter::ReturnCall => ([14, 9, 6, 1, 1], &[0, 2, 9, 18]),
         Letter::Access => ([17, 12, 8, 2, 1], &[0, 2, 3, 7, 14, 15, 18]),
@@ -49,7 +49,7 @@ pub struct World {
     length: (usize, usize),
     /// One in this many fields is beside what the call needs.
     stray: usize,
-    /// Users, code segments, sheets, defined keys and threads that a list opens
+    /// Users, threads, code segments, sheets and defined keys that a list opens
     /// with, at most.
     opening: [usize; 5],
 }
@@ -60,21 +60,21 @@ pub const WORLDS: [World; 5] = [
         place: 0,
         length: (100, 400),
         stray: 24,
-        opening: [3, 4, 2, 4, 3],
+        opening: [3, 5, 4, 2, 4],
     },
     World {
         name: "deep stacks",
         place: 1,
         length: (100, 400),
         stray: 60,
-        opening: [2, 3, 1, 6, 2],
+        opening: [2, 3, 3, 1, 6],
     },
     World {
         name: "threads that come and go",
         place: 2,
         length: (400, 3_000),
         stray: 30,
-        opening: [3, 3, 2, 3, 8],
+        opening: [3, 8, 3, 2, 3],
     },
     World {
         name: "everything to its limit",
@@ -88,7 +88,7 @@ pub const WORLDS: [World; 5] = [
         place: 4,
         length: (20, 300),
         stray: 3,
-        opening: [4, 3, 3, 4, 4],
+        opening: [4, 8, 3, 3, 4],
     },
 ];
 
@@ -98,6 +98,12 @@ impl World {
         let repeated = |letter| vec![letter; row(letter).0[self.place]];
         Letter::ALL.into_iter().flat_map(repeated).collect()
     }
+}
+
+#[derive(Clone, Copy)]
+struct Thread {
+    number: u16,
+    user: u16,
 }
 
 struct Segment {
@@ -122,7 +128,8 @@ pub struct Caller<'a> {
     users: usize,
     makers: Vec<u16>,
     segments: Vec<Segment>,
-    live: Vec<u16>,
+    live: Vec<Thread>,
+    ended: Vec<Thread>,
     threads_started: usize,
     standing: Vec<Lock>,
     locks_made: usize,
@@ -169,38 +176,40 @@ pub fn told(guard: &mut Guard, history: &mut History, record: &Record) -> Answer
     answer
 }
 
-pub fn lock(user: u16, segment: u16, operations: u16, text: &[u8]) -> Record {
+pub fn lock(thread: u16, segment: u16, operations: u16, text: &[u8]) -> Record {
     Record {
         text: text.to_vec(),
-        ..call(Letter::AddLock, user, segment, operations)
+        ..call(Letter::AddLock, thread, segment, operations)
     }
 }
 
 impl<'a> Caller<'a> {
     /// A caller for a list from the empty state.
     pub fn new(random: &'a mut Random, world: &'a World) -> Caller<'a> {
-        let [users, code, sheets, keys, threads] =
+        let [users, threads, code, sheets, keys] =
             world.opening.map(|most| random.between(1, most));
-        let user = |n: usize| (n % users) as u16;
+        let thread = |n: usize| (n % threads) as u16;
         let segment = |n, kind| Call::NewSegment {
-            user: user(n),
+            thread: thread(n),
             kind,
         };
         let mut opening = vec![Call::NewUser; users];
+        opening.extend((0..threads).map(|_| Call::StartThread {
+            user: random.below(users) as u16,
+        }));
         opening.extend((0..code).map(|n| segment(n, 0)));
         opening.extend((0..sheets).map(|n| segment(n, 1)));
-        opening.extend((0..keys).map(|n| Call::NewKey { user: user(n) }));
-        opening.extend((0..threads).map(|n| Call::StartThread { user: user(n) }));
+        opening.extend((0..keys).map(|n| Call::NewKey { thread: thread(n) }));
         let mut opening: Vec<Record> = opening.into_iter().map(Record::from).collect();
         // Every code segment can be called by someone.
         opening.extend((0..code).map(|n| {
             let text = format!("U{}", random.below(users));
-            lock(user(n), n as u16, EXECUTE, text.as_bytes())
+            lock(thread(n), n as u16, EXECUTE, text.as_bytes())
         }));
         // And every sheet is open to those who come by some of them.
         opening.extend((0..sheets).map(|n| {
             let text = format!("S{}", random.below(code));
-            lock(user(n), (code + n) as u16, READ | WRITE, text.as_bytes())
+            lock(thread(n), (code + n) as u16, READ | WRITE, text.as_bytes())
         }));
         opening.reverse();
         Caller {
@@ -211,6 +220,7 @@ impl<'a> Caller<'a> {
             makers: Vec::new(),
             segments: Vec::new(),
             live: Vec::new(),
+            ended: Vec::new(),
             threads_started: 0,
             standing: Vec::new(),
             locks_made: 0,
@@ -227,6 +237,10 @@ impl<'a> Caller<'a> {
             sheet: n % 2 == 1,
             given: (0..MAX_LIST_KEYS as u16 - 1).collect(),
         });
+        let threads = (0..MAX_LIVE_THREADS).map(|n| Thread {
+            number: n as u16,
+            user: user(n),
+        });
         let locks = (0..MAX_SEGMENTS as u16).map(|n| Lock {
             number: n,
             segment: n,
@@ -238,7 +252,8 @@ impl<'a> Caller<'a> {
             users: MAX_USERS,
             makers: (0..MAX_DEFINED_KEYS).map(user).collect(),
             segments: segments.collect(),
-            live: (0..MAX_LIVE_THREADS as u16).collect(),
+            live: threads.collect(),
+            ended: Vec::new(),
             threads_started: MAX_LIVE_THREADS,
             standing: locks.collect(),
             locks_made: MAX_SEGMENTS,
@@ -276,7 +291,9 @@ impl<'a> Caller<'a> {
                 thread: self.thread(),
             },
             Letter::NewSegment => self.new_segment(),
-            Letter::NewKey => Call::NewKey { user: self.user() },
+            Letter::NewKey => Call::NewKey {
+                thread: self.editor(),
+            },
             Letter::GiveKey => self.give_key(),
             Letter::TakeKey => self.take_key(),
             Letter::AddLock => return self.add_lock(),
@@ -296,29 +313,37 @@ impl<'a> Caller<'a> {
     fn new_segment(&mut self) -> Call<'static> {
         let kind = self.random.below(2) as u16;
         Call::NewSegment {
-            user: self.user(),
+            thread: self.editor(),
             kind: self.or_stray(kind, 2),
         }
     }
 
     fn give_key(&mut self) -> Call<'static> {
         let segment = self.segment(None);
-        let user = self.owner(segment);
-        let key = self.key_of(user);
-        Call::GiveKey { user, segment, key }
+        let thread = self.editor_of(segment);
+        let key = self.key_of(thread);
+        Call::GiveKey {
+            thread,
+            segment,
+            key,
+        }
     }
 
     fn take_key(&mut self) -> Call<'static> {
         let segment = self.segment(None);
-        let user = self.owner(segment);
+        let thread = self.editor_of(segment);
         let key = self.given(segment);
-        Call::TakeKey { user, segment, key }
+        Call::TakeKey {
+            thread,
+            segment,
+            key,
+        }
     }
 
     fn add_lock(&mut self) -> Record {
         let segment = self.segment(None);
         let operations = self.operations(segment);
-        lock(self.owner(segment), segment, operations, &self.text())
+        lock(self.editor_of(segment), segment, operations, &self.text())
     }
 
     fn drop_lock(&mut self) -> Call<'static> {
@@ -331,7 +356,7 @@ impl<'a> Caller<'a> {
         };
         let number = self.or_stray(lock.number, self.locks_made);
         Call::DropLock {
-            user: self.owner(lock.segment),
+            thread: self.editor_of(lock.segment),
             lock: number,
         }
     }
@@ -353,17 +378,21 @@ impl<'a> Caller<'a> {
         };
         match call {
             Call::NewUser => self.users += 1,
-            Call::StartThread { .. } => {
-                self.live.push(answer);
+            Call::StartThread { user } => {
+                let number = answer;
+                self.live.push(Thread { number, user });
                 self.threads_started += 1;
             }
-            Call::EndThread { thread } => self.live.retain(|live| *live != thread),
-            Call::NewSegment { user, kind } => self.segments.push(Segment {
-                owner: user,
+            Call::EndThread { thread } => {
+                let is_ended = |live: &mut Thread| live.number == thread;
+                self.ended.extend(self.live.extract_if(.., is_ended));
+            }
+            Call::NewSegment { thread, kind } => self.segments.push(Segment {
+                owner: self.accepted_editor(thread),
                 sheet: kind == 1,
                 given: Vec::new(),
             }),
-            Call::NewKey { user } => self.makers.push(user),
+            Call::NewKey { thread } => self.makers.push(self.accepted_editor(thread)),
             Call::GiveKey { segment, key, .. } => self.given_mut(segment).push(key),
             Call::TakeKey { segment, key, .. } => {
                 self.given_mut(segment).retain(|given| *given != key);
@@ -376,6 +405,11 @@ impl<'a> Caller<'a> {
             Call::DropLock { lock, .. } => self.standing.retain(|other| other.number != lock),
             Call::CallSegment { .. } | Call::ReturnCall { .. } | Call::Access { .. } => {}
         }
+    }
+
+    fn accepted_editor(&self, thread: u16) -> u16 {
+        let user = self.user_of(thread);
+        user.expect("an accepted edit names a live thread")
     }
 
     fn given_mut(&mut self, segment: u16) -> &mut Vec<u16> {

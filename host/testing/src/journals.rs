@@ -10,6 +10,9 @@ use reference::limits::MAX_TEXT_BYTES;
 /// The bytes of a text that is just too long.
 const TOO_LONG: usize = MAX_TEXT_BYTES + 1;
 
+/// Where the low byte of a file's version stands.
+const VERSION: usize = 3;
+
 /// Whether a letter's call names a field: 0 for a, 1 for b, 2 for c.
 pub fn names(letter: Letter, field: usize) -> bool {
     field < letter.fields().len()
@@ -183,7 +186,7 @@ pub fn damaged(random: &mut Random) -> Vec<u8> {
     for _ in 0..random.between(1, 3) {
         let place = random.below(file.len() + 1);
         let inside = place.min(file.len() - 1);
-        match random.below(8) {
+        match random.below(9) {
             0 => file[inside] = random.bits() as u8,
             1 => file[inside] ^= 1 << random.below(8),
             2 => file.insert(place, random.bits() as u8),
@@ -193,6 +196,12 @@ pub fn damaged(random: &mut Random) -> Vec<u8> {
             4 => file.truncate(place.max(1)),
             5 => file.extend(trailing_bytes(random)),
             6 => {
+                // The version, mostly the one before.
+                if let Some(version) = file.get_mut(VERSION) {
+                    *version = random.pick(&[1, 1, 1, 0, 3]);
+                }
+            }
+            7 => {
                 // A run of bytes twice, which may be whole records.
                 let length = random.between(1, 9.min(file.len() - inside));
                 let run = file[inside..inside + length].to_vec();

@@ -1,8 +1,9 @@
 //! What tests and measurements draw from. From a repeatable source of numbers,
 //! [`random`], come [`calls`] in lists, the same lists with other [`neighbours`],
 //! formula [`texts`], [`journals`], and [`rows`] for a listing to fill. By hand
-//! from document 01 are [`trials`], calls with their answers, and [`written`],
-//! records with their bytes. [`shapes`] are formula texts of each shape.
+//! from documents 01 and 02 are [`trials`], calls with their answers, and
+//! [`written`], records with their bytes. [`shapes`] are formula texts of each
+//! shape.
 
 pub mod calls;
 pub mod journals;

@@ -10,7 +10,8 @@ use reference::letter::Letter;
 use reference::operations::{READ, WRITE};
 
 /// Whether a record is struck out for the one thread's sake: a C, R or A of
-/// another, by its letter and field a alone, whatever it answers.
+/// another, by its letter and field a alone, whatever it answers. An edit stays,
+/// whoever's thread it names: it changes segments and locks that all share.
 pub fn is_struck(one: u16, record: &Record) -> bool {
     matches!(record.letter, b'C' | b'R' | b'A') && record.a != one
 }
@@ -166,8 +167,16 @@ mod tests {
             (call(b'R', 1, 0, 0), true),
             (call(b'A', 1, 0, 2), true),
             (call(b'E', 1, 0, 0), true),
+            (call(b'N', 1, 1, 0), true),
+            (call(b'K', 1, 0, 0), true),
+            (call(b'G', 1, 0, 0), true),
+            (call(b'T', 1, 0, 0), true),
+            (lock(1, 0, 1, b"U0"), true),
+            (call(b'D', 1, 0, 0), true),
             // Numbers never started, and records that aren't well formed.
             (call(b'C', 65_535, 1, 0), false),
+            (call(b'N', 65_535, 1, 0), true),
+            (lock(65_535, 0, 1, b"U0"), true),
             (call(b'C', 0, 1, 1), false),
             (call(b'R', 0, 1, 1), false),
             (bare(b'A', 1), false),

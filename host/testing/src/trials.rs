@@ -1,8 +1,10 @@
-//! Worked examples for tests, each with the answers that document 01 gives: its
-//! own (document 01: trial desks), the installer's checklist, the table of
-//! refusals and the limits from both sides. What is expected is written out by
-//! hand from document 01, and every guard must give it.
+//! Worked examples for tests, each with the answers that document 01 gives with
+//! document 02's P4: its own (document 01: trial desks), the installer's
+//! checklist, the table of refusals, who edits, and the limits from both sides.
+//! What is expected is written out by hand from the documents, and every guard
+//! must give it.
 
+mod editors;
 mod limits;
 
 use reference::guard::Answer;
@@ -19,11 +21,31 @@ pub trait Guard {
 pub type Trial = (&'static str, fn(&mut dyn Guard));
 
 /// All of them, each to be tried on a new guard.
-pub const TRIALS: [Trial; 20] = [
+pub const TRIALS: [Trial; 25] = [
     ("the route over two segments", the_route_over_two_segments),
     (
         "an empty state has no user and no thread",
         an_empty_state_has_no_user_and_no_thread,
+    ),
+    (
+        "a user without a thread edits nothing",
+        editors::a_user_without_a_thread_edits_nothing,
+    ),
+    (
+        "a thread that isnt live is refused before all else",
+        editors::a_thread_that_isnt_live_is_refused_before_all_else,
+    ),
+    (
+        "any thread of the user edits and no other",
+        editors::any_thread_of_the_user_edits_and_no_other,
+    ),
+    (
+        "an owner stays when the thread ends",
+        editors::an_owner_stays_when_the_thread_ends,
+    ),
+    (
+        "a thread at a freed place edits for its own user",
+        editors::a_thread_at_a_freed_place_edits_for_its_own_user,
     ),
     ("texts of the worked examples", texts_of_the_worked_examples),
     (
@@ -93,12 +115,14 @@ impl Office<'_> {
         Office { guard }
     }
 
-    /// One user, 0; two code segments, 0 and 1, and a sheet, 2, all his. He may
-    /// call both, by locks 0 and 1, and write to the sheet with S0 and S1, by
-    /// lock 2.
+    /// One user, 0, with threads 0 and 1; two code segments, 0 and 1, and a sheet,
+    /// 2, all his. He may call both, by locks 0 and 1, and write to the sheet with
+    /// S0 and S1, by lock 2.
     fn with_totals(guard: &mut dyn Guard) -> Office<'_> {
         let mut office = Office::new(guard);
         office.ok(b'U', [0, 0, 0], "", 0);
+        office.ok(b'S', [0, 0, 0], "", 0);
+        office.ok(b'S', [0, 0, 0], "", 1);
         office.ok(b'N', [0, 0, 0], "", 0);
         office.ok(b'N', [0, 0, 0], "", 1);
         office.ok(b'N', [0, 1, 0], "", 2);
@@ -127,8 +151,6 @@ impl Office<'_> {
 
 fn the_route_over_two_segments(guard: &mut dyn Guard) {
     let mut office = Office::with_totals(guard);
-    office.ok(b'S', [0, 0, 0], "", 0);
-    office.ok(b'S', [0, 0, 0], "", 1);
     office.ok(b'C', [0, 0, 0], "", 0);
     office.ok(b'C', [0, 1, 0], "", 1);
     office.ok(b'C', [1, 1, 0], "", 1);
@@ -142,6 +164,12 @@ fn an_empty_state_has_no_user_and_no_thread(guard: &mut dyn Guard) {
     let mut office = Office::new(guard);
     office.no(b'S', [0, 0, 0], "", 1, 0);
     office.no(b'R', [0, 0, 0], "", 2, 0);
+    office.no(b'N', [0, 0, 0], "", 2, 0);
+    office.no(b'K', [0, 0, 0], "", 2, 0);
+    office.no(b'G', [0, 0, 0], "", 2, 0);
+    office.no(b'T', [0, 0, 0], "", 2, 0);
+    office.no(b'L', [0, 0, 1], "U0", 2, 0);
+    office.no(b'D', [0, 0, 0], "", 2, 0);
 }
 
 /// The answer of a D is how many products the lock had.
@@ -172,7 +200,6 @@ fn texts_of_the_worked_examples(guard: &mut dyn Guard) {
 /// Checklist 1 and 2: a save by way of both parts, and one off the route.
 fn keys_are_kept_on_the_way_down_and_missed_off_the_route(guard: &mut dyn Guard) {
     let mut office = Office::with_totals(guard);
-    office.ok(b'S', [0, 0, 0], "", 0);
     office.no(b'A', [0, 2, 4], "", 15, 0);
     office.ok(b'C', [0, 0, 0], "", 0);
     office.no(b'A', [0, 2, 4], "", 15, 0);
@@ -180,7 +207,6 @@ fn keys_are_kept_on_the_way_down_and_missed_off_the_route(guard: &mut dyn Guard)
     office.ok(b'A', [0, 2, 4], "", 2);
     // An access changes nothing, so the next one is granted too.
     office.ok(b'A', [0, 2, 4], "", 2);
-    office.ok(b'S', [0, 0, 0], "", 1);
     office.ok(b'C', [1, 1, 0], "", 1);
     office.no(b'A', [1, 2, 4], "", 15, 0);
     // S0&S1 fixes no order.
@@ -191,7 +217,6 @@ fn keys_are_kept_on_the_way_down_and_missed_off_the_route(guard: &mut dyn Guard)
 /// Checklist 3: no key is left behind by a return.
 fn a_return_gives_the_keys_back(guard: &mut dyn Guard) {
     let mut office = Office::with_totals(guard);
-    office.ok(b'S', [0, 0, 0], "", 0);
     office.ok(b'C', [0, 0, 0], "", 0);
     office.ok(b'C', [0, 1, 0], "", 1);
     office.ok(b'A', [0, 2, 4], "", 2);
@@ -208,7 +233,6 @@ fn a_return_gives_the_keys_back(guard: &mut dyn Guard) {
 /// Checklist 4: a segment called twice and left once still gives its key.
 fn a_key_handed_over_twice_is_held_until_both_return(guard: &mut dyn Guard) {
     let mut office = Office::with_totals(guard);
-    office.ok(b'S', [0, 0, 0], "", 0);
     for (segment, lock) in [(0, 0), (1, 1), (0, 0)] {
         office.ok(b'C', [0, segment, 0], "", lock);
     }
@@ -221,18 +245,18 @@ fn a_key_handed_over_twice_is_held_until_both_return(guard: &mut dyn Guard) {
     office.no(b'A', [0, 2, 4], "", 15, 0);
 }
 
-/// Checklist 5: nothing is granted on a lock that is gone.
+/// Checklist 5: nothing is granted on a lock that is gone, whichever of the
+/// owner's threads drops it.
 fn a_dropped_lock_opens_no_more(guard: &mut dyn Guard) {
     let mut office = Office::with_totals(guard);
-    office.ok(b'S', [0, 0, 0], "", 0);
     office.ok(b'C', [0, 0, 0], "", 0);
     office.ok(b'C', [0, 1, 0], "", 1);
     office.ok(b'A', [0, 2, 4], "", 2);
-    office.ok(b'D', [0, 2, 0], "", 1);
+    office.ok(b'D', [1, 2, 0], "", 1);
     office.no(b'A', [0, 2, 4], "", 15, 0);
     office.no(b'D', [0, 2, 0], "", 5, 0);
     // Its number is not handed out again.
-    office.ok(b'L', [0, 2, 4], "S0&S1", 3);
+    office.ok(b'L', [1, 2, 4], "S0&S1", 3);
     office.ok(b'A', [0, 2, 4], "", 3);
     // A call that is open stays open without the lock that let it in.
     office.ok(b'D', [0, 0, 0], "", 1);
@@ -242,7 +266,6 @@ fn a_dropped_lock_opens_no_more(guard: &mut dyn Guard) {
 
 fn deny_beats_grant_and_the_lowest_number_is_given(guard: &mut dyn Guard) {
     let mut office = Office::with_totals(guard);
-    office.ok(b'S', [0, 0, 0], "", 0);
     office.ok(b'L', [0, 2, 6], "R0", 3);
     office.ok(b'L', [0, 2, 4], "U0", 4);
     office.ok(b'A', [0, 2, 4], "", 3);
@@ -263,6 +286,7 @@ fn deny_beats_grant_and_the_lowest_number_is_given(guard: &mut dyn Guard) {
     office.no(b'A', [0, 2, 2], "", 15, 0);
 }
 
+/// Thread 1 edits while thread 0 has a call open.
 fn an_open_call_keeps_the_keys_that_it_handed_over(guard: &mut dyn Guard) {
     let mut office = Office::with_totals(guard);
     office.ok(b'K', [0, 0, 0], "", 0);
@@ -270,74 +294,75 @@ fn an_open_call_keeps_the_keys_that_it_handed_over(guard: &mut dyn Guard) {
     office.ok(b'G', [0, 0, 0], "", 2);
     office.ok(b'L', [0, 2, 2], "D0", 3);
     office.ok(b'L', [0, 2, 2], "D1", 4);
-    office.ok(b'S', [0, 0, 0], "", 0);
     office.no(b'A', [0, 2, 2], "", 15, 0);
     office.ok(b'C', [0, 0, 0], "", 0);
     office.ok(b'A', [0, 2, 2], "", 3);
-    office.ok(b'T', [0, 0, 0], "", 1);
-    office.ok(b'G', [0, 0, 1], "", 2);
+    office.ok(b'T', [1, 0, 0], "", 1);
+    office.ok(b'G', [1, 0, 1], "", 2);
     office.ok(b'A', [0, 2, 2], "", 3);
     office.ok(b'C', [0, 0, 0], "", 0);
-    office.ok(b'D', [0, 3, 0], "", 1);
+    office.ok(b'D', [1, 3, 0], "", 1);
     office.ok(b'A', [0, 2, 2], "", 4);
     office.ok(b'R', [0, 0, 0], "", 0);
     office.no(b'A', [0, 2, 2], "", 15, 0);
 }
 
+/// Thread 2 is another user's.
 fn identity_keys_are_a_threads_own(guard: &mut dyn Guard) {
     let mut office = Office::with_totals(guard);
     office.ok(b'U', [0, 0, 0], "", 1);
-    office.ok(b'S', [0, 0, 0], "", 0);
-    office.ok(b'S', [1, 0, 0], "", 1);
+    office.ok(b'S', [1, 0, 0], "", 2);
     office.ok(b'L', [0, 2, 2], "U1|R0", 3);
     office.ok(b'A', [0, 2, 2], "", 3);
-    office.ok(b'A', [1, 2, 2], "", 3);
+    office.no(b'A', [1, 2, 2], "", 15, 0);
+    office.ok(b'A', [2, 2, 2], "", 3);
     office.ok(b'E', [0, 0, 0], "", 0);
-    office.ok(b'S', [0, 0, 0], "", 2);
-    office.no(b'A', [2, 2, 2], "", 15, 0);
+    office.ok(b'S', [0, 0, 0], "", 3);
+    office.no(b'A', [3, 2, 2], "", 15, 0);
     // An ended thread's key may still be named, and nobody holds it.
-    office.ok(b'L', [0, 2, 4], "!R0", 4);
-    office.ok(b'A', [2, 2, 4], "", 4);
+    office.ok(b'L', [1, 2, 4], "!R0", 4);
+    office.ok(b'A', [3, 2, 4], "", 4);
     office.no(b'A', [0, 2, 4], "", 2, 0);
-    office.no(b'L', [0, 2, 4], "R3", 11, 0);
+    office.no(b'L', [1, 2, 4], "R4", 11, 0);
 }
 
 /// Each condition with the ones after it in the table true as well, where they
-/// can be.
+/// can be. Threads 0 and 1 are user 0's, thread 2 is user 1's, and thread 3 is
+/// none.
 fn the_first_condition_in_the_tables_order_refuses(guard: &mut dyn Guard) {
     let mut office = Office::with_totals(guard);
     office.ok(b'U', [0, 0, 0], "", 1);
-    office.ok(b'K', [0, 0, 0], "", 0);
-    office.ok(b'K', [1, 0, 0], "", 1);
-    office.ok(b'S', [0, 0, 0], "", 0);
+    office.ok(b'S', [1, 0, 0], "", 2);
+    office.ok(b'K', [1, 0, 0], "", 0);
+    office.ok(b'K', [2, 0, 0], "", 1);
     office.no(b'S', [2, 0, 0], "", 1, 0);
-    office.no(b'E', [1, 0, 0], "", 2, 0);
-    office.no(b'N', [2, 2, 0], "", 1, 0);
+    office.no(b'E', [3, 0, 0], "", 2, 0);
+    office.no(b'N', [3, 2, 0], "", 2, 0);
     office.no(b'N', [0, 2, 0], "", 7, 0);
-    office.no(b'K', [2, 0, 0], "", 1, 0);
+    office.no(b'K', [3, 0, 0], "", 2, 0);
 
-    office.no(b'G', [2, 3, 2], "", 1, 0);
-    office.no(b'G', [1, 3, 2], "", 3, 0);
-    office.no(b'G', [1, 0, 2], "", 4, 0);
+    office.no(b'G', [3, 3, 2], "", 2, 0);
+    office.no(b'G', [2, 3, 2], "", 3, 0);
+    office.no(b'G', [2, 0, 2], "", 4, 0);
+    office.no(b'G', [2, 0, 1], "", 6, 0);
     office.no(b'G', [1, 0, 1], "", 6, 0);
-    office.no(b'G', [0, 0, 1], "", 6, 0);
-    office.ok(b'G', [0, 0, 0], "", 2);
-    office.no(b'G', [0, 0, 0], "", 8, 0);
-    office.no(b'T', [2, 3, 2], "", 1, 0);
-    office.no(b'T', [1, 3, 2], "", 3, 0);
-    office.no(b'T', [1, 0, 2], "", 4, 0);
-    office.no(b'T', [1, 0, 1], "", 6, 0);
+    office.ok(b'G', [1, 0, 0], "", 2);
+    office.no(b'G', [1, 0, 0], "", 8, 0);
+    office.no(b'T', [3, 3, 2], "", 2, 0);
+    office.no(b'T', [2, 3, 2], "", 3, 0);
+    office.no(b'T', [2, 0, 2], "", 4, 0);
+    office.no(b'T', [2, 0, 1], "", 6, 0);
     // The key is another's, which matters to G alone.
-    office.no(b'T', [0, 0, 1], "", 9, 0);
+    office.no(b'T', [1, 0, 1], "", 9, 0);
 
-    office.no(b'L', [2, 3, 0], "", 1, 0);
-    office.no(b'L', [1, 3, 0], "", 3, 0);
-    office.no(b'L', [1, 0, 0], "", 6, 0);
+    office.no(b'L', [3, 3, 0], "", 2, 0);
+    office.no(b'L', [2, 3, 0], "", 3, 0);
+    office.no(b'L', [2, 0, 0], "", 6, 0);
     for operations in [0, 2, 3, 4, 5, 8, 10, 16, 17, 32_769] {
-        office.no(b'L', [0, 0, operations], "", 7, 0);
+        office.no(b'L', [1, 0, operations], "", 7, 0);
     }
     for operations in [0, 1, 3, 5, 7, 8, 9, 15, 16, 18, 32_770] {
-        office.no(b'L', [0, 2, operations], "", 7, 0);
+        office.no(b'L', [1, 2, operations], "", 7, 0);
     }
     office.no(b'L', [0, 0, 1], "", 11, 0);
     office.no(b'L', [0, 0, 1], "U0&S9", 11, 0);
@@ -345,21 +370,21 @@ fn the_first_condition_in_the_tables_order_refuses(guard: &mut dyn Guard) {
     office.ok(b'L', [0, 0, 1], &("!".repeat(MAX_TEXT_BYTES - 2) + "U0"), 3);
     office.no(b'L', [0, 0, 1], &("!".repeat(MAX_TEXT_BYTES) + "U0"), 11, 0);
 
-    office.no(b'D', [2, 9, 0], "", 1, 0);
-    office.no(b'D', [1, 9, 0], "", 5, 0);
-    office.no(b'D', [1, 0, 0], "", 6, 0);
+    office.no(b'D', [3, 9, 0], "", 2, 0);
+    office.no(b'D', [2, 9, 0], "", 5, 0);
+    office.no(b'D', [2, 0, 0], "", 6, 0);
 
-    office.no(b'C', [1, 3, 0], "", 2, 0);
+    office.no(b'C', [3, 3, 0], "", 2, 0);
     office.no(b'C', [0, 3, 0], "", 3, 0);
     office.no(b'C', [0, 2, 0], "", 7, 0);
-    office.no(b'A', [1, 3, 0], "", 2, 0);
+    office.no(b'A', [3, 3, 0], "", 2, 0);
     office.no(b'A', [0, 3, 0], "", 3, 0);
     for operation in [0, 1, 3, 5, 6, 8, 10, 12, 258] {
         office.no(b'A', [0, 2, operation], "", 7, 0);
     }
     office.no(b'A', [0, 0, 2], "", 7, 0);
     office.no(b'A', [0, 0, 1], "", 7, 0);
-    office.no(b'R', [1, 0, 0], "", 2, 0);
+    office.no(b'R', [3, 0, 0], "", 2, 0);
     office.no(b'R', [0, 0, 0], "", 9, 0);
 }
 
@@ -381,6 +406,6 @@ fn a_call_of_no_known_shape_comes_before_all_else(guard: &mut dyn Guard) {
         }
     }
     // All of L's fields are named, and it has a text.
-    office.no(b'L', [9, 9, 9], "", 1, 0);
+    office.no(b'L', [9, 9, 9], "", 2, 0);
     office.ok(b'U', [0, 0, 0], "", 0);
 }

@@ -14,9 +14,12 @@ pub fn hex(text: &str) -> Vec<u8> {
 /// A record and its bytes, both by hand.
 pub type Written = (u8, [u16; 3], &'static str, &'static str);
 
-/// The records of document 01's first worked example.
+/// The records of document 01's first worked example, as document 02's P4 leaves
+/// it.
 pub const OFFICE: [Written; 16] = [
     (b'U', [0, 0, 0], "", "55 00 00 00 00 00 00 00 00"),
+    (b'S', [0, 0, 0], "", "53 00 00 00 00 00 00 00 00"),
+    (b'S', [0, 0, 0], "", "53 00 00 00 00 00 00 00 00"),
     (b'N', [0, 0, 0], "", "4E 00 00 00 00 00 00 00 00"),
     (b'N', [0, 0, 0], "", "4E 00 00 00 00 00 00 00 00"),
     (b'N', [0, 1, 0], "", "4E 00 00 01 00 00 00 00 00"),
@@ -28,8 +31,6 @@ pub const OFFICE: [Written; 16] = [
         "S0&S1",
         "4C 00 00 02 00 04 00 05 00 53 30 26 53 31",
     ),
-    (b'S', [0, 0, 0], "", "53 00 00 00 00 00 00 00 00"),
-    (b'S', [0, 0, 0], "", "53 00 00 00 00 00 00 00 00"),
     (b'C', [0, 0, 0], "", "43 00 00 00 00 00 00 00 00"),
     (b'C', [0, 1, 0], "", "43 00 00 01 00 00 00 00 00"),
     (b'C', [1, 1, 0], "", "43 01 00 01 00 00 00 00 00"),
@@ -69,7 +70,7 @@ pub fn record(written: &Written) -> Record {
 /// The bytes of a file of these records, by the hand-written ones. Only the
 /// count, below 256, is put in.
 pub fn file(written: &[Written]) -> Vec<u8> {
-    let mut file = hex("4B 4C 44 01 00");
+    let mut file = hex("4B 4C 44 02 00");
     file.extend([written.len() as u8, 0]);
     file.extend(written.iter().flat_map(|(.., bytes)| hex(bytes)));
     file

@@ -13,28 +13,28 @@ const CALLS: [Call; Letter::ALL.len()] = [
     Call::StartThread { user: 258 },
     Call::EndThread { thread: 772 },
     Call::NewSegment {
-        user: 1_286,
+        thread: 1_286,
         kind: 1_800,
     },
-    Call::NewKey { user: 65_535 },
+    Call::NewKey { thread: 65_535 },
     Call::GiveKey {
-        user: 513,
+        thread: 513,
         segment: 1_027,
         key: 1_541,
     },
     Call::TakeKey {
-        user: 256,
+        thread: 256,
         segment: 512,
         key: 768,
     },
     Call::AddLock {
-        user: 255,
+        thread: 255,
         segment: 254,
         operations: 253,
         text: b"!",
     },
     Call::DropLock {
-        user: 32_768,
+        thread: 32_768,
         lock: 32_767,
     },
     Call::CallSegment {

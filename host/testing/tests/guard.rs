@@ -52,16 +52,16 @@ fn a_check_is_what_a_call_and_an_access_ask() {
     let mut guard = Guard::new();
     let calls: [(u8, [u16; 3], &[u8]); 7] = [
         (b'U', [0, 0, 0], b""),
+        (b'S', [0, 0, 0], b""),
         (b'N', [0, 0, 0], b""),
         (b'N', [0, 1, 0], b""),
         (b'L', [0, 0, 1], b"U0"),
         (b'L', [0, 1, 4], b"S0"),
-        (b'L', [0, 1, 12], b"S0&R0"),
-        (b'S', [0, 0, 0], b""),
+        (b'L', [0, 1, 12], b"S0&R1"),
     ];
-    // R0 is handed out by the last of them.
+    // R1 is not handed out.
     let accepted = calls.map(|(letter, [a, b, c], text)| guard.call(letter, a, b, c, text).is_ok());
-    assert_eq!(accepted, [true, true, true, true, true, false, true]);
+    assert_eq!(accepted, [true, true, true, true, true, true, false]);
     let asked = |guard: &Guard, segment, operation| {
         let thread = guard.thread(0).expect("it is live");
         let segment = guard.known_segment(segment).expect("it is there");

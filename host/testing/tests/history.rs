@@ -12,7 +12,7 @@ use reference::letter::Letter;
 use reference::limits::MAX_FRAMES;
 use reference::operations::{READ, WRITE};
 use std::collections::BTreeMap;
-use testing::calls::{Caller, WORLDS, World, call, outcomes};
+use testing::calls::{Caller, WORLDS, World, call, lock, outcomes};
 use testing::random::Random;
 
 const LISTS: usize = 600;
@@ -144,6 +144,69 @@ fn lists_of_every_world() {
     }
 }
 
+/// A list with an answer of each edit, by threads of which the first is user 1's
+/// and the second user 0's.
+#[test]
+fn the_history_takes_the_editor_from_the_thread() {
+    let edits = |thread| {
+        [
+            call(b'N', thread, 0, 0),
+            call(b'K', thread, 0, 0),
+            call(b'G', thread, 0, 1),
+            call(b'T', thread, 0, 0),
+            lock(thread, 0, 1, b"U0"),
+            call(b'D', thread, 0, 0),
+        ]
+    };
+    let mut history = History::new();
+    for record in edits(0) {
+        assert_eq!(history.answer(&record), None, "{record:?} without a thread");
+    }
+    for (record, answer) in [
+        (call(b'U', 0, 0, 0), 0),
+        (call(b'U', 0, 0, 0), 1),
+        (call(b'S', 1, 0, 0), 0),
+        (call(b'S', 0, 0, 0), 1),
+        (call(b'N', 1, 0, 0), 0),
+        (call(b'N', 0, 1, 0), 1),
+        (call(b'K', 1, 0, 0), 0),
+        (call(b'G', 1, 0, 0), 2),
+        (lock(1, 0, 1, b"U0|U1"), 0),
+    ] {
+        assert_eq!(history.answer(&record), Some(answer), "{record:?}");
+        history.feed(&record, Some(answer as u16));
+    }
+    let owner = |history: &History, segment| history.segment(segment).map(|of| of.owner);
+    assert_eq!(
+        [0, 1, 2].map(|n| history.editor(n)),
+        [Some(1), Some(0), None]
+    );
+    assert_eq!(
+        [0, 1, 2].map(|n| owner(&history, n)),
+        [Some(0), Some(1), None]
+    );
+    // Segments 0 and 1, D0 and lock 0, of two products, are there, and two keys
+    // are in the list.
+    let answers = edits(1).map(|record| history.answer(&record));
+    assert_eq!(
+        answers,
+        [Some(2), Some(1), Some(3), Some(1), Some(1), Some(2)]
+    );
+    history.feed(&call(b'E', 1, 0, 0), Some(0));
+    for record in [edits(1), edits(2)].as_flattened() {
+        assert_eq!(history.answer(record), None, "{record:?} by no live thread");
+    }
+    // User 0 stays the owner, with no thread and with a new one.
+    assert_eq!([0, 1].map(|n| owner(&history, n)), [Some(0), Some(1)]);
+    history.feed(&call(b'S', 0, 0, 0), Some(2));
+    assert_eq!(history.editor(2), Some(0));
+    history.feed(&call(b'N', 2, 0, 0), Some(2));
+    assert_eq!(
+        [0, 1, 2].map(|n| owner(&history, n)),
+        [Some(0), Some(1), Some(0)]
+    );
+}
+
 /// The history can tell a guard that is wrong: each of these answers is none
 /// that it would give.
 #[test]
@@ -151,12 +214,12 @@ fn the_history_knows_better() {
     let mut history = History::new();
     let accepted = [
         (call(b'U', 0, 0, 0), 0),
+        (call(b'S', 0, 0, 0), 0),
         (call(b'N', 0, 0, 0), 0),
         (call(b'N', 0, 1, 0), 1),
-        (testing::calls::lock(0, 0, 1, b"U0"), 0),
-        (testing::calls::lock(0, 1, 4, b"S0"), 1),
-        (testing::calls::lock(0, 1, 12, b"!S0"), 2),
-        (call(b'S', 0, 0, 0), 0),
+        (lock(0, 0, 1, b"U0"), 0),
+        (lock(0, 1, 4, b"S0"), 1),
+        (lock(0, 1, 12, b"!S0"), 2),
     ];
     for (record, answer) in accepted {
         assert_eq!(history.answer(&record), Some(answer));

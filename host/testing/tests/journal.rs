@@ -25,7 +25,7 @@ const NOT_JOURNAL: Refusal = Refusal::NotJournal;
 const OTHER_VERSION: Refusal = Refusal::OtherVersion;
 const CORRUPT: Refusal = Refusal::Corrupt;
 
-const EMPTY: &str = "4B 4C 44 01 00 00 00";
+const EMPTY: &str = "4B 4C 44 02 00 00 00";
 
 #[track_caller]
 fn readable(file: &[u8], records: &[Record]) {
@@ -73,7 +73,7 @@ fn every_letter_by_hand() {
 #[test]
 fn a_wrong_field_value_or_formula_is_no_fault_of_the_file() {
     readable(
-        &hex("4B 4C 44 01 00 03 00 \
+        &hex("4B 4C 44 02 00 03 00 \
              4E 09 00 02 00 00 00 00 00 \
              41 00 00 00 00 01 00 00 00 \
              4C 00 00 00 00 F0 FF 03 00 20 29 FF"),
@@ -91,42 +91,50 @@ fn mark_and_version() {
     refused("4B", NOT_JOURNAL);
     refused("4B 4C", NOT_JOURNAL);
     refused("4B 4C 45", NOT_JOURNAL);
-    refused("6B 6C 64 01 00 00 00", NOT_JOURNAL);
-    refused("4C 4B 44 01 00 00 00", NOT_JOURNAL);
-    refused("00 4B 4C 44 01 00 00 00", NOT_JOURNAL);
+    refused("6B 6C 64 02 00 00 00", NOT_JOURNAL);
+    refused("4C 4B 44 02 00 00 00", NOT_JOURNAL);
+    refused("00 4B 4C 44 02 00 00 00", NOT_JOURNAL);
     refused("4B 4C 44", CORRUPT);
-    refused("4B 4C 44 01", CORRUPT);
-    refused("4B 4C 44 02 00", CORRUPT);
+    refused("4B 4C 44 02", CORRUPT);
+    refused("4B 4C 44 01 00", CORRUPT);
+    refused("4B 4C 44 01 00 00", CORRUPT);
     refused("4B 4C 44 02 00 00", CORRUPT);
-    refused("4B 4C 44 02 00 00 00", OTHER_VERSION);
-    refused("4B 4C 44 00 00 00 00", OTHER_VERSION);
-    refused("4B 4C 44 00 01 00 00", OTHER_VERSION);
-    refused("4B 4C 44 01 01 00 00", OTHER_VERSION);
-    // Other version, and more: it comes before every fault of the records.
-    refused("4B 4C 44 02 00 01 00", OTHER_VERSION);
-    refused("4B 4C 44 02 00 00 00 FF", OTHER_VERSION);
+    for version in [
+        "01 00", "00 00", "03 00", "06 00", "82 00", "00 01", "01 01", "02 01", "00 02", "02 80",
+        "FF FF",
+    ] {
+        refused(&format!("4B 4C 44 {version} 00 00"), OTHER_VERSION);
+    }
+    // Other version, and more: it comes before every fault of the records, and a
+    // file that was readable in version 1 isn't.
+    refused("4B 4C 44 01 00 01 00", OTHER_VERSION);
+    refused("4B 4C 44 03 00 00 00 FF", OTHER_VERSION);
+    refused(
+        "4B 4C 44 01 00 01 00 55 00 00 00 00 00 00 00 00",
+        OTHER_VERSION,
+    );
     // Wrong mark, and more.
-    refused("4B 4C 00 02 00 FF FF FF", NOT_JOURNAL);
+    refused("4B 4C 00 01 00 FF FF FF", NOT_JOURNAL);
 }
 
 #[test]
 fn counts_and_ends() {
     // One record too few, and one too many.
-    refused("4B 4C 44 01 00 01 00", CORRUPT);
-    refused("4B 4C 44 01 00 00 00 55 00 00 00 00 00 00 00 00", CORRUPT);
-    refused("4B 4C 44 01 00 02 00 55 00 00 00 00 00 00 00 00", CORRUPT);
-    refused("4B 4C 44 01 00 01 01 55 00 00 00 00 00 00 00 00", CORRUPT);
-    refused("4B 4C 44 01 00 00 01", CORRUPT);
-    refused("4B 4C 44 01 00 00 80", CORRUPT);
-    refused("4B 4C 44 01 00 00 00 55", CORRUPT);
+    refused("4B 4C 44 02 00 01 00", CORRUPT);
+    refused("4B 4C 44 02 00 00 00 55 00 00 00 00 00 00 00 00", CORRUPT);
+    refused("4B 4C 44 02 00 02 00 55 00 00 00 00 00 00 00 00", CORRUPT);
+    refused("4B 4C 44 02 00 01 01 55 00 00 00 00 00 00 00 00", CORRUPT);
+    refused("4B 4C 44 02 00 00 01", CORRUPT);
+    refused("4B 4C 44 02 00 00 80", CORRUPT);
+    refused("4B 4C 44 02 00 00 00 55", CORRUPT);
     // Cut short in a record's head and in its text.
-    refused("4B 4C 44 01 00 01 00 55 00 00 00 00 00 00 00", CORRUPT);
+    refused("4B 4C 44 02 00 01 00 55 00 00 00 00 00 00 00", CORRUPT);
     refused(
-        "4B 4C 44 01 00 01 00 4C 00 00 00 00 01 00 02 00 55",
+        "4B 4C 44 02 00 01 00 4C 00 00 00 00 01 00 02 00 55",
         CORRUPT,
     );
     refused(
-        "4B 4C 44 01 00 01 00 4C 00 00 00 00 01 00 02 00 55 30 00",
+        "4B 4C 44 02 00 01 00 4C 00 00 00 00 01 00 02 00 55 30 00",
         CORRUPT,
     );
 }
@@ -198,7 +206,7 @@ fn length_limit() {
     refused_bytes(&file_of(MAX_JOURNAL_BYTES + 1), CORRUPT);
     // The version comes before the length, the mark before both.
     let mut other = file_of(MAX_JOURNAL_BYTES + 1);
-    other[4] = 1;
+    other[3] = 1;
     refused_bytes(&other, OTHER_VERSION);
     other[2] = b'd';
     refused_bytes(&other, NOT_JOURNAL);
@@ -207,7 +215,7 @@ fn length_limit() {
 
 #[test]
 fn steps() {
-    let file = hex("4B 4C 44 01 00 02 00 \
+    let file = hex("4B 4C 44 02 00 02 00 \
          4C 01 00 02 00 03 00 02 00 55 30 \
          52 05 00 00 00 00 00 00 00");
     let lock = Step::Record {
@@ -285,31 +293,31 @@ fn not_appended(buffer: &str, length: usize, record: &Record, refusal: Refusal) 
 fn appends() {
     let user = call(b'U', 0, 0, 0);
     let lock = record(b'L', 1, 258, 3, b"U0");
-    let one_more = "4B 4C 44 01 00 00 00 EE EE EE EE EE EE EE EE EE EE";
-    let exact = "4B 4C 44 01 00 00 00 EE EE EE EE EE EE EE EE EE";
-    let one_less = "4B 4C 44 01 00 00 00 EE EE EE EE EE EE EE EE";
+    let one_more = "4B 4C 44 02 00 00 00 EE EE EE EE EE EE EE EE EE EE";
+    let exact = "4B 4C 44 02 00 00 00 EE EE EE EE EE EE EE EE EE";
+    let one_less = "4B 4C 44 02 00 00 00 EE EE EE EE EE EE EE EE";
     appended(
         one_more,
         7,
         &user,
-        "4B 4C 44 01 00 01 00 55 00 00 00 00 00 00 00 00 EE",
+        "4B 4C 44 02 00 01 00 55 00 00 00 00 00 00 00 00 EE",
         16,
     );
     appended(
         exact,
         7,
         &user,
-        "4B 4C 44 01 00 01 00 55 00 00 00 00 00 00 00 00",
+        "4B 4C 44 02 00 01 00 55 00 00 00 00 00 00 00 00",
         16,
     );
     not_appended(one_less, 7, &user, FULL);
     not_appended(exact, 7, &lock, FULL);
     appended(
-        "4B 4C 44 01 00 01 00 55 00 00 00 00 00 00 00 00 \
+        "4B 4C 44 02 00 01 00 55 00 00 00 00 00 00 00 00 \
          EE EE EE EE EE EE EE EE EE EE EE EE",
         16,
         &lock,
-        "4B 4C 44 01 00 02 00 55 00 00 00 00 00 00 00 00 \
+        "4B 4C 44 02 00 02 00 55 00 00 00 00 00 00 00 00 \
          4C 01 00 02 01 03 00 02 00 55 30 EE",
         27,
     );
@@ -328,8 +336,8 @@ fn refused_appends_in_order() {
     not_appended("00 00 00", 3, &unfit, NOT_JOURNAL);
     not_appended(EMPTY, 2, &user, NOT_JOURNAL);
     not_appended(EMPTY, 6, &user, CORRUPT);
-    not_appended("4B 4C 44 02 00 00 00", 7, &unfit, OTHER_VERSION);
-    not_appended("4B 4C 44 01 00 01 00", 7, &user, CORRUPT);
+    not_appended("4B 4C 44 01 00 00 00", 7, &unfit, OTHER_VERSION);
+    not_appended("4B 4C 44 02 00 01 00", 7, &user, CORRUPT);
     // Then the record, before the room.
     not_appended(EMPTY, 7, &unfit, CORRUPT);
     not_appended(EMPTY, 7, &call(b'X', 0, 0, 0), CORRUPT);

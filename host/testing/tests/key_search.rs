@@ -66,23 +66,23 @@ impl Office {
         }
     }
 
-    /// Users 0 and 1. The first owns so many code segments, which both may call,
-    /// each by the lock with its number, and made so many keys. Threads 0 and 1
-    /// are his, thread 2 is the other's.
+    /// Users 0 and 1. Threads 0 and 1 are the first one's, thread 2 is the other's.
+    /// The first owns so many code segments, which both may call, each by the lock
+    /// with its number, and made so many keys. He edits by thread 1.
     fn with(segments: u16, keys: u16) -> Office {
         let mut office = Office::empty();
         office.ok(calls::call(b'U', 0, 0, 0), OWNER);
         office.ok(calls::call(b'U', 0, 0, 0), COLLEAGUE);
-        for segment in 0..segments {
-            office.ok(calls::call(b'N', OWNER, 0, 0), segment);
-            office.ok(calls::lock(OWNER, segment, 1, b"U0|U1"), segment);
-        }
-        for key in 0..keys {
-            office.ok(calls::call(b'K', OWNER, 0, 0), key);
-        }
         office.ok(calls::call(b'S', OWNER, 0, 0), FIRST);
         office.ok(calls::call(b'S', OWNER, 0, 0), SECOND);
         office.ok(calls::call(b'S', COLLEAGUE, 0, 0), COLLEAGUES);
+        for segment in 0..segments {
+            office.ok(calls::call(b'N', SECOND, 0, 0), segment);
+            office.ok(calls::lock(SECOND, segment, 1, b"U0|U1"), segment);
+        }
+        for key in 0..keys {
+            office.ok(calls::call(b'K', SECOND, 0, 0), key);
+        }
         office
     }
 
@@ -108,13 +108,13 @@ impl Office {
     /// A key into a segment's list, which then has so many.
     #[track_caller]
     fn give(&mut self, segment: u16, key: u16, keys: u16) {
-        self.ok(calls::call(b'G', OWNER, segment, key), keys);
+        self.ok(calls::call(b'G', SECOND, segment, key), keys);
     }
 
     /// A key out of a segment's list, which then has so many.
     #[track_caller]
     fn take(&mut self, segment: u16, key: u16, keys: u16) {
-        self.ok(calls::call(b'T', OWNER, segment, key), keys);
+        self.ok(calls::call(b'T', SECOND, segment, key), keys);
     }
 
     #[track_caller]
@@ -323,7 +323,7 @@ fn a_list_of_eight_keys_is_handed_over_whole() {
     for key in 0..7 {
         office.give(LOADER, key, key + 2);
     }
-    office.no(calls::call(b'G', OWNER, LOADER, 7), 10);
+    office.no(calls::call(b'G', SECOND, LOADER, 7), 10);
     office.call(FIRST, LOADER);
     let eight = [s(0), d(0), d(1), d(2), d(3), d(4), d(5), d(6)];
     office.finds(FIRST, 0, &eight);
@@ -346,10 +346,10 @@ fn a_list_of_eight_keys_is_handed_over_whole() {
 #[test]
 fn an_access_and_refused_calls_hand_nothing_over() {
     let mut office = Office::new();
-    office.ok(calls::call(b'N', OWNER, 1, 0), 3);
-    office.ok(calls::call(b'N', OWNER, 0, 0), 4);
-    office.ok(calls::lock(OWNER, REPORT, 9, b"S0"), 3);
-    office.ok(calls::lock(OWNER, 3, 2, b"U0"), 4);
+    office.ok(calls::call(b'N', SECOND, 1, 0), 3);
+    office.ok(calls::call(b'N', SECOND, 0, 0), 4);
+    office.ok(calls::lock(SECOND, REPORT, 9, b"S0"), 3);
+    office.ok(calls::lock(SECOND, 3, 2, b"U0"), 4);
     office.give(3, 0, 2);
     office.call(FIRST, LOADER);
     office.call(FIRST, RECALCULATION);
@@ -499,8 +499,8 @@ fn a_key_never_handed_out_is_none() {
 #[test]
 fn the_last_numbers_and_those_beyond() {
     let mut office = Office::with(64, 1_024);
-    office.no(calls::call(b'N', OWNER, 0, 0), 10);
-    office.no(calls::call(b'K', OWNER, 0, 0), 10);
+    office.no(calls::call(b'N', SECOND, 0, 0), 10);
+    office.no(calls::call(b'K', SECOND, 0, 0), 10);
     for (key, keys) in [0, 1, 36, 63, 64, 1_023].into_iter().zip(2..) {
         office.give(63, key, keys);
     }

@@ -15,6 +15,10 @@ const COLLEAGUE: u16 = 1;
 /// Not handed out.
 const STRANGER: u16 = 2;
 
+/// Their threads.
+const OWNERS_THREAD: u16 = 1;
+const COLLEAGUES_THREAD: u16 = 0;
+
 const CODE: u16 = 0;
 const SHEET: u16 = 1;
 /// Not handed out.
@@ -58,17 +62,20 @@ struct Office {
 }
 
 impl Office {
-    /// Users 0 and 1. The first owns code 0 and sheet 1 and made D0 to D3.
+    /// Users 0 and 1, with threads 1 and 0. The first owns code 0 and sheet 1 and
+    /// made D0 to D3.
     fn new() -> Office {
         let guard = Guard::new();
         let history = History::new();
         let mut office = Office { guard, history };
         office.ok(calls::call(b'U', 0, 0, 0), OWNER);
         office.ok(calls::call(b'U', 0, 0, 0), COLLEAGUE);
-        office.ok(calls::call(b'N', OWNER, 0, 0), CODE);
-        office.ok(calls::call(b'N', OWNER, 1, 0), SHEET);
+        office.ok(calls::call(b'S', COLLEAGUE, 0, 0), COLLEAGUES_THREAD);
+        office.ok(calls::call(b'S', OWNER, 0, 0), OWNERS_THREAD);
+        office.ok(calls::call(b'N', OWNERS_THREAD, 0, 0), CODE);
+        office.ok(calls::call(b'N', OWNERS_THREAD, 1, 0), SHEET);
         for key in 0..4 {
-            office.ok(calls::call(b'K', OWNER, 0, 0), key);
+            office.ok(calls::call(b'K', OWNERS_THREAD, 0, 0), key);
         }
         office
     }
@@ -91,13 +98,13 @@ impl Office {
 
     #[track_caller]
     fn lock(&mut self, segment: u16, operations: u16, text: &str, number: u16) {
-        let record = calls::lock(OWNER, segment, operations, text.as_bytes());
+        let record = calls::lock(OWNERS_THREAD, segment, operations, text.as_bytes());
         self.ok(record, number);
     }
 
     #[track_caller]
     fn drop_lock(&mut self, lock: u16, products: u16) {
-        self.ok(calls::call(b'D', OWNER, lock, 0), products);
+        self.ok(calls::call(b'D', OWNERS_THREAD, lock, 0), products);
     }
 
     /// A listing must fill these rows, with just as many lent or more, and leave
@@ -201,9 +208,9 @@ fn a_code_segments_locks_are_listed_too() {
 fn a_segment_has_its_own_locks_and_its_own_owner() {
     let mut office = Office::new();
     let theirs = 2;
-    office.ok(calls::call(b'N', COLLEAGUE, 1, 0), theirs);
+    office.ok(calls::call(b'N', COLLEAGUES_THREAD, 1, 0), theirs);
     office.lock(SHEET, 2, "U0", 0);
-    office.ok(calls::lock(COLLEAGUE, theirs, 4, b"U0|U1"), 1);
+    office.ok(calls::lock(COLLEAGUES_THREAD, theirs, 4, b"U0|U1"), 1);
     office.lock(CODE, 1, "U0", 2);
     office.lock(SHEET, 4, "U1", 3);
     let rows = [
@@ -297,7 +304,6 @@ fn an_empty_state_knows_no_user() {
 #[test]
 fn a_rows_keys_are_in_the_products_order() {
     let mut office = Office::new();
-    office.ok(calls::call(b'S', COLLEAGUE, 0, 0), 0);
     office.lock(SHEET, 2, "D3&!D1&S1&S0&!R0&U1", 0);
     let literals = [
         plain(User, 1),
@@ -309,8 +315,29 @@ fn a_rows_keys_are_in_the_products_order() {
     ];
     let rows = [grants(0, 2, &literals)];
     office.shows(OWNER, SHEET, &rows);
-    office.ok(calls::call(b'E', 0, 0, 0), 0);
+    office.ok(calls::call(b'E', COLLEAGUES_THREAD, 0, 0), 0);
     office.shows(OWNER, SHEET, &rows);
+}
+
+/// A listing names a user, who needs no thread for it.
+#[test]
+fn an_owner_without_a_thread_sees_his_products() {
+    let mut office = Office::with_three_locks();
+    office.ok(calls::call(b'E', OWNERS_THREAD, 0, 0), 0);
+    office.ok(calls::call(b'E', COLLEAGUES_THREAD, 0, 0), 0);
+    office.shows(
+        OWNER,
+        SHEET,
+        &[
+            grants(0, 4, &[plain(User, 1), plain(Segment, 0)]),
+            grants(1, 6, &[barred(Defined, 0), plain(Defined, 1)]),
+            grants(1, 6, &[plain(User, 0)]),
+            grants(2, 2, &[plain(Defined, 2)]),
+        ],
+    );
+    let rows = [grants(0, 4, &[]), grants(1, 6, &[]), grants(2, 2, &[])];
+    office.shows(COLLEAGUE, SHEET, &rows);
+    office.refuses(STRANGER, SHEET, 5, 1);
 }
 
 /// Eight products in one lock, and one in each of eight.

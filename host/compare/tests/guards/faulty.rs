@@ -22,14 +22,17 @@ pub enum Fault {
     KeysOfNext,
     /// D counts the open calls of every thread among the products removed.
     CountsOpenCalls,
+    /// U answers a number that is higher by the open calls of every thread.
+    NumbersByOpenCalls,
 }
 
 /// Those that show in what a thread is answered.
-pub const FAULTS: [Fault; 4] = [
+pub const FAULTS: [Fault; 5] = [
     Fault::ReturnsEverywhere,
     Fault::OneStack,
     Fault::KeysOfAll,
     Fault::KeysOfNext,
+    Fault::CountsOpenCalls,
 ];
 
 pub struct Faulty {
@@ -65,9 +68,10 @@ impl Faulty {
                     operation,
                 },
             ) if by_locks(answer) => self.check(&self.keys(thread), segment, operation),
-            (Fault::CountsOpenCalls, Call::DropLock { .. }) => {
+            (Fault::CountsOpenCalls, Call::DropLock { .. })
+            | (Fault::NumbersByOpenCalls, Call::NewUser) => {
                 let open = self.open_calls(self.history.live_threads()).count();
-                answer.map(|removed| removed + open as u16)
+                answer.map(|number| number + open as u16)
             }
             _ => answer,
         }

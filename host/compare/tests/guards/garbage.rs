@@ -52,10 +52,17 @@ fn aim(random: &mut Random, record: &mut Record, cells: &Cells) {
             *value = number(*value);
         }
     }
-    if letter.fields().starts_with(&[Field::User, Field::Segment]) && !random.one_in(4) {
-        // A segment has one owner among 65,536 numbers.
-        record.b %= MAX_SEGMENTS as u16;
-        record.a = cells.segments[usize::from(record.b)][0][0];
+    let is_of_a_segment = letter.is_edit() && letter.fields().contains(&Field::Segment);
+    if is_of_a_segment && !random.one_in(4) {
+        // A segment has one owner among 65,536 numbers, and a thread one user.
+        let [thread, user, ..] = cells.threads[random.below(MAX_LIVE_THREADS)][0];
+        record.a = thread;
+        let segments = 0..MAX_SEGMENTS as u16;
+        let owner = |segment: u16| cells.segments[usize::from(segment)][0][0];
+        let owned: Vec<u16> = segments.filter(|segment| owner(*segment) == user).collect();
+        if !owned.is_empty() {
+            record.b = random.pick(&owned);
+        }
     }
 }
 

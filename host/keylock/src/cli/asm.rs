@@ -19,8 +19,7 @@ pub fn asm(source: &Source, target: &Target) -> Result<Status, Failure> {
         let message = "no text, it begins with KLD: 'keylock dis' makes a journal a text";
         return Err(Failure::input(&name, message));
     }
-    let text = input::parse(&bytes);
-    let text = text.map_err(|mistakes| input::wrong(&name, &bytes, &mistakes))?;
+    let text = input::read_text(&name, &bytes)?;
     target.write(text.journal.as_bytes())?;
     Ok(Status::Success)
 }

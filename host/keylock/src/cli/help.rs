@@ -65,7 +65,11 @@ A text journal has one call a line: its letter, the fields that it names, for L
 the formula, and if you like the answer that 'keylock run' has to expect.
 
   # a comment runs to the end of the line
-{LETTERS}  A 0 2 4 -> no 15 0          expects a refusal; '-> ok 2' an answer
+{LETTERS}  A 0 2 4 -> no 15 0            expects a refusal; '-> ok 2' an answer
+
+N, K, G, T, L and D are edits: their thread makes them for its user, so an S
+comes before them. Where none above can have started an edit's thread, a note
+tells so on standard error: before version 2 of the journal edits named a user.
 
 A formula has keys, U0 R0 S0 D0, with ! & | and brackets, and no blanks. In
 quotes any text may stand, with \" \\ and \xHH; the guard refuses what is no

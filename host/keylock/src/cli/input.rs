@@ -2,9 +2,10 @@
 
 use super::failure::Failure;
 use super::mistakes;
-use super::output::Target;
+use super::output::{self, Target};
 use super::source::{Name, Source};
 use keylock::damage;
+use keylock::edits;
 use keylock::progress::Progress;
 use keylock::text::{self, Mistakes, Text};
 use rotundaaloe::journal::MARK;
@@ -32,14 +33,12 @@ impl Input {
                 text: None,
             });
         }
-        match parse(&bytes) {
-            Ok(text) => Ok(Input {
-                name,
-                journal: text.journal.clone(),
-                text: Some(text),
-            }),
-            Err(mistakes) => Err(wrong(&name, &bytes, &mistakes)),
-        }
+        let text = read_text(&name, &bytes)?;
+        Ok(Input {
+            name,
+            journal: text.journal.clone(),
+            text: Some(text),
+        })
     }
 
     /// The guard after the journal's calls on the empty state.
@@ -69,6 +68,16 @@ pub fn journal(name: &Name, bytes: &[u8]) -> Result<Journal, Failure> {
     journal.map_err(|refusal| Failure::input(name, damage::explain(bytes, refusal)))
 }
 
+/// The text of these bytes, or its mistakes. A note on an edit that names a thread
+/// which can't be there goes to standard error.
+pub fn read_text(name: &Name, bytes: &[u8]) -> Result<Text, Failure> {
+    let text = parse(bytes).map_err(|mistakes| wrong(name, bytes, &mistakes))?;
+    if let Some((line, note)) = edits::note(&text) {
+        output::complain(&format!("{name}:{line}: note: {note}\n"));
+    }
+    Ok(text)
+}
+
 /// The text of these bytes, with a progress line.
 pub fn parse(bytes: &[u8]) -> Result<Text, Mistakes> {
     let mut progress = Progress::new(text::lines(bytes).count(), "lines");
@@ -76,7 +85,7 @@ pub fn parse(bytes: &[u8]) -> Result<Text, Mistakes> {
 }
 
 /// Mistakes, where the bytes could have been either form.
-pub fn wrong(name: &Name, bytes: &[u8], mistakes: &Mistakes) -> Failure {
+fn wrong(name: &Name, bytes: &[u8], mistakes: &Mistakes) -> Failure {
     const NEITHER: &str = "neither a journal (16: no mark KLD) nor a text journal";
     if let Some(sign) = sign_of_no_text(bytes, mistakes) {
         return Failure::input(name, format!("{NEITHER}: {sign}"));

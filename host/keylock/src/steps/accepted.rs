@@ -32,9 +32,10 @@ pub fn reason(
         Call::NewSegment { .. } => {
             format!("A call of it hands over S{answer}. Without a lock nobody may call it.")
         }
-        Call::NewKey { user } => {
-            let user = state.said(user);
-            format!("Only {user} can give D{answer}, and only to segments of his own.")
+        Call::NewKey { thread } => {
+            let maker = state.editor(thread).map(|user| state.said(user));
+            let maker = maker.unwrap_or_default();
+            format!("Only {maker} can give D{answer}, and only to segments of his own.")
         }
         Call::GiveKey { segment, key, .. } => given(state, segment, key),
         Call::TakeKey { segment, key, .. } => taken(state, segment, key),

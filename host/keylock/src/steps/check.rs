@@ -145,9 +145,9 @@ mod tests {
     /// alike, and only the owner's lists differ.
     #[test]
     fn lists_that_differ_are_told_at_an_access() {
-        let mut teller = told("U\nN 0 1\nS 0\nL 0 0 2 U0\n");
+        let mut teller = told("U\nS 0\nN 0 1\nL 0 0 2 U0\n");
         assert_eq!(wrong(&mut teller, "A 0 0 2"), None);
-        teller.guard = told("U\nN 0 1\nS 0\nL 0 0 2 R0\n").guard;
+        teller.guard = told("U\nS 0\nN 0 1\nL 0 0 2 R0\n").guard;
         for access in ["A 0 0 2", "A 0 0 4", "A 9 0 2"] {
             let wrong = wrong(&mut teller, access).expect("lists that differ");
             assert!(wrong.starts_with("the locks say [LockRow "), "{wrong}");
@@ -157,7 +157,7 @@ mod tests {
 
     /// Two parts, each of which hands over its own key and D0, and a sheet that
     /// S0 and D0 open.
-    const PARTS: &str = "U\nN 0 0\nN 0 0\nN 0 1\nK 0\nG 0 0 0\nG 0 1 0\nS 0\n\
+    const PARTS: &str = "U\nS 0\nN 0 0\nN 0 0\nN 0 1\nK 0\nG 0 0 0\nG 0 1 0\n\
                          L 0 0 1 U0\nL 0 1 1 U0\nL 0 2 2 S0&D0\n";
 
     /// A guard whose open calls stand the other way round: it answers alike, and

@@ -37,7 +37,11 @@ impl Kept {
             return;
         };
         match call {
-            Call::NewKey { user } => self.makers.push(user),
+            Call::NewKey { thread } => {
+                let maker = self.user_of(thread);
+                self.makers
+                    .push(maker.expect("an accepted edit names a thread that was started"));
+            }
             Call::StartThread { user } => self.users.push(user),
             Call::AddLock { text, .. } => {
                 let products = formula::compile(text, issued);

@@ -3,11 +3,12 @@
 use super::judgement::Judgement;
 use super::shown_keys;
 use super::state::State;
+use crate::edits;
 use crate::figures::grouped;
 use crate::names::Thing;
 use crate::words::{self, capital};
 use crate::{shown, spelling};
-use rotundaaloe::{Call, Defined, Field, Lock, Operations, Record, Refusal, Segment, Thread, User};
+use rotundaaloe::{Call, Defined, Field, Operations, Record, Refusal, Segment, Thread, User};
 use rotundaaloe::{formula, limits};
 
 /// Asked before the call is taken in.
@@ -24,7 +25,7 @@ pub fn reason(
     let named = |field: Field| named(record, call, field);
     match refusal {
         Refusal::UnknownUser => none(User(named(Field::User)), issued.users, "user"),
-        Refusal::NoThread => no_thread(state, Thread(named(Field::Thread))),
+        Refusal::NoThread => no_thread(state, call, Thread(named(Field::Thread))),
         Refusal::NoSegment => none(Segment(named(Field::Segment)), issued.segments, "segment"),
         Refusal::NoKey => none(Defined(named(Field::Key)), issued.defined, "key"),
         Refusal::NoLock => no_lock(state, named(Field::Lock)),
@@ -60,12 +61,17 @@ fn none(thing: impl Into<Thing>, made: u32, noun: &str) -> String {
     format!("There is no {}: {}.", thing.into(), so_far(made, noun))
 }
 
-fn no_thread(state: &State, thread: Thread) -> String {
+fn no_thread(state: &State, call: Call, thread: Thread) -> String {
     let said = capital(&state.said(thread));
-    match u32::from(thread.0) < state.issued().threads {
-        true => format!("{said} has ended."),
-        false => format!("{said} was never started."),
-    }
+    let lack = match u32::from(thread.0) < state.issued().threads {
+        true => "has ended",
+        false => "was never started",
+    };
+    let needed = match edits::thread(call) {
+        Some(_) => " Only a live thread edits, for its user.",
+        None => "",
+    };
+    format!("{said} {lack}.{needed}")
 }
 
 fn no_lock(state: &State, lock: u16) -> String {
@@ -85,39 +91,37 @@ fn so_far(count: u32, thing: &str) -> String {
 
 /// Refusal 6. In a G the key's maker counts too.
 fn not_owner(state: &State, call: Call) -> String {
+    let Some(thread) = edits::thread(call) else {
+        return String::new();
+    };
+    let user = state.editor(thread);
+    let said = |user: Option<User>| user.map_or(String::new(), |user| state.said(user));
+    let editor = format!("{} edits for {}", state.said(thread), said(user));
     match call {
-        Call::GiveKey { user, segment, key } if state.owner(segment) == Some(user) => {
-            let maker = state.kept.maker(key).map(|maker| state.said(maker));
-            let (key, maker) = (capital(&state.said(key)), maker.unwrap_or_default());
-            format!("{key} was made by {maker}: only the maker gives it.")
+        Call::GiveKey { segment, key, .. } if state.owner(segment) == user => {
+            let (maker, key) = (said(state.kept.maker(key)), capital(&state.said(key)));
+            format!("{key} was made by {maker}, and {editor}. Only its maker gives a key.")
         }
         Call::GiveKey { segment, .. }
         | Call::TakeKey { segment, .. }
         | Call::AddLock { segment, .. } => {
-            let owner = state.owner(segment).map(|owner| state.said(owner));
-            let (segment, owner) = (capital(&state.said(segment)), owner.unwrap_or_default());
-            format!("{segment} belongs to {owner}.")
+            let (owner, segment) = (said(state.owner(segment)), capital(&state.said(segment)));
+            format!("{segment} belongs to {owner}, and {editor}.")
         }
-        Call::DropLock { lock, .. } => another_owners_lock(state, lock),
+        Call::DropLock { lock, .. } => {
+            let segment = state.standing(lock).map(|lock| Segment(lock.segment));
+            let owner = said(segment.and_then(|segment| state.owner(segment)));
+            let segment = segment.map_or(String::new(), |segment| state.said(segment));
+            format!(
+                "Lock {} is on {segment}, which belongs to {owner}, and {editor}.",
+                lock.0
+            )
+        }
         Call::NewUser | Call::NewSegment { .. } | Call::NewKey { .. } => String::new(),
         Call::StartThread { .. } | Call::EndThread { .. } | Call::ReturnCall { .. } => {
             String::new()
         }
         Call::CallSegment { .. } | Call::Access { .. } => String::new(),
-    }
-}
-
-fn another_owners_lock(state: &State, lock: Lock) -> String {
-    let segment = state
-        .standing(lock)
-        .map(|standing| Segment(standing.segment));
-    let owner = segment.and_then(|segment| state.owner(segment));
-    match (segment, owner) {
-        (Some(segment), Some(owner)) => {
-            let (segment, owner) = (state.said(segment), state.said(owner));
-            format!("Lock {} is on {segment}, which belongs to {owner}.", lock.0)
-        }
-        _ => String::new(),
     }
 }
 

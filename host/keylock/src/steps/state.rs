@@ -58,6 +58,11 @@ impl State {
         segment.is_some_and(|segment| segment.sheet)
     }
 
+    /// Who edits by a thread: its user, if it is live.
+    pub fn editor(&self, thread: Thread) -> Option<User> {
+        self.history.editor(thread.0).map(User)
+    }
+
     pub fn owner(&self, segment: Segment) -> Option<User> {
         let segment = self.history.segment(segment.0)?;
         Some(User(segment.owner))

@@ -100,7 +100,7 @@ fn long_words() {
 fn no_text_at_all() {
     let sign = "nor a text journal: line 1, column 1 is a NUL byte: no text has one\n";
     refused_by_all(&long(b"", b"\0", b""), sign);
-    let file = long(b"KLD\x01\0\xFF\xFF", b"\x8D\x01U\0", b"");
+    let file = long(b"KLD\x02\0\xFF\xFF", b"\x8D\x01U\0", b"");
     for command in ["run", "trace", "dis"] {
         let ran = limited(&[command], &file);
         let right = ": 8,388,608 bytes, over 65,535 (18 broken file)\n";

@@ -5,18 +5,18 @@ use std::io::Write;
 use std::path::{Path, PathBuf};
 use std::process::{Child, Command, Stdio};
 
-/// Document 01's first worked example, and what the office program prints for
-/// it.
+/// Document 01's first worked example, with document 02's P4, and what the office
+/// program prints for it.
 pub const TRIAL: &str = "\
 U
+S 0
+S 0
 N 0 0
 N 0 0
 N 0 1
 L 0 0 1 U0
 L 0 1 1 U0
 L 0 2 4 S0&S1
-S 0
-S 0
 C 0 0
 C 0 1
 C 1 1
@@ -27,14 +27,14 @@ A 0 2 4
 ";
 pub const OFFICE_LINES: &str = "\
 0 U ok 0
-1 N ok 0
-2 N ok 1
-3 N ok 2
-4 L ok 0
-5 L ok 1
-6 L ok 2
-7 S ok 0
-8 S ok 1
+1 S ok 0
+2 S ok 1
+3 N ok 0
+4 N ok 1
+5 N ok 2
+6 L ok 0
+7 L ok 1
+8 L ok 2
 9 C ok 0
 10 C ok 1
 11 C ok 1
@@ -45,7 +45,7 @@ pub const OFFICE_LINES: &str = "\
 ";
 
 /// The journal of a text with one U.
-pub const ONE_USER: &[u8] = b"KLD\x01\0\x01\0U\0\0\0\0\0\0\0\0";
+pub const ONE_USER: &[u8] = b"KLD\x02\0\x01\0U\0\0\0\0\0\0\0\0";
 
 /// What a run of the command left.
 pub struct Ran {

@@ -137,6 +137,6 @@ fn streams_that_do_not_matter() {
     let empty = shell("keylock asm 0<> /dev/null", directory.path());
     assert_eq!(
         (empty.output.as_slice(), empty.status),
-        (&b"KLD\x01\0\0\0"[..], 0)
+        (&b"KLD\x02\0\0\0"[..], 0)
     );
 }

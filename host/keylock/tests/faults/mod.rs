@@ -1,6 +1,6 @@
-//! Guards for the lessons: a small one that does what document 01 says of the
-//! calls that the lessons make, and the same with one of thirteen faults. It
-//! judges no owner, and of the limits only that of a thread's open calls.
+//! Guards for the lessons: a small one that does what documents 01 and 02 say of
+//! the calls that the lessons make, and the same with one of sixteen faults. Of the
+//! limits it judges only that of a thread's open calls.
 
 use reference::formula::{Literal, Product, compile};
 use reference::limits::MAX_FRAMES;
@@ -39,6 +39,12 @@ pub enum Fault {
     ChecksTheNext,
     /// Lesson 8: the limit is for the open calls of all threads together.
     SharesTheLimit,
+    /// Lesson 9: the user with the thread's number owns what the thread makes.
+    TakesTheThreadForTheOwner,
+    /// Lesson 9: a key is given by the thread that made it, and by no other.
+    TakesTheThreadForTheMaker,
+    /// Lesson 9: a thread that has ended edits for its user still.
+    LetsTheEndedEdit,
 }
 
 impl Fault {
@@ -66,10 +72,24 @@ impl Fault {
         Fault::ChecksTheNext,
         Fault::SharesTheLimit,
     ];
+
+    /// Those of lesson 9, in its order.
+    pub const WINDOWS: [Fault; 3] = [
+        Fault::TakesTheThreadForTheOwner,
+        Fault::TakesTheThreadForTheMaker,
+        Fault::LetsTheEndedEdit,
+    ];
 }
 
 /// An accepted answer, or a refusal's two numbers.
-pub type Answer = Result<u16, (u32, u16)>;
+pub type Answer = Result<u16, Refused>;
+type Refused = (u32, u16);
+
+struct Made {
+    owner: User,
+    /// The key list.
+    keys: Vec<Key>,
+}
 
 struct Standing {
     segment: Segment,
@@ -90,6 +110,7 @@ struct OpenCall {
 
 struct Running {
     user: User,
+    live: bool,
     /// The newest last.
     open_calls: Vec<OpenCall>,
     /// What a guard with a flat set of keys has.
@@ -100,9 +121,9 @@ struct Running {
 pub struct Guard {
     fault: Option<Fault>,
     users: u16,
-    keys: u16,
-    /// The key list of each segment.
-    lists: Vec<Vec<Key>>,
+    /// The thread that made each defined key.
+    makers: Vec<Thread>,
+    segments: Vec<Made>,
     locks_made: u16,
     standing: BTreeMap<u16, Standing>,
     threads: Vec<Running>,
@@ -126,25 +147,31 @@ impl Guard {
     pub fn call(&mut self, record: &Record) -> Answer {
         match Call::of(record).expect("a lesson makes calls") {
             Call::NewUser => Ok(next(&mut self.users)),
-            Call::NewKey { .. } => Ok(next(&mut self.keys)),
-            Call::NewSegment { .. } => Ok(self.new_segment()),
+            Call::NewKey { thread } => self.new_key(thread),
+            Call::NewSegment { thread, .. } => self.new_segment(thread),
             Call::StartThread { user } => Ok(self.start(user)),
             Call::EndThread { thread } => {
-                Ok(self.running(thread).open_calls.drain(..).count() as u16)
+                let ended = self.running(thread);
+                ended.live = false;
+                Ok(ended.open_calls.drain(..).count() as u16)
             }
-            Call::GiveKey { segment, key, .. } => {
-                let list = self.list(segment);
-                list.push(defined(key));
-                Ok(list.len() as u16)
-            }
-            Call::TakeKey { segment, key, .. } => Ok(self.take(segment, defined(key))),
+            Call::GiveKey {
+                thread,
+                segment,
+                key,
+            } => self.give(thread, segment, key),
+            Call::TakeKey {
+                thread,
+                segment,
+                key,
+            } => self.take(thread, segment, defined(key)),
             Call::AddLock {
+                thread,
                 segment,
                 operations,
                 text,
-                ..
-            } => Ok(self.add_lock(segment, operations, text)),
-            Call::DropLock { lock, .. } => Ok(self.drop_lock(lock)),
+            } => self.add_lock(thread, segment, operations, text),
+            Call::DropLock { thread, lock } => self.drop_lock(thread, lock),
             Call::CallSegment { thread, segment } => self.enter(thread, segment),
             Call::ReturnCall { thread } => self.leave(thread),
             Call::Access {
@@ -156,30 +183,80 @@ impl Guard {
     }
 
     fn list(&mut self, Segment(segment): Segment) -> &mut Vec<Key> {
-        &mut self.lists[usize::from(segment)]
+        &mut self.segments[usize::from(segment)].keys
     }
 
     fn running(&mut self, Thread(thread): Thread) -> &mut Running {
         &mut self.threads[usize::from(thread)]
     }
 
-    fn new_segment(&mut self) -> u16 {
-        let number = self.lists.len() as u16;
+    /// Who edits by a thread.
+    fn editor(&self, Thread(thread): Thread) -> Result<User, Refused> {
+        let running = &self.threads[usize::from(thread)];
+        match running.live || self.fault == Some(Fault::LetsTheEndedEdit) {
+            true => Ok(running.user),
+            false => Err((2, 0)),
+        }
+    }
+
+    fn must_own(&self, thread: Thread, Segment(segment): Segment) -> Result<(), Refused> {
+        let owner = self.segments[usize::from(segment)].owner;
+        match self.editor(thread)? == owner {
+            true => Ok(()),
+            false => Err((6, 0)),
+        }
+    }
+
+    fn has_made(&self, thread: Thread, Defined(key): Defined) -> bool {
+        let maker = self.makers[usize::from(key)];
+        let user = |Thread(thread): Thread| self.threads[usize::from(thread)].user;
+        match self.fault {
+            Some(Fault::TakesTheThreadForTheMaker) => maker == thread,
+            _ => user(maker) == user(thread),
+        }
+    }
+
+    fn new_key(&mut self, thread: Thread) -> Answer {
+        self.editor(thread)?;
+        self.makers.push(thread);
+        Ok(self.makers.len() as u16 - 1)
+    }
+
+    fn new_segment(&mut self, thread: Thread) -> Answer {
+        let editor = self.editor(thread)?;
+        let owner = match self.fault {
+            Some(Fault::TakesTheThreadForTheOwner) => User(thread.0),
+            _ => editor,
+        };
+        let number = self.segments.len() as u16;
         let kind = Kind::Segment;
-        self.lists.push(vec![Key { kind, number }]);
-        number
+        let keys = vec![Key { kind, number }];
+        self.segments.push(Made { owner, keys });
+        Ok(number)
     }
 
     fn start(&mut self, user: User) -> u16 {
         self.threads.push(Running {
             user,
+            live: true,
             open_calls: Vec::new(),
             flat: Vec::new(),
         });
         self.threads.len() as u16 - 1
     }
 
-    fn take(&mut self, segment: Segment, key: Key) -> u16 {
+    fn give(&mut self, thread: Thread, segment: Segment, key: Defined) -> Answer {
+        self.must_own(thread, segment)?;
+        if !self.has_made(thread, key) {
+            return Err((6, 0));
+        }
+        let list = self.list(segment);
+        list.push(defined(key));
+        Ok(list.len() as u16)
+    }
+
+    fn take(&mut self, thread: Thread, segment: Segment, key: Key) -> Answer {
+        self.must_own(thread, segment)?;
         self.list(segment).retain(|listed| *listed != key);
         if self.fault == Some(Fault::TakesFromOpenCalls) {
             for thread in &mut self.threads {
@@ -188,15 +265,22 @@ impl Guard {
                 }
             }
         }
-        self.list(segment).len() as u16
+        Ok(self.list(segment).len() as u16)
     }
 
-    fn add_lock(&mut self, segment: Segment, operations: Operations, text: &[u8]) -> u16 {
+    fn add_lock(
+        &mut self,
+        thread: Thread,
+        segment: Segment,
+        operations: Operations,
+        text: &[u8],
+    ) -> Answer {
+        self.must_own(thread, segment)?;
         let issued = Issued {
             users: u32::from(self.users),
             threads: self.threads.len() as u32,
-            segments: self.lists.len() as u32,
-            defined: u32::from(self.keys),
+            segments: self.segments.len() as u32,
+            defined: self.makers.len() as u32,
         };
         let lock = Standing {
             segment,
@@ -205,15 +289,18 @@ impl Guard {
         };
         let number = next(&mut self.locks_made);
         self.standing.insert(number, lock);
-        number
+        Ok(number)
     }
 
-    fn drop_lock(&mut self, Lock(number): Lock) -> u16 {
-        let products = self.standing[&number].products.len();
+    fn drop_lock(&mut self, thread: Thread, Lock(number): Lock) -> Answer {
+        self.editor(thread)?;
+        let lock = self.standing.get(&number).ok_or((5, 0))?;
+        self.must_own(thread, lock.segment)?;
+        let products = lock.products.len();
         if self.fault != Some(Fault::GrantsOnADroppedLock) {
             self.standing.remove(&number);
         }
-        products as u16
+        Ok(products as u16)
     }
 
     fn enter(&mut self, thread: Thread, segment: Segment) -> Answer {

@@ -3,20 +3,20 @@
 use keylock::steps::{self, Entry, Step};
 use rotundaaloe::Record;
 
-/// Document 01's first worked example.
-pub const ROUTE: &str = "U; N 0 0; N 0 0; N 0 1; L 0 0 1 U0; L 0 1 1 U0; L 0 2 4 S0&S1; \
-     S 0; S 0; C 0 0; C 0 1; C 1 1; A 0 2 4; A 1 2 4; R 0; A 0 2 4";
+/// Document 01's first worked example, with document 02's P4.
+pub const ROUTE: &str = "U; S 0; S 0; N 0 0; N 0 0; N 0 1; L 0 0 1 U0; L 0 1 1 U0; \
+     L 0 2 4 S0&S1; C 0 0; C 0 1; C 1 1; A 0 2 4; A 1 2 4; R 0; A 0 2 4";
 
 /// The same with names for some things.
 pub fn named_route() -> Vec<Entry<'static>> {
     let mut entries = entries(ROUTE);
     for (place, note) in [
         (0, "user 0, the office"),
-        (1, "segment 0, the rate loader"),
-        (2, "should be refused later!"),
-        (3, "segment 2: the totals sheet"),
-        (7, "thread 1, of the wrong number"),
-        (8, "thread 1, the February closing"),
+        (1, "thread 1, of the wrong number"),
+        (2, "thread 1, the February closing"),
+        (3, "segment 0, the rate loader"),
+        (4, "should be refused later!"),
+        (5, "segment 2: the totals sheet"),
     ] {
         entries[place].note = Some(note.to_string());
     }
@@ -27,7 +27,7 @@ pub fn named_route() -> Vec<Entry<'static>> {
 /// thread with 16 open calls that handed over 8 keys each accesses a sheet with
 /// 8 products of 6 keys, all of them shut.
 pub fn fullest() -> String {
-    let mut calls = vec!["U".to_string()];
+    let mut calls = ["U", "S 0"].map(str::to_string).to_vec();
     let mut add = |call: String| calls.push(call);
     (0..16).for_each(|_| add("N 0 0".to_string()));
     add("N 0 1".to_string());
@@ -42,7 +42,6 @@ pub fn fullest() -> String {
             .collect();
         add(format!("L 0 16 4 {}", keys.join("&")));
     }
-    add("S 0".to_string());
     (0..16).for_each(|segment| add(format!("C 0 {segment}")));
     let mut bytes: usize = 7 + calls
         .iter()

@@ -19,9 +19,9 @@ static void make_sheet(void)
 {
     rotundaaloe_empty(&state);
     HOLDS(rotundaaloe_new_user(&state, NULL) == ROTUNDAALOE_ACCEPTED);
+    HOLDS(rotundaaloe_start_thread(&state, 0, NULL) == ROTUNDAALOE_ACCEPTED);
+    HOLDS(rotundaaloe_start_thread(&state, 0, NULL) == ROTUNDAALOE_ACCEPTED);
     HOLDS(rotundaaloe_new_segment(&state, 0, ROTUNDAALOE_SHEET, NULL) == ROTUNDAALOE_ACCEPTED);
-    HOLDS(rotundaaloe_start_thread(&state, 0, NULL) == ROTUNDAALOE_ACCEPTED);
-    HOLDS(rotundaaloe_start_thread(&state, 0, NULL) == ROTUNDAALOE_ACCEPTED);
     HOLDS(rotundaaloe_add_lock(&state, 0, 0, ROTUNDAALOE_WRITE, "U0", NULL) == 0);
     HOLDS(rotundaaloe_add_lock(&state, 0, 0, ROTUNDAALOE_WRITE | ROTUNDAALOE_DENY, "R1", NULL)
           == 0);
@@ -48,6 +48,49 @@ static void answers_and_refusals(void)
     HOLDS(rotundaaloe_add_lock(&state, 0, 0, ROTUNDAALOE_READ, NULL, NULL)
           == ROTUNDAALOE_MALFORMED);
     HOLDS(rotundaaloe_add_lock(&state, 0, 0, ROTUNDAALOE_READ, "", NULL) == ROTUNDAALOE_MALFORMED);
+}
+
+/* The six edits by a thread, which must all be refused, each with the same. */
+static void no_edit(uint16_t thread, unsigned refusal)
+{
+    uint16_t answer = 77;
+    HOLDS(rotundaaloe_new_segment(&state, thread, 2, &answer) == refusal);
+    HOLDS(rotundaaloe_new_key(&state, thread, &answer) == refusal);
+    HOLDS(rotundaaloe_give_key(&state, thread, 9, 9, &answer) == refusal);
+    HOLDS(rotundaaloe_take_key(&state, thread, 9, 9, &answer) == refusal);
+    HOLDS(rotundaaloe_add_lock(&state, thread, 9, 0, "", &answer) == refusal);
+    HOLDS(rotundaaloe_drop_lock(&state, thread, 9, &answer) == refusal);
+    HOLDS(answer == 77);
+}
+
+/*
+ * Document 02, P4: who edits is the thread's user. User 1 has threads 0 and 2, user 0 thread 1, so
+ * no thread has its user's number.
+ */
+static void editors(void)
+{
+    const uint16_t users[3] = {1, 0, 1};
+    uint16_t answer = 77;
+    rotundaaloe_empty(&state);
+    no_edit(0, ROTUNDAALOE_NO_THREAD);
+    HOLDS(rotundaaloe_new_user(&state, NULL) == 0 && rotundaaloe_new_user(&state, NULL) == 0);
+    no_edit(0, ROTUNDAALOE_NO_THREAD);
+    for (uint16_t thread = 0; thread < 3; thread++)
+        HOLDS(rotundaaloe_start_thread(&state, users[thread], NULL) == ROTUNDAALOE_ACCEPTED);
+    no_edit(3, ROTUNDAALOE_NO_THREAD);
+    HOLDS(rotundaaloe_new_segment(&state, 0, ROTUNDAALOE_SHEET, NULL) == ROTUNDAALOE_ACCEPTED);
+    HOLDS(rotundaaloe_new_key(&state, 0, NULL) == ROTUNDAALOE_ACCEPTED);
+    HOLDS(rotundaaloe_end_thread(&state, 0, NULL) == ROTUNDAALOE_ACCEPTED);
+    no_edit(0, ROTUNDAALOE_NO_THREAD);
+    HOLDS(rotundaaloe_give_key(&state, 1, 0, 0, NULL) == ROTUNDAALOE_NOT_OWNER);
+    HOLDS(rotundaaloe_give_key(&state, 2, 0, 0, &answer) == ROTUNDAALOE_ACCEPTED && answer == 2);
+    HOLDS(rotundaaloe_take_key(&state, 1, 0, 0, NULL) == ROTUNDAALOE_NOT_OWNER);
+    HOLDS(rotundaaloe_take_key(&state, 2, 0, 0, &answer) == ROTUNDAALOE_ACCEPTED && answer == 1);
+    HOLDS(rotundaaloe_add_lock(&state, 1, 0, ROTUNDAALOE_READ, "U0", NULL)
+          == ROTUNDAALOE_NOT_OWNER);
+    HOLDS(rotundaaloe_add_lock(&state, 2, 0, ROTUNDAALOE_READ, "U0", &answer) == 0 && answer == 0);
+    HOLDS(rotundaaloe_drop_lock(&state, 1, 0, NULL) == ROTUNDAALOE_NOT_OWNER);
+    HOLDS(rotundaaloe_drop_lock(&state, 2, 0, &answer) == ROTUNDAALOE_ACCEPTED && answer == 1);
 }
 
 static void records_of_no_call(void)
@@ -112,12 +155,12 @@ static void formulas(void)
     rotundaaloe_empty(&state);
     HOLDS(compiled("U0") == 111);
     HOLDS(rotundaaloe_new_user(&state, NULL) == ROTUNDAALOE_ACCEPTED);
+    HOLDS(compiled("U0") == 1 && compiled("R0") == 111 && compiled("S0") == 111);
+    HOLDS(rotundaaloe_start_thread(&state, 0, NULL) == ROTUNDAALOE_ACCEPTED);
+    HOLDS(compiled("R0") == 1 && compiled("S0") == 111 && compiled("D0") == 111);
     for (int keys = 0; keys < 9; keys++)
         HOLDS(rotundaaloe_new_key(&state, 0, NULL) == ROTUNDAALOE_ACCEPTED);
-    HOLDS(compiled("U0") == 1 && compiled("R0") == 111 && compiled("S0") == 111);
-    HOLDS(compiled("D8") == 1 && compiled("D9") == 111);
-    HOLDS(rotundaaloe_start_thread(&state, 0, NULL) == ROTUNDAALOE_ACCEPTED);
-    HOLDS(compiled("R0") == 1 && compiled("S0") == 111);
+    HOLDS(compiled("D8") == 1 && compiled("D9") == 111 && compiled("S0") == 111);
     HOLDS(rotundaaloe_new_segment(&state, 0, ROTUNDAALOE_CODE, NULL) == ROTUNDAALOE_ACCEPTED);
     HOLDS(compiled("S0") == 1 && compiled("S1") == 111);
     HOLDS(compiled("D0&!D0") == 113 && compiled("(D0&!D0)|D1") == 1 && compiled("D0|D0&D1") == 2);
@@ -184,7 +227,7 @@ static void full_journal(void)
     struct rotundaaloe_record wrong = record;
     HOLDS(rotundaaloe_journal_append(&journal, &record) == ROTUNDAALOE_NOT_JOURNAL);
     rotundaaloe_journal_empty(&journal);
-    HOLDS(journal.size == 7 && memcmp(journal.bytes, "KLD\1\0\0\0", 7) == 0);
+    HOLDS(journal.size == 7 && memcmp(journal.bytes, "KLD\2\0\0\0", 7) == 0);
     wrong.b = 1;
     HOLDS(rotundaaloe_journal_append(&journal, &wrong) == ROTUNDAALOE_CORRUPT);
     for (int place = 0; place < 7280; place++)
@@ -202,13 +245,15 @@ static void full_journal(void)
 
 static void readers(void)
 {
-    static const char file[] = "KLD\1\0\1\0L\1\0\2\0\3\0\2\0U0";
-    static const char empty[] = "KLD\1\0\0\0";
+    static const char file[] = "KLD\2\0\1\0L\1\0\2\0\3\0\2\0U0";
+    static const char empty[] = "KLD\2\0\0\0";
+    static const char older[] = "KLD\1\0\0\0";
     struct rotundaaloe_reader reader = {NULL, 5, 6};
     struct rotundaaloe_record record = rotundaaloe_record_new_user();
     bool found = true;
     HOLDS(rotundaaloe_reader_open(&reader, NULL, 9) == ROTUNDAALOE_NOT_JOURNAL);
     HOLDS(rotundaaloe_reader_open(&reader, (const uint8_t *)file, 17) == ROTUNDAALOE_CORRUPT);
+    HOLDS(rotundaaloe_reader_open(&reader, (const uint8_t *)older, 7) == ROTUNDAALOE_OTHER_VERSION);
     HOLDS(reader.file == NULL && reader.length == 5 && reader.cursor == 6);
     HOLDS(rotundaaloe_reader_open(&reader, (const uint8_t *)empty, 7) == ROTUNDAALOE_ACCEPTED);
     HOLDS(rotundaaloe_reader_next(&reader, &record, &found) == ROTUNDAALOE_ACCEPTED);
@@ -236,6 +281,7 @@ static void words(void)
 int main(void)
 {
     answers_and_refusals();
+    editors();
     records_of_no_call();
     texts_of_records();
     formulas();

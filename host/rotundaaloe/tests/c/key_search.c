@@ -25,7 +25,7 @@ static void call(uint16_t segment)
 
 static void give(uint16_t segment, uint16_t key)
 {
-    HOLDS(rotundaaloe_give_key(&state, 0, segment, key, NULL) == ROTUNDAALOE_ACCEPTED);
+    HOLDS(rotundaaloe_give_key(&state, IDLE, segment, key, NULL) == ROTUNDAALOE_ACCEPTED);
 }
 
 /* Three parts and a sheet. Two parts hand over D0, the second of them D1 too; the sheet has D2. */
@@ -33,19 +33,19 @@ static void make_office(void)
 {
     rotundaaloe_empty(&state);
     HOLDS(rotundaaloe_new_user(&state, NULL) == 0);
+    HOLDS(rotundaaloe_start_thread(&state, 0, NULL) == 0);
+    HOLDS(rotundaaloe_start_thread(&state, 0, NULL) == 0);
     for (uint16_t segment = LOADER; segment <= AUDIT; segment++) {
-        HOLDS(rotundaaloe_new_segment(&state, 0, ROTUNDAALOE_CODE, NULL) == 0);
-        HOLDS(rotundaaloe_add_lock(&state, 0, segment, ROTUNDAALOE_EXECUTE, "U0", NULL) == 0);
+        HOLDS(rotundaaloe_new_segment(&state, IDLE, ROTUNDAALOE_CODE, NULL) == 0);
+        HOLDS(rotundaaloe_add_lock(&state, IDLE, segment, ROTUNDAALOE_EXECUTE, "U0", NULL) == 0);
     }
-    HOLDS(rotundaaloe_new_segment(&state, 0, ROTUNDAALOE_SHEET, NULL) == 0);
+    HOLDS(rotundaaloe_new_segment(&state, IDLE, ROTUNDAALOE_SHEET, NULL) == 0);
     for (int key = 0; key < 3; key++)
-        HOLDS(rotundaaloe_new_key(&state, 0, NULL) == 0);
+        HOLDS(rotundaaloe_new_key(&state, IDLE, NULL) == 0);
     give(LOADER, 0);
     give(RECALCULATION, 0);
     give(RECALCULATION, 1);
     give(SHEET, 2);
-    HOLDS(rotundaaloe_start_thread(&state, 0, NULL) == 0);
-    HOLDS(rotundaaloe_start_thread(&state, 0, NULL) == 0);
 }
 
 /* The busy thread's open calls are then, the newest first: S0 D0, S2, S1 D0 D1, S0 D0. */

@@ -13,6 +13,8 @@
     } while (0)
 
 enum { OWNER, COLLEAGUE, STRANGER };
+/* The colleague's thread, and the owner's. */
+enum { VISITOR, EDITOR };
 enum { CODE, SHEET, NOWHERE };
 
 /* One row more than a list ever needs. */
@@ -24,7 +26,7 @@ static uint16_t filled;
 
 static void lock(uint16_t operations, const char *text)
 {
-    HOLDS(rotundaaloe_add_lock(&state, OWNER, SHEET, operations, text, NULL) == 0);
+    HOLDS(rotundaaloe_add_lock(&state, EDITOR, SHEET, operations, text, NULL) == 0);
 }
 
 /* The owner has code and a sheet, with lock 0 of one product, lock 1 of two and deny lock 2. */
@@ -32,10 +34,11 @@ static void make_office(void)
 {
     rotundaaloe_empty(&state);
     HOLDS(rotundaaloe_new_user(&state, NULL) == 0 && rotundaaloe_new_user(&state, NULL) == 0);
-    HOLDS(rotundaaloe_new_segment(&state, OWNER, ROTUNDAALOE_CODE, NULL) == 0);
-    HOLDS(rotundaaloe_new_segment(&state, OWNER, ROTUNDAALOE_SHEET, NULL) == 0);
     HOLDS(rotundaaloe_start_thread(&state, COLLEAGUE, NULL) == 0);
-    HOLDS(rotundaaloe_new_key(&state, OWNER, NULL) == 0);
+    HOLDS(rotundaaloe_start_thread(&state, OWNER, NULL) == 0);
+    HOLDS(rotundaaloe_new_segment(&state, EDITOR, ROTUNDAALOE_CODE, NULL) == 0);
+    HOLDS(rotundaaloe_new_segment(&state, EDITOR, ROTUNDAALOE_SHEET, NULL) == 0);
+    HOLDS(rotundaaloe_new_key(&state, EDITOR, NULL) == 0);
     lock(ROTUNDAALOE_WRITE, "D0&S1&S0&!R0&U1&!U0");
     lock(ROTUNDAALOE_READ | ROTUNDAALOE_WRITE, "S1&!D0|U0");
     lock(ROTUNDAALOE_READ | ROTUNDAALOE_DENY, "R0");

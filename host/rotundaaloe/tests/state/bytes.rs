@@ -4,7 +4,7 @@ use crate::files::Directory;
 use rotundaaloe::raw::Cells;
 use rotundaaloe::refusal::Load;
 use rotundaaloe::state::{FILE_BYTES, LoadError};
-use rotundaaloe::{Access, Defined, Guard, Journal, Kind, Operations, Segment, User};
+use rotundaaloe::{Access, Defined, Guard, Journal, Kind, Operations, Segment, Thread, User};
 use std::fs;
 
 /// Where the parts of a file start: mark, layout, length, cells, checksum.
@@ -71,16 +71,16 @@ fn drawn(mut seed: u64) -> Guard {
 fn full() -> Guard {
     let mut guard = Guard::new();
     while guard.new_user().is_ok() {}
-    let owner = User(0);
-    while guard.new_key(owner).is_ok() {}
-    while guard.start_thread(owner).is_ok() {}
-    while let Ok(segment) = guard.new_segment(owner, Kind::Code) {
+    while guard.start_thread(User(0)).is_ok() {}
+    let editor = Thread(63);
+    while guard.new_key(editor).is_ok() {}
+    while let Ok(segment) = guard.new_segment(editor, Kind::Code) {
         for key in 0..7 {
-            guard.give_key(owner, segment, Defined(key)).unwrap();
+            guard.give_key(editor, segment, Defined(key)).unwrap();
         }
         let text = "U0|U1|U2|U3|U4|U5|U6|R63&!D1023";
         guard
-            .add_lock(owner, segment, Operations::EXECUTE, text)
+            .add_lock(editor, segment, Operations::EXECUTE, text)
             .unwrap();
     }
     for thread in guard.threads() {
@@ -142,13 +142,16 @@ fn a_state_that_was_loaded_goes_on() {
     let file = directory.file("state");
     let mut guard = Guard::new();
     let user = guard.new_user().unwrap();
-    let sheet = guard.new_segment(user, Kind::Sheet).unwrap();
-    let lock = guard.add_lock(user, sheet, Operations::READ, "U0").unwrap();
     let thread = guard.start_thread(user).unwrap();
+    let sheet = guard.new_segment(thread, Kind::Sheet).unwrap();
+    let lock = guard.add_lock(thread, sheet, Operations::READ, "U0");
+    let lock = lock.unwrap();
     guard.save(&file).unwrap();
-    let loaded = Guard::load(&file).unwrap();
+    let mut loaded = Guard::load(&file).unwrap();
     assert!(loaded == guard);
     assert_eq!(loaded.access(thread, sheet, Access::Read), Ok(lock));
+    // Its thread edits, as before.
+    assert_eq!(loaded.drop_lock(thread, lock), Ok(1));
 }
 
 /// What a change of the byte at this place is refused with.

@@ -1,12 +1,15 @@
 //! The values of a call's fields: mostly what the call needs, now and then one
 //! beside it.
 
-use super::{Caller, Segment};
+use super::{Caller, Segment, Thread};
 use reference::limits::MAX_LIVE_THREADS;
 use reference::operations::{DENY, EXECUTE, READ, WRITE};
 
 /// How many threads further on one would stand at the same place.
 const PLACES: u16 = MAX_LIVE_THREADS as u16;
+/// One in this many edits is by any live thread, one in as many by a thread that
+/// ended, and one in as many keys that are given is anyone's.
+const OTHERS_SHARE: usize = 16;
 
 impl Caller<'_> {
     /// The right value, or now and then one beside it: around `count`, around a
@@ -33,9 +36,42 @@ impl Caller<'_> {
     pub(crate) fn thread(&mut self) -> u16 {
         let thread = match self.live.as_slice() {
             [] => 0,
-            live => self.random.pick(live),
+            live => self.random.pick(live).number,
         };
         self.or_stray(thread, self.threads_started)
+    }
+
+    /// The user of a live thread.
+    pub(super) fn user_of(&self, thread: u16) -> Option<u16> {
+        let thread = self.live.iter().find(|live| live.number == thread);
+        thread.map(|thread| thread.user)
+    }
+
+    /// A thread to edit by, whoever's it is.
+    pub(super) fn editor(&mut self) -> u16 {
+        self.editor_among(|_| true)
+    }
+
+    /// A thread to edit the segment by: any of its owner's, if one is live.
+    pub(super) fn editor_of(&mut self, segment: u16) -> u16 {
+        let owner = self.segments.get(usize::from(segment));
+        let owner = owner.map(|segment| segment.owner);
+        self.editor_among(|thread| Some(thread.user) == owner)
+    }
+
+    fn editor_among(&mut self, suits: impl Fn(&Thread) -> bool) -> u16 {
+        let threads: Vec<Thread> = match self.random.below(OTHERS_SHARE) {
+            0 => self.ended.clone(),
+            1 => self.live.clone(),
+            _ => self.live.iter().copied().filter(suits).collect(),
+        };
+        match threads.as_slice() {
+            [] => self.thread(),
+            threads => {
+                let thread = self.random.pick(threads).number;
+                self.or_stray(thread, self.threads_started)
+            }
+        }
     }
 
     /// A segment, of this kind if there is one.
@@ -51,23 +87,23 @@ impl Caller<'_> {
         self.or_stray(segment.unwrap_or(start) as u16, count)
     }
 
-    pub(super) fn owner(&mut self, segment: u16) -> u16 {
-        let owner = self.segments.get(usize::from(segment));
-        let owner = owner.map_or(0, |segment| segment.owner);
-        self.or_stray(owner, self.users)
-    }
-
-    /// A key that the user made, if there is one near a random place.
-    pub(super) fn key_of(&mut self, user: u16) -> u16 {
+    /// A key that the thread's user made, if there is one near a random place; now
+    /// and then anyone's.
+    pub(super) fn key_of(&mut self, thread: u16) -> u16 {
         let count = self.makers.len();
         if count == 0 {
             return 0;
         }
+        let maker = self.user_of(thread);
         let start = self.random.below(count);
         let key = (0..count.min(40))
             .map(|step| (start + step) % count)
-            .find(|place| self.makers[*place] == user);
-        self.or_stray(key.unwrap_or(start) as u16, count)
+            .find(|place| Some(self.makers[*place]) == maker);
+        let key = match self.random.below(OTHERS_SHARE) {
+            0 => start,
+            _ => key.unwrap_or(start),
+        };
+        self.or_stray(key as u16, count)
     }
 
     /// A key that is in the segment's list, if there is one.

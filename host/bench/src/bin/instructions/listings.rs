@@ -32,6 +32,9 @@ const OWNER: u16 = 0;
 const COLLEAGUE: u16 = 1;
 const NO_USER: u16 = 2;
 
+/// The owner's thread.
+const EDITOR: u16 = 0;
+
 const UNLOCKED: u16 = 0;
 const ONE_PRODUCT: u16 = 1;
 const EIGHT_LOCKS: u16 = 2;
@@ -72,9 +75,10 @@ const fn listing(user: u16, segment: u16, lent: usize, outcome: Outcome) -> List
 /// Both guards with two users and the sheets. D0 to D5 are made.
 fn stage() -> Stage {
     let mut calls = vec![call(b'U', 0, 0, 0); 2];
-    calls.extend(vec![call(b'K', OWNER, 0, 0); 6]);
+    calls.push(call(b'S', OWNER, 0, 0));
+    calls.extend(vec![call(b'K', EDITOR, 0, 0); 6]);
     for (segment, (_, texts)) in (0..).zip(SHEETS) {
-        calls.push(call(b'N', OWNER, 1, 0));
+        calls.push(call(b'N', EDITOR, 1, 0));
         calls.extend(locks(segment, texts));
     }
     Stage::after(&calls)
@@ -82,7 +86,7 @@ fn stage() -> Stage {
 
 fn locks(segment: u16, texts: &[&str]) -> impl Iterator<Item = Record> {
     let texts = texts.iter();
-    texts.map(move |text| lock(OWNER, segment, WRITE, text.as_bytes()))
+    texts.map(move |text| lock(EDITOR, segment, WRITE, text.as_bytes()))
 }
 
 /// The rows that are lent to each guard.

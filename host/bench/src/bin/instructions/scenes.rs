@@ -75,6 +75,7 @@ pub fn place(thread: u16) -> usize {
 /// call segment 2.
 fn before_call(pair: Pair, thread: u16) -> Vec<Record> {
     let mut before = vec![call(b'U', 0, 0, 0)];
+    before.extend(vec![call(b'S', 0, 0, 0); MAX_LIVE_THREADS]);
     before.extend(vec![call(b'N', 0, 0, 0); 3]);
     before.extend(vec![call(b'K', 0, 0, 0); 3]);
     if pair.texts[0].contains('D') {
@@ -82,7 +83,6 @@ fn before_call(pair: Pair, thread: u16) -> Vec<Record> {
     }
     before.push(lock(0, 1, EXECUTE, b"U0"));
     before.extend(pair.texts.map(|text| lock(0, 2, EXECUTE, text.as_bytes())));
-    before.extend(vec![call(b'S', 0, 0, 0); MAX_LIVE_THREADS]);
     if thread == AWAY {
         before.extend([call(b'E', 63, 0, 0), call(b'S', 0, 0, 0)]);
     }
@@ -129,6 +129,7 @@ fn call_and_return(entry: bool, pair: Pair, thread: u16) -> [Scene; 2] {
 fn before_the_twelve() -> Vec<Record> {
     vec![
         call(b'U', 0, 0, 0),
+        call(b'S', 0, 0, 0),
         call(b'N', 0, 0, 0),
         call(b'N', 0, 0, 0),
         call(b'N', 0, 1, 0),
@@ -138,7 +139,6 @@ fn before_the_twelve() -> Vec<Record> {
         lock(0, 0, EXECUTE, b"U0"),
         lock(0, 1, EXECUTE, b"U0"),
         lock(0, 2, WRITE, b"S0&S1"),
-        call(b'S', 0, 0, 0),
         call(b'C', 0, 0, 0),
         call(b'C', 0, 1, 0),
     ]

@@ -79,23 +79,24 @@ fn routes() -> Journal {
     const THREADS: usize = 16;
     let mut draft = Draft::default();
     let mut opening = vec![call(b'U', 0, 0, 0); 4];
-    opening.extend((0..8).map(|segment| call(b'N', segment % 4, 0, 0)));
-    opening.extend((0..4).map(|user| call(b'N', user, 1, 0)));
-    opening.extend((0..4).map(|user| call(b'K', user, 0, 0)));
-    opening.extend((0..8).map(|segment| call(b'G', segment % 4, segment, segment % 4)));
+    // Of the four users, each edits by the first of its threads.
     opening.extend((0..THREADS).map(|thread| call(b'S', thread as u16 % 4, 0, 0)));
+    opening.extend((0..8).map(|segment| call(b'N', segment % 4, 0, 0)));
+    opening.extend((0..4).map(|editor| call(b'N', editor, 1, 0)));
+    opening.extend((0..4).map(|editor| call(b'K', editor, 0, 0)));
+    opening.extend((0..8).map(|segment| call(b'G', segment % 4, segment, segment % 4)));
     for segment in (0..8).step_by(2) {
         opening.push(lock(segment % 4, segment, 1, b"U0|U1|U2&!R3|U3"));
         let route = format!("S{segment}&!S{}|D{}", segment + 1, segment % 4);
         opening.push(lock((segment + 1) % 4, segment + 1, 1, route.as_bytes()));
     }
-    for (user, text) in [
+    for (editor, text) in [
         (0, "S0&S1"),
         (1, "S2|S3&!S4"),
         (2, "D0&S5|D1"),
         (3, "U1&S6"),
     ] {
-        opening.push(lock(user, 8 + user, 6, text.as_bytes()));
+        opening.push(lock(editor, 8 + editor, 6, text.as_bytes()));
     }
     opening.push(lock(0, 8, 12, b"S7&U3"));
     for record in opening {
@@ -125,6 +126,7 @@ fn routes() -> Journal {
 fn long_texts() -> Journal {
     let mut draft = Draft::default();
     let mut opening = vec![call(b'U', 0, 0, 0); 8];
+    opening.push(call(b'S', 0, 0, 0));
     opening.push(call(b'N', 0, 0, 0));
     opening.extend(vec![call(b'K', 0, 0, 0); 9]);
     for record in opening {
