@@ -1,7 +1,7 @@
 -- Request P4. Who edits is read off the mirror, and so are owner, maker and lock; 2 and 6 are each the refusal of one
 -- condition alone, so they are given exactly where that holds and none before it does.
 use mathlib.Core.Path.{_≡_, refl, sym, ap, subst, _∙_}
-use mathlib.Core.Bool.{Bool, true, false, _&&_, not, false≢true}
+use mathlib.Core.Bool.{Bool, true, false, _&&_, not, cond, false≢true}
 use mathlib.Core.List.{List, [], _∷_, _++_, List·Memᴰ}
 use mathlib.Core.Logic.{_↔_}
 use mathlib.Core.Option.{Option, none, some}
@@ -10,7 +10,7 @@ use lib.Dec.{eqb}
 use lib.ListN.{length, getD}
 use borrow.Author.Tests.{ltb-true, lt-ltb, eqb-true, eq-eqb, ne-eqb, not-true, not-false}
 use Rattle.base.specs.Conditions.{Condition, when, firstRefusal}
-use Rattle.base.specs.Lists.{any, isSome, mapOption, orDefault}
+use Rattle.base.specs.Lists.{any, isSome, mapOption, orDefault, tailOf}
 use Rattle.base.proofs.Lists.{clash, eqb-self, any-found, any-passes, indexOf-lt, isSome-some, some≢none}
 use Rattle.base.proofs.Truth.{neither, both-and, and-both, never-true, false-not}
 use Rattle.formula.specs.declared.text.Issued.{Issued}
@@ -22,6 +22,7 @@ use Rattle.call.specs.Calls.{Call, decoded}
 use Rattle.call.specs.Requests.{callOf}
 use Rattle.call.specs.Letters as letters
 use Rattle.call.proofs.Requests.{requests-exactly}
+use Rattle.call.proofs.EveryRequest.{every-request}
 use Rattle.model.specs.declared.answer.Refusal.{Refusal}
 use Rattle.model.specs.declared.answer.Refusal.the-variants.{UnknownUser, NoThread, NoSegment, NoKey, NoLock, NotOwner}
 use Rattle.model.specs.declared.answer.Answer.the-variants.{Accepted, Refused}
@@ -31,12 +32,12 @@ use Rattle.model.specs.State.{State, isSegment, isKey, editor, userOf, o
 use Rattle.model.specs.Refusals.{conditions, unless, unknownEditor}
 use Rattle.model.specs.Cells.{Cells, stateOf}
 use Rattle.model.specs.Stores.{stepCells}
-use Rattle.model.specs.History.{History, Event, Lock, event, freshEntry, note, advance, history, acceptedOf, makerIn, makersOf}
+use Rattle.model.specs.History.{History, Event, Lock, event, freshEntry, note, advance, history, acceptedOf, makerIn}
 use Rattle.model.specs.Replay.{reached, events}
 use Rattle.model.specs.Theorems.Mirror.{Mirrors}
 use Rattle.model.specs.Theorems.Refusing.{someHolds}
 use Rattle.model.specs.Theorems.Neighbours.{hasLetter}
-use Rattle.model.specs.Theorems.Editing.{editLetters, AnothersSegment, AnothersSegmentOrKey, Edits, Editing}
+use Rattle.model.specs.Theorems.Editing.{editLetters, AnothersSegment, AnothersSegmentOrKey, Editing}
 use Rattle.model.proofs.Refusals.Refusing.{gives, refusal-in, exactly-here, refused-as}
 use Rattle.model.proofs.Agreement.Mirror.{mirror}
 
@@ -132,37 +133,38 @@ module _ (es : List Event) (d : Cells) (m : Mirrors es (stateOf d)) (text : List
       let lives : not (isSome (editor s₀ a)) ≡ not (isSome (history es .threads a)) = ap not (live-as es s₀ m a) in
       (λ e. gone (sym lives ∙ to e .1), λ e. from (refl, lives ∙ was e))
 
-  first-two : (q : Request) → hasLetter editLetters (callOf q text) ≡ true
-      → (first q ≡ some NoThread) ↔ (history es .threads (callOf q text .a) ≡ none)
-  unfolding conditions
-  first-two request.NewUser h = absurd (false≢true h)
-  first-two (request.StartThread a) h = absurd (false≢true h)
-  first-two (request.EndThread a) h = absurd (false≢true h)
-  first-two (request.NewSegment a b) h = no-editor (request.NewSegment a b) a refl refl
-  first-two (request.NewKey a) h = no-editor (request.NewKey a) a refl refl
-  first-two (request.GiveKey a b c) h = no-editor (request.GiveKey a b c) a refl refl
-  first-two (request.TakeKey a b c) h = no-editor (request.TakeKey a b c) a refl refl
-  first-two (request.AddLock a b c) h = no-editor (request.AddLock a b c) a refl refl
-  first-two (request.DropLock a b) h = no-editor (request.DropLock a b) a refl refl
-  first-two (request.CallSegment a b) h = absurd (false≢true h)
-  first-two (request.ReturnCall a) h = absurd (false≢true h)
-  first-two (request.Access a b c) h = absurd (false≢true h)
+  -- an edit's conditions begin with it, no later one gives 2, and none gives 1; computed for every request at once
+  abbrev edits : Request → Bool
+  edits q = hasLetter editLetters (callOf q text)
 
-  -- and 1 is none's
-  no-one : (q : Request) → hasLetter editLetters (callOf q text) ≡ true → any (λ c. gives UnknownUser (c .refusal)) (conditions outcomeOf s₀ q text) ≡ false
+  abbrev later : Request → List (Condition Refusal)
+  later q = tailOf (conditions outcomeOf s₀ q text)
+
+  begins : (q : Request)
+      → conditions outcomeOf s₀ q text ≡ cond (edits q) (unknownEditor s₀ (callOf q text .a) ∷ later q) (conditions outcomeOf s₀ q text)
   unfolding conditions
-  no-one request.NewUser h = absurd (false≢true h)
-  no-one (request.StartThread a) h = absurd (false≢true h)
-  no-one (request.EndThread a) h = absurd (false≢true h)
-  no-one (request.NewSegment a b) h = refl
-  no-one (request.NewKey a) h = refl
-  no-one (request.GiveKey a b c) h = refl
-  no-one (request.TakeKey a b c) h = refl
-  no-one (request.AddLock a b c) h = refl
-  no-one (request.DropLock a b) h = refl
-  no-one (request.CallSegment a b) h = absurd (false≢true h)
-  no-one (request.ReturnCall a) h = absurd (false≢true h)
-  no-one (request.Access a b c) h = absurd (false≢true h)
+  begins q =
+      every-request (λ r. conditions outcomeOf s₀ r text) (λ r. cond (edits r) (unknownEditor s₀ (callOf r text .a) ∷ later r) (conditions outcomeOf s₀ r text))
+      (λ a b c. refl) q
+
+  no-two : (q : Request) → (edits q && any (λ c. gives NoThread (c .refusal)) (later q)) ≡ false
+  unfolding conditions
+  no-two q = every-request (λ r. edits r && any (λ c. gives NoThread (c .refusal)) (later r)) (λ r. false) (λ a b c. refl) q
+
+  no-one : (q : Request) → (edits q && any (λ c. gives UnknownUser (c .refusal)) (conditions outcomeOf s₀ q text)) ≡ false
+  unfolding conditions
+  no-one q = every-request (λ r. edits r && any (λ c. gives UnknownUser (c .refusal)) (conditions outcomeOf s₀ r text)) (λ r. false) (λ a b c. refl) q
+
+  first-two : (q : Request) → edits q ≡ true → (first q ≡ some NoThread) ↔ (history es .threads (callOf q text .a) ≡ none)
+  first-two q h =
+      no-editor q (callOf q text .a)
+      (begins q ∙ ap (λ (b : Bool). cond b (unknownEditor s₀ (callOf q text .a) ∷ later q) (conditions outcomeOf s₀ q text)) h)
+      (sym (ap (λ (b : Bool). b && any (λ c. gives NoThread (c .refusal)) (later q)) h) ∙ no-two q)
+
+  never-one : (q : Request) → edits q ≡ true → first q ≡ some UnknownUser → ⊥
+  never-one q h e =
+      clash (eqb-self 1) (refusal-in (gives UnknownUser) UnknownUser (conditions outcomeOf s₀ q text)
+      (sym (ap (λ (b : Bool). b && any (λ c. gives UnknownUser (c .refusal)) (conditions outcomeOf s₀ q text)) h) ∙ no-one q) e)
 
   -- 6
   give-six : (a b c : ℕ) → (first (request.GiveKey a b c) ≡ some NotOwner) ↔ AnothersSegmentOrKey es a b c
@@ -267,7 +269,7 @@ editing xs next =
           (through (refused-as outcomeOf d next q e NoThread) (first-two es d m text q (sym (ap (hasLetter editLetters) s) ∙ h)));
       noStranger = λ q e h r.
           let s = requests-exactly next q .0 e in
-          clash (eqb-self 1) (refusal-in (gives UnknownUser) UnknownUser (conditions outcomeOf (stateOf d) q text) (no-one es d m text q (sym (ap (hasLetter editLetters) s) ∙ h)) (refused-as outcomeOf d next q e UnknownUser .0 r));
+          never-one es d m text q (sym (ap (hasLetter editLetters) s) ∙ h) (refused-as outcomeOf d next q e UnknownUser .0 r);
       give = λ a b c e. through (refused-as outcomeOf d next _ e NotOwner) (give-six es d m text a b c);
       take = λ a b c e. through (refused-as outcomeOf d next _ e NotOwner) (take-six es d m text a b c);
       lock = λ a b c e. through (refused-as outcomeOf d next _ e NotOwner) (lock-six es d m text a b c);

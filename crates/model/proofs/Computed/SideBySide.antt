@@ -43,6 +43,7 @@ pub side-by-side : SideBySide
 side-by-side =
     record {
       everyThreadLetter = every-letter;
+      everyEditLetter = refl;
       busyHappens = busy-happens;
       quietHappens = quiet-happens;
       busyStruck = refl;

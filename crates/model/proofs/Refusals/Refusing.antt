@@ -17,7 +17,7 @@ use Rattle.call.specs.declared.request.Decoded.the-variants.{WellFormed, Corrup
 use Rattle.call.specs.Calls.{Call, decoded}
 use Rattle.base.specs.Conditions.{Condition, when, firstRefusal}
 use Rattle.base.proofs.Conditions.{first-later, all-fail, none-first}
-use Rattle.base.proofs.Truth.{and-left, and-right, neither}
+use Rattle.base.proofs.Truth.{and-left, neither}
 use Rattle.model.specs.declared.answer.Refusal.{Refusal}
 use Rattle.model.specs.declared.answer.Refusal.the-variants.{Corrupt}
 use Rattle.model.specs.declared.answer.Answer.the-variants.{Refused}

@@ -3,13 +3,13 @@
 -- comes to grants and edits and to 2, 5, 6, 7, 8, 10, 14, 15 and 18, in both alike. Of all that is left only the E of
 -- threads 0 and 2 answer otherwise. Proved in `proofs/Computed/SideBySide.antt`, by computing.
 use mathlib.Core.Path.{_≡_}
-use mathlib.Core.Bool.{Bool}
+use mathlib.Core.Bool.{Bool, not}
 use mathlib.Core.List.{List, [], _∷_, _++_, map}
 use Prim.Native.Nat.{ℕ}
 use lib.Dec.{eqb}
 use lib.ListN.{replicate}
 use Rattle.base.specs.Bytes.{bytes}
-use Rattle.base.specs.Lists.{keep}
+use Rattle.base.specs.Lists.{any, keep}
 use Rattle.formula.specs.Outcome.{outcomeOf}
 use Rattle.call.specs.Letters as letters
 use Rattle.call.specs.Calls.{callWith, TableRow, table}
@@ -17,6 +17,7 @@ use Rattle.call.specs.Requests.{callOf}
 use Rattle.model.specs.Answers.{answerNumber}
 use Rattle.model.specs.Replay.{events, answerTo}
 use Rattle.model.specs.Notation.{Expected, U, S, E, N, K, G, T, L, D, C, R, A, ok, no, callsOf, got, Happens}
+use Rattle.model.specs.Theorems.Editing.{editLetters}
 use Rattle.model.specs.Theorems.Neighbours.{strike, threadLetters, answersTo, answersLeft}
 
 -- A letter whose field a names a thread is refused by 2 in the empty state, which has none.
@@ -213,6 +214,9 @@ quiet =
 
 pub record SideBySide : Type 0 where
   pub everyThreadLetter : map (λ r. r .letter) (keep namesThread (table 0 0 0)) ≡ threadLetters
+  -- the others among them are E, C, R and A
+  pub everyEditLetter : keep (λ l. not (any (eqb l) (letters.E ∷ letters.C ∷ letters.R ∷ letters.A ∷ []))) threadLetters
+      ≡ editLetters
   pub busyHappens : Happens busy
   pub quietHappens : Happens quiet
   pub busyStruck : strike 1 (callsOf busy) ≡ callsOf whatIsLeft
