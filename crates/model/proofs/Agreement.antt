@@ -1,5 +1,7 @@
 pub mod Agrees
 pub mod Editing
+pub mod EditsAlike
+pub mod EditsWritten
 pub mod EveryCall
 pub mod Granting
 pub mod HistoryAnswers

@@ -2,7 +2,7 @@
 -- condition alone, so they are given exactly where that holds and none before it does.
 use mathlib.Core.Path.{_≡_, refl, sym, ap, subst, _∙_}
 use mathlib.Core.Bool.{Bool, true, false, _&&_, not, cond, false≢true}
-use mathlib.Core.List.{List, [], _∷_, _++_, List·Memᴰ}
+use mathlib.Core.List.{List, [], _∷_, _++_, append-nil, List·Memᴰ}
 use mathlib.Core.Logic.{_↔_}
 use mathlib.Core.Option.{Option, none, some}
 use Prim.Native.Nat.{ℕ, _<_}
@@ -17,29 +17,31 @@ use Rattle.formula.specs.declared.text.Issued.{Issued}
 use Rattle.formula.specs.Outcome.{outcomeOf}
 use Rattle.call.specs.declared.request.Request.{Request}
 use Rattle.call.specs.declared.request.Request.the-variants as request
-use Rattle.call.specs.declared.request.Decoded.the-variants.{WellFormed}
-use Rattle.call.specs.Calls.{Call, decoded}
+use Rattle.call.specs.Calls.{Call}
 use Rattle.call.specs.Requests.{callOf}
 use Rattle.call.specs.Letters as letters
 use Rattle.call.proofs.Requests.{requests-exactly}
 use Rattle.call.proofs.EveryRequest.{every-request}
 use Rattle.model.specs.declared.answer.Refusal.{Refusal}
 use Rattle.model.specs.declared.answer.Refusal.the-variants.{UnknownUser, NoThread, NoSegment, NoKey, NoLock, NotOwner}
-use Rattle.model.specs.declared.answer.Answer.the-variants.{Accepted, Refused}
-use Rattle.model.specs.declared.answer.Answer.{Answer}
+use Rattle.model.specs.declared.answer.Answer.the-variants.{Refused}
 use Rattle.model.specs.Threads.{Thread}
 use Rattle.model.specs.State.{State, isSegment, isKey, editor, userOf, owns, made, hasLock, isLock, lockSegment}
 use Rattle.model.specs.Refusals.{conditions, unless, unknownEditor}
 use Rattle.model.specs.Cells.{Cells, stateOf}
+use Rattle.model.specs.Effects.{answer}
 use Rattle.model.specs.Stores.{stepCells}
-use Rattle.model.specs.History.{History, Event, Lock, event, freshEntry, note, advance, history, acceptedOf, makerIn}
-use Rattle.model.specs.Replay.{reached, events}
+use Rattle.model.specs.History.{History, Event, Lock, event, emptyHistory, history, acceptedOf, makersOf}
+use Rattle.model.specs.Replay.{reached, events, answerTo}
 use Rattle.model.specs.Theorems.Mirror.{Mirrors}
 use Rattle.model.specs.Theorems.Refusing.{someHolds}
 use Rattle.model.specs.Theorems.Neighbours.{hasLetter}
-use Rattle.model.specs.Theorems.Editing.{editLetters, AnothersSegment, AnothersSegmentOrKey, Editing}
+use Rattle.model.specs.Theorems.Editing.{editLetters, AnothersSegment, AnothersSegmentOrKey, Edits, Editing}
 use Rattle.model.proofs.Refusals.Refusing.{gives, refusal-in, exactly-here, refused-as}
 use Rattle.model.proofs.Agreement.Mirror.{mirror}
+use Rattle.model.proofs.Agreement.Granting.{granting}
+use Rattle.model.proofs.Agreement.EditsWritten.{history-one, makers-one, owner-written, maker-written, none-written, user-of, user-stays, owner-stays, started-by}
+use Rattle.model.proofs.Agreement.EditsAlike.{call-alike}
 
 some-user : (o : Option Thread) → isSome (mapOption (λ t. t .user) o) ≡ isSome o
 some-user none = refl
@@ -242,22 +244,8 @@ module _ (es : List Event) (d : Cells) (m : Mirrors es (stateOf d)) (text : List
         ),
       )
 
--- ---- what N and K write
-
-module _ (h : History) (next : Call) (t : Thread) where
-  owner-written : (a b n : ℕ) (r : Answer) → decoded next ≡ WellFormed (request.NewSegment a b) → r ≡ Accepted n → h .threads a ≡ some t
-      → advance h (event next r) .segments n ≡ some (freshEntry n (t .user) b)
-  unfolding advance note
-  owner-written a b n r e q live = rw (e, q, live, eqb-self n) refl
-
-  maker-written : (a n : ℕ) (r : Answer) → decoded next ≡ WellFormed (request.NewKey a) → r ≡ Accepted n → h .threads a ≡ some t
-      → makerIn h (event next r) ≡ t .user ∷ []
-  maker-written a n r e q live =
-      let s = requests-exactly next (request.NewKey a) .0 e in
-      rw (ap (λ (y : Call). y .letter) s, ap (λ (y : Call). y .a) s, q, live) refl
-
-pub editing : Editing
-editing xs next =
+edits-after : (xs : List Call) (next : Call) → Edits (events outcomeOf xs) next (answerTo outcomeOf xs next)
+edits-after xs next =
     let es = events outcomeOf xs in
     let d = reached outcomeOf xs in
     let m = mirror .state xs in
@@ -274,6 +262,28 @@ editing xs next =
       take = λ a b c e. through (refused-as outcomeOf d next _ e NotOwner) (take-six es d m text a b c);
       lock = λ a b c e. through (refused-as outcomeOf d next _ e NotOwner) (lock-six es d m text a b c);
       drop = λ a b e. through (refused-as outcomeOf d next _ e NotOwner) (drop-six es d m text a b);
-      owner = λ a b n e q t live. owner-written (history es) next t a b n _ e q live;
-      maker = λ a n e q t live. maker-written (history es) next t a n _ e q live;
+      owner = λ a b n e q t live.
+          ap (λ (h : History). h .segments n) (history-one (event next _) emptyHistory es) ∙ owner-written (history es) next t a b n _ e q live;
+      maker = λ a n e q t live.
+          makers-one (event next _) emptyHistory es ∙ ap (λ (ms : List ℕ). makersOf es ++ ms) (maker-written (history es) next t a n _ e q live);
+      noMaker = λ e.
+          makers-one (event next _) emptyHistory es ∙ ap (λ (ms : List ℕ). makersOf es ++ ms) (none-written (history es) next (stepCells outcomeOf d next .answer) e) ∙ append-nil (makersOf es);
+      started = λ a n e q.
+          ap (λ (h : History). mapOption (λ t. t .user) (h .threads n)) (history-one (event next _) emptyHistory es) ∙ started-by (history es) next a n _ e q;
+      userStays = λ n u v before after.
+          let (t, live, is) = user-of (history es .threads n) u before in
+          let (t′, live′, is′) = user-of _ v after in
+          sym is′ ∙ user-stays es (stateOf d) m next _ (granting xs next .number) n t t′ live (sym (ap (λ (h : History). h .threads n) (history-one (event next _) emptyHistory es)) ∙ live′) ∙ is;
+      ownerStays = λ s x there.
+          let (x′, there′, owner) = owner-stays es (stateOf d) m next _ (granting xs next .number) s x there in
+          (x′, ap (λ (h : History). h .segments s) (history-one (event next _) emptyHistory es) ∙ there′, owner);
+    }
+
+pub editing : Editing
+editing =
+    record {
+      edits = edits-after;
+      alike = λ xs next q a e h same.
+          let m = mirror .state xs in
+          call-alike (reached outcomeOf xs) next q a e h (m .editors a ∙ same ∙ sym (m .editors (next .a)));
     }

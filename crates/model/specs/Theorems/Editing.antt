@@ -3,24 +3,26 @@
 -- answers before an edit says of 2 and 6, and what an accepted N or K writes. Proved in
 -- `proofs/Agreement/Editing.antt`.
 use mathlib.Core.Path.{_≡_}
-use mathlib.Core.Bool.{true}
-use mathlib.Core.List.{List, [], _∷_, List·Memᴰ}
+use mathlib.Core.Bool.{true, false}
+use mathlib.Core.List.{List, [], _∷_, _++_, List·Memᴰ}
 use mathlib.Core.Logic.{_↔_}
-use mathlib.Core.Option.{none, some}
+use mathlib.Core.Option.{Option, none, some}
 use Prim.Native.Nat.{ℕ, _<_}
 use lib.ListN.{getD}
 use Rattle.formula.specs.Outcome.{outcomeOf}
 use Rattle.call.specs.declared.request.Request.{Request}
-use Rattle.call.specs.declared.request.Request.the-variants.{NewSegment, NewKey, GiveKey, TakeKey, AddLock, DropLock}
+use Rattle.call.specs.declared.request.Request.the-variants.{StartThread, NewSegment, NewKey, GiveKey, TakeKey, AddLock, DropLock}
 use Rattle.call.specs.declared.request.Decoded.the-variants.{WellFormed}
-use Rattle.call.specs.Calls.{Call, decoded}
+use Rattle.call.specs.Calls.{Call, callWith, decoded}
 use Rattle.call.specs.Letters as letters
 use Rattle.model.specs.declared.answer.Refusal.the-variants.{UnknownUser, NoThread, NotOwner}
 use Rattle.model.specs.declared.answer.Answer.{Answer}
 use Rattle.model.specs.declared.answer.Answer.the-variants.{Accepted, Refused}
 use Rattle.model.specs.Threads.{Thread}
-use Rattle.model.specs.History.{Event, Entry, Lock, event, freshEntry, advance, history, acceptedOf, makerIn, makersOf}
-use Rattle.model.specs.Replay.{events, answerTo}
+use Rattle.model.specs.History.{Event, Entry, Lock, event, freshEntry, history, counts, acceptedOf, makersOf}
+use Rattle.base.specs.Lists.{mapOption}
+use Rattle.model.specs.Stores.{stepCells}
+use Rattle.model.specs.Replay.{reached, events, answerTo}
 use Rattle.model.specs.Theorems.Neighbours.{hasLetter}
 
 abbrev pub editLetters : List ℕ
@@ -43,6 +45,14 @@ pub record AnothersSegmentOrKey (es : List Event) (a s k : ℕ) : Type 0 where
   pub key : k < acceptedOf letters.K es
   pub other : entry .owner ≡ thread .user → getD (makersOf es) k 0 ≡ thread .user → ⊥
 
+-- who edits, as the history has him: the user of thread a, if it is live
+abbrev pub userIn : List Event → ℕ → Option ℕ
+userIn es a = mapOption (λ t. t .user) (history es .threads a)
+
+-- the same call with another field a
+abbrev pub byThread : ℕ → Call → Call
+byThread a x = callWith (x .letter) a (x .b) (x .c) (x .text)
+
 -- What the events before the next call say of it and its answer r.
 pub record Edits (es : List Event) (next : Call) (r : Answer) : Type 0 where
   -- 2 exactly where the thread of field a isn't live, whatever the other fields are; and 1 never
@@ -60,12 +70,26 @@ pub record Edits (es : List Event) (next : Call) (r : Answer) : Type 0 where
   pub drop : (a b : ℕ) → decoded next ≡ WellFormed (DropLock a b)
       → (r ≡ Refused NotOwner)
       ↔ ((l : Lock) × List·Memᴰ l (history es .locks) × (l .number ≡ b) × AnothersSegment es a (l .segment))
-  -- the thread's user, as the history then is, becomes the owner of a new segment and the maker of a new key
+  -- the thread's user, as the history then is, becomes the owner of a new segment and the maker of a new key; any other
+  -- call, and a refused K, leaves the makers as they were
   pub owner : (a b n : ℕ) → decoded next ≡ WellFormed (NewSegment a b) → r ≡ Accepted n
       → (t : Thread) → history es .threads a ≡ some t
-      → advance (history es) (event next r) .segments n ≡ some (freshEntry n (t .user) b)
+      → history (es ++ event next r ∷ []) .segments n ≡ some (freshEntry n (t .user) b)
   pub maker : (a n : ℕ) → decoded next ≡ WellFormed (NewKey a) → r ≡ Accepted n
-      → (t : Thread) → history es .threads a ≡ some t → makerIn (history es) (event next r) ≡ t .user ∷ []
+      → (t : Thread) → history es .threads a ≡ some t
+      → makersOf (es ++ event next r ∷ []) ≡ makersOf es ++ t .user ∷ []
+  pub noMaker : counts letters.K (event next r) ≡ false → makersOf (es ++ event next r ∷ []) ≡ makersOf es
+  -- a thread has the user that its S named, as long as it is live, and a segment its owner
+  pub started : (a n : ℕ) → decoded next ≡ WellFormed (StartThread a) → r ≡ Accepted n
+      → userIn (es ++ event next r ∷ []) n ≡ some a
+  pub userStays : (n u v : ℕ) → userIn es n ≡ some u → userIn (es ++ event next r ∷ []) n ≡ some v → v ≡ u
+  pub ownerStays : (s : ℕ) (e : Entry) → history es .segments s ≡ some e
+      → (e′ : Entry) × (history (es ++ event next r ∷ []) .segments s ≡ some e′) × (e′ .owner ≡ e .owner)
 
-abbrev pub Editing : Type 0
-Editing = (xs : List Call) (next : Call) → Edits (events outcomeOf xs) next (answerTo outcomeOf xs next)
+pub record Editing : Type 0 where
+  pub edits : (xs : List Call) (next : Call) → Edits (events outcomeOf xs) next (answerTo outcomeOf xs next)
+  -- of a thread an edit asks nothing but whose it is: with another thread of the same user in field a it is answered
+  -- alike, and leaves the same arrays
+  pub alike : (xs : List Call) (next : Call) (q : Request) (a : ℕ) → decoded next ≡ WellFormed q
+      → hasLetter editLetters next ≡ true → userIn (events outcomeOf xs) a ≡ userIn (events outcomeOf xs) (next .a)
+      → stepCells outcomeOf (reached outcomeOf xs) (byThread a next) ≡ stepCells outcomeOf (reached outcomeOf xs) next

@@ -186,11 +186,13 @@ identity =
 
 -- Who edits is the thread's user. Thread 1 of user 0 makes segment 0 and D0 and ends: it edits no more. User 1's
 -- thread has the owner's number, and isn't the owner's. User 0's next thread gives, locks, drops and takes what the
--- first made.
+-- first made. User 3's two threads, 3 and 5, edit what the other made, and neither user 1's nor user 2's does.
 abbrev pub editors : List Expected
 editors =
     ok U 0
     ∷ ok U 1
+    ∷ ok U 2
+    ∷ ok U 3
     ∷ ok (S 1) 0
     ∷ ok (S 0) 1
     ∷ ok (N 1 0) 0
@@ -211,6 +213,22 @@ editors =
     ∷ no (D 0 0) 6 0
     ∷ ok (D 2 0) 1
     ∷ ok (T 2 0 0) 1
+    ∷ ok (S 3) 3
+    ∷ ok (S 2) 4
+    ∷ ok (S 3) 5
+    ∷ ok (N 3 0) 1
+    ∷ ok (K 5) 1
+    ∷ no (G 4 1 1) 6 0
+    ∷ no (G 0 1 1) 6 0
+    ∷ no (G 5 1 0) 6 0
+    ∷ ok (G 5 1 1) 2
+    ∷ ok (L 5 1 1 (bytes "D1&U3")) 1
+    ∷ no (D 4 1) 6 0
+    ∷ ok (N 4 1) 2
+    ∷ no (L 5 2 2 (bytes "U3")) 6 0
+    ∷ no (T 4 1 1) 6 0
+    ∷ ok (T 3 1 1) 1
+    ∷ ok (D 3 1) 1
     ∷ []
 
 -- 32 users, 64 segments; 64 live threads, where an ended one makes room; 8 keys in a list, where a taken one makes room
