@@ -80,8 +80,8 @@ fn other_version(bytes: &[u8]) -> Finding {
     let read = journal::VERSION;
     let sentence = match number_at(bytes, VERSION) {
         1 => format!(
-            "version 1: its edits (N, K, G, T, L, D) name a user; since version 2 they name a \
-             thread, and this guard reads version {read}"
+            "a journal of version 1, whose edits (N, K, G, T, L, D) name a user; in version \
+             {read} they name a thread. The keylock that it was kept with reads it"
         ),
         version => format!("version {version}, only version {read} is known"),
     };

@@ -200,9 +200,9 @@ fn refused_files() {
     for command in ["dis", "run", "trace"] {
         refused(&keylock(&[command], &file), 1, right);
     }
-    let changed = "keylock: standard input: byte 3: version 1: its edits (N, K, G, T, L, D) \
-        name a user; since version 2 they name a thread, and this guard reads version 2 \
-        (17 other version)\n";
+    let changed = "keylock: standard input: byte 3: a journal of version 1, whose edits \
+        (N, K, G, T, L, D) name a user; in version 2 they name a thread. The keylock that it was \
+        kept with reads it (17 other version)\n";
     let right = "keylock: standard input: byte 3: \
         version 3, only version 2 is known (17 other version)\n";
     for command in ["dis", "run", "trace"] {

@@ -45,8 +45,8 @@ fn no_mark() {
 /// Whatever follows the head.
 #[test]
 fn other_version() {
-    let changed = "version 1: its edits (N, K, G, T, L, D) name a user; \
-                   since version 2 they name a thread, and this guard reads version 2";
+    let changed = "a journal of version 1, whose edits (N, K, G, T, L, D) name a user; \
+                   in version 2 they name a thread. The keylock that it was kept with reads it";
     for (file, sentence) in [
         (&b"KLD\x01\0\0\0"[..], changed),
         (b"KLD\x01\0\x01\0U\0\0\0\0\0\0\0\0", changed),

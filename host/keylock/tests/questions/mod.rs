@@ -11,9 +11,9 @@ pub fn asked_of_an_input_at_fault(question: &str, [one, other]: [&str; 2]) {
     refused(&ask(b"U\nZ\n"), 1, right);
     let right = "keylock: standard input: no bytes: not a journal (16)\n";
     refused(&ask(b""), 1, right);
-    let right = "keylock: standard input: byte 3: version 1: its edits (N, K, G, T, L, D) \
-        name a user; since version 2 they name a thread, and this guard reads version 2 \
-        (17 other version)\n";
+    let right = "keylock: standard input: byte 3: a journal of version 1, whose edits \
+        (N, K, G, T, L, D) name a user; in version 2 they name a thread. The keylock that it was \
+        kept with reads it (17 other version)\n";
     refused(&ask(b"KLD\x01\0\0\0"), 1, right);
     let right = "keylock: no/such: No such file or directory\n";
     refused(&keylock(&[question, "no/such", one, other], b""), 2, right);
