@@ -2,7 +2,7 @@
 -- condition alone, so they are given exactly where that holds and none before it does.
 use mathlib.Core.Path.{_≡_, refl, sym, ap, subst, _∙_}
 use mathlib.Core.Bool.{Bool, true, false, _&&_, not, cond, false≢true}
-use mathlib.Core.List.{List, [], _∷_, _++_, append-nil, List·Memᴰ}
+use mathlib.Core.List.{List, [], _∷_, _++_, List·Memᴰ}
 use mathlib.Core.Logic.{_↔_}
 use mathlib.Core.Option.{Option, none, some}
 use Prim.Native.Nat.{ℕ, _<_}
@@ -12,12 +12,12 @@ use borrow.Author.Tests.{ltb-true, lt-ltb, eqb-true, eq-eqb, ne-eqb, not-true, n
 use Rattle.base.specs.Conditions.{Condition, when, firstRefusal}
 use Rattle.base.specs.Lists.{any, isSome, mapOption, orDefault, tailOf}
 use Rattle.base.proofs.Lists.{clash, eqb-self, any-found, any-passes, indexOf-lt, isSome-some, some≢none}
-use Rattle.base.proofs.Truth.{neither, both-and, and-both, never-true, false-not}
+use Rattle.base.proofs.Truth.{neither, both-and, and-both, never-true, false-not, and-left, and-right}
 use Rattle.formula.specs.declared.text.Issued.{Issued}
 use Rattle.formula.specs.Outcome.{outcomeOf}
 use Rattle.call.specs.declared.request.Request.{Request}
 use Rattle.call.specs.declared.request.Request.the-variants as request
-use Rattle.call.specs.Calls.{Call}
+use Rattle.call.specs.Calls.{Call, decoded}
 use Rattle.call.specs.Requests.{callOf}
 use Rattle.call.specs.Letters as letters
 use Rattle.call.proofs.Requests.{requests-exactly}
@@ -29,18 +29,19 @@ use Rattle.model.specs.Threads.{Thread}
 use Rattle.model.specs.State.{State, isSegment, isKey, editor, userOf, owns, made, hasLock, isLock, lockSegment}
 use Rattle.model.specs.Refusals.{conditions, unless, unknownEditor}
 use Rattle.model.specs.Cells.{Cells, stateOf}
-use Rattle.model.specs.Effects.{answer}
-use Rattle.model.specs.Stores.{stepCells}
-use Rattle.model.specs.History.{History, Event, Lock, event, emptyHistory, history, acceptedOf, makersOf}
+use Rattle.model.specs.History.{History, Event, Lock, event, emptyHistory, history, acceptedOf, makersOf, editorIn, counts}
 use Rattle.model.specs.Replay.{reached, events, answerTo}
 use Rattle.model.specs.Theorems.Mirror.{Mirrors}
 use Rattle.model.specs.Theorems.Refusing.{someHolds}
 use Rattle.model.specs.Theorems.Neighbours.{hasLetter}
-use Rattle.model.specs.Theorems.Editing.{editLetters, AnothersSegment, AnothersSegmentOrKey, Edits, Editing}
-use Rattle.model.proofs.Refusals.Refusing.{gives, refusal-in, exactly-here, refused-as}
+use Rattle.model.specs.Theorems.Editing.{editLetters, AnothersSegment, AnothersSegmentOrKey, ownerIn, Edits, Editing, userIn}
+use Rattle.model.specs.Answers.{isAccepted, answerValue}
+use Rattle.call.specs.declared.request.Decoded.{Decoded}
+use Rattle.call.specs.declared.request.Decoded.the-variants.{WellFormed, Corrupt as NotWellFormed}
+use Rattle.model.specs.declared.answer.Answer.{Answer}
+use Rattle.model.proofs.Refusals.Refusing.{gives, refusal-in, exactly-here, refused-as, refusing}
 use Rattle.model.proofs.Agreement.Mirror.{mirror}
-use Rattle.model.proofs.Agreement.Granting.{granting}
-use Rattle.model.proofs.Agreement.EditsWritten.{history-one, makers-one, owner-written, maker-written, none-written, user-of, user-stays, owner-stays, started-by}
+use Rattle.model.proofs.Agreement.EditsWritten.{history-one, makers-one, users-after, owners-after}
 use Rattle.model.proofs.Agreement.EditsAlike.{call-alike}
 
 some-user : (o : Option Thread) → isSome (mapOption (λ t. t .user) o) ≡ isSome o
@@ -244,40 +245,76 @@ module _ (es : List Event) (d : Cells) (m : Mirrors es (stateOf d)) (text : List
         ),
       )
 
-edits-after : (xs : List Call) (next : Call) → Edits (events outcomeOf xs) next (answerTo outcomeOf xs next)
-edits-after xs next =
-    let es = events outcomeOf xs in
-    let d = reached outcomeOf xs in
-    let m = mirror .state xs in
-    let text = next .text in
-    record {
-      noThread = λ q e h.
-          let s = requests-exactly next q .0 e in
-          subst (λ (a : ℕ). (stepCells outcomeOf d next .answer ≡ Refused NoThread) ↔ (history es .threads a ≡ none)) (sym (ap (λ (y : Call). y .a) s))
-          (through (refused-as outcomeOf d next q e NoThread) (first-two es d m text q (sym (ap (hasLetter editLetters) s) ∙ h)));
-      noStranger = λ q e h r.
-          let s = requests-exactly next q .0 e in
-          never-one es d m text q (sym (ap (hasLetter editLetters) s) ∙ h) (refused-as outcomeOf d next q e UnknownUser .0 r);
-      give = λ a b c e. through (refused-as outcomeOf d next _ e NotOwner) (give-six es d m text a b c);
-      take = λ a b c e. through (refused-as outcomeOf d next _ e NotOwner) (take-six es d m text a b c);
-      lock = λ a b c e. through (refused-as outcomeOf d next _ e NotOwner) (lock-six es d m text a b c);
-      drop = λ a b e. through (refused-as outcomeOf d next _ e NotOwner) (drop-six es d m text a b);
-      owner = λ a b n e q t live.
-          ap (λ (h : History). h .segments n) (history-one (event next _) emptyHistory es) ∙ owner-written (history es) next t a b n _ e q live;
-      maker = λ a n e q t live.
-          makers-one (event next _) emptyHistory es ∙ ap (λ (ms : List ℕ). makersOf es ++ ms) (maker-written (history es) next t a n _ e q live);
-      noMaker = λ e.
-          makers-one (event next _) emptyHistory es ∙ ap (λ (ms : List ℕ). makersOf es ++ ms) (none-written (history es) next (stepCells outcomeOf d next .answer) e) ∙ append-nil (makersOf es);
-      started = λ a n e q.
-          ap (λ (h : History). mapOption (λ t. t .user) (h .threads n)) (history-one (event next _) emptyHistory es) ∙ started-by (history es) next a n _ e q;
-      userStays = λ n u v before after.
-          let (t, live, is) = user-of (history es .threads n) u before in
-          let (t′, live′, is′) = user-of _ v after in
-          sym is′ ∙ user-stays es (stateOf d) m next _ (granting xs next .number) n t t′ live (sym (ap (λ (h : History). h .threads n) (history-one (event next _) emptyHistory es)) ∙ live′) ∙ is;
-      ownerStays = λ s x there.
-          let (x′, there′, owner) = owner-stays es (stateOf d) m next _ (granting xs next .number) s x there in
-          (x′, ap (λ (h : History). h .segments s) (history-one (event next _) emptyHistory es) ∙ there′, owner);
-    }
+-- ---- the whole
+
+same-where : {u : Option ℕ} {v : ℕ} (w : Option ℕ) (b : Bool) → (b ≡ true → u ≡ some v) → cond b (some v) w ≡ cond b u w
+same-where w true h = sym (h refl)
+same-where w false h = refl
+
+made-by : {u : Option ℕ} {v : ℕ} (b : Bool) → (b ≡ true → u ≡ some v) → cond b (v ∷ []) [] ≡ cond b (orDefault [] (λ x. x ∷ []) u) []
+made-by true h = sym (ap (orDefault [] (λ x. x ∷ [])) (h refl))
+made-by false h = refl
+
+module _ (xs : List Call) (next : Call) where
+  abbrev es : List Event
+  es = events outcomeOf xs
+
+  abbrev d : Cells
+  d = reached outcomeOf xs
+
+  abbrev r : Answer
+  r = answerTo outcomeOf xs next
+
+  m : Mirrors es (stateOf d)
+  m = mirror .state xs
+
+  no-thread : (q : Request) → decoded next ≡ WellFormed q → hasLetter editLetters next ≡ true → (r ≡ Refused NoThread) ↔ (history es .threads (next .a) ≡ none)
+  no-thread q e h =
+      let s = requests-exactly next q .0 e in
+      subst (λ (a : ℕ). (r ≡ Refused NoThread) ↔ (history es .threads a ≡ none)) (sym (ap (λ (y : Call). y .a) s))
+      (through (refused-as outcomeOf d next q e NoThread) (first-two es d m (next .text) q (sym (ap (hasLetter editLetters) s) ∙ h)))
+
+  formed : decoded next ≡ NotWellFormed → isAccepted r ≡ false
+  formed e = ap isAccepted (refusing outcomeOf d next .corrupt .1 e)
+
+  -- an accepted edit has an editor
+  edited : (l : ℕ) → any (eqb l) editLetters ≡ true → counts l (event next r) ≡ true → userIn es (next .a) ≡ some (editorIn (history es) (next .a))
+  edited l h t = by-request (decoded next) refl
+    where
+      by-thread : (q : Request) → decoded next ≡ WellFormed q → (o : Option Thread) → history es .threads (next .a) ≡ o
+          → userIn es (next .a) ≡ some (editorIn (history es) (next .a))
+      by-thread q e none p =
+          let letter = eqb-true (next .letter) l (and-right (isAccepted r) _ t) in
+          let gone = no-thread q e (ap (λ (k : ℕ). any (eqb k) editLetters) letter ∙ h) .1 p in
+          absurd (false≢true (sym (ap isAccepted gone) ∙ and-left (isAccepted r) _ t))
+      by-thread q e (some u) p = rw p refl
+
+      by-request : (k : Decoded) → decoded next ≡ k → userIn es (next .a) ≡ some (editorIn (history es) (next .a))
+      by-request NotWellFormed e = absurd (false≢true (sym (formed e) ∙ and-left (isAccepted r) _ t))
+      by-request (WellFormed q) e = by-thread q e (history es .threads (next .a)) refl
+
+  edits-after : Edits es next r
+  edits-after =
+      record {
+        noThread = no-thread;
+        noStranger = λ q e h p.
+            let s = requests-exactly next q .0 e in
+            never-one es d m (next .text) q (sym (ap (hasLetter editLetters) s) ∙ h) (refused-as outcomeOf d next q e UnknownUser .0 p);
+        give = λ a b c e. through (refused-as outcomeOf d next _ e NotOwner) (give-six es d m (next .text) a b c);
+        take = λ a b c e. through (refused-as outcomeOf d next _ e NotOwner) (take-six es d m (next .text) a b c);
+        lock = λ a b c e. through (refused-as outcomeOf d next _ e NotOwner) (lock-six es d m (next .text) a b c);
+        drop = λ a b e. through (refused-as outcomeOf d next _ e NotOwner) (drop-six es d m (next .text) a b);
+        users = λ n.
+            ap (λ (h : History). mapOption (λ t. t .user) (h .threads n)) (history-one (event next r) emptyHistory es)
+            ∙ users-after (history es) next r formed n;
+        owners = λ s.
+            ap (λ (h : History). mapOption (λ e. e .owner) (h .segments s)) (history-one (event next r) emptyHistory es)
+            ∙ owners-after (history es) next r formed s
+            ∙ same-where (ownerIn es s) (counts letters.N (event next r) && eqb s (answerValue r)) (λ t. edited letters.N refl (and-left _ _ t));
+        makers =
+            makers-one (event next r) emptyHistory es
+            ∙ ap (λ (ms : List ℕ). makersOf es ++ ms) (made-by (counts letters.K (event next r)) (edited letters.K refl));
+      }
 
 pub editing : Editing
 editing =

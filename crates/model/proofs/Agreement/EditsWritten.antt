@@ -1,18 +1,13 @@
--- What an accepted N, K or S writes in the history, and what stays in it after any call: a live thread has its user,
--- and a segment its owner.
+-- Whose threads and segments are after any event: S and E write the one, N the other, and nothing else does.
 use mathlib.Core.Path.{_≡_, refl, sym, ap, _∙_}
-use mathlib.Core.Bool.{true, false}
+use mathlib.Core.Bool.{true, false, _&&_, cond, true≢false}
 use mathlib.Core.List.{List, [], _∷_, _++_, append-nil, append-assoc}
 use mathlib.Core.Option.{Option, none, some}
 use Prim.Native.Nat.{ℕ}
-use native.Mathlib.Omega.{arith}
 use lib.Dec.{eqb}
-use lib.ListN.{length}
-use borrow.Author.Tests.{ltb-true, ne-eqb}
-use Rattle.base.specs.Lists.{Map, adjust, isSome, mapOption}
-use Rattle.base.proofs.Lists.{caseBool, eqb-self, some-inj, some≢none}
+use Rattle.base.specs.Lists.{adjust, mapOption}
+use Rattle.base.proofs.Lists.{caseBool}
 use Rattle.product.specs.declared.literal.Key.{Key}
-use Rattle.formula.specs.declared.text.Issued.{Issued}
 use Rattle.call.specs.declared.request.Request.{Request}
 use Rattle.call.specs.declared.request.Request.the-variants as request
 use Rattle.call.specs.declared.request.Decoded.{Decoded}
@@ -23,10 +18,9 @@ use Rattle.call.specs.Letters as letters
 use Rattle.call.proofs.Requests.{requests-exactly}
 use Rattle.model.specs.declared.answer.Answer.the-variants.{Accepted, Refused}
 use Rattle.model.specs.declared.answer.Answer.{Answer}
+use Rattle.model.specs.Answers.{isAccepted, answerValue}
 use Rattle.model.specs.Threads.{Frame, Thread}
-use Rattle.model.specs.State.{State}
-use Rattle.model.specs.History.{History, Event, Entry, event, freshEntry, onKeys, onFrames, note, noteAnswer, advance, historyFrom, history, handsOut, counts, acceptedOf, makerIn, makersFrom}
-use Rattle.model.specs.Theorems.Mirror.{Mirrors}
+use Rattle.model.specs.History.{History, Event, Entry, event, onKeys, onFrames, editorIn, note, noteAnswer, advance, historyFrom, counts, makerIn, makersFrom}
 
 -- ---- one event more
 
@@ -40,118 +34,104 @@ makers-one e h (x ∷ xs) =
     ap (λ (ms : List ℕ). makerIn h x ++ ms) (makers-one e (advance h x) xs)
     ∙ sym (append-assoc (makerIn h x) (makersFrom (advance h x) xs) (makerIn (historyFrom (advance h x) xs) e))
 
-module _ (h : History) (next : Call) where
-  pub owner-written : (t : Thread) (a b n : ℕ) (r : Answer) → decoded next ≡ WellFormed (request.NewSegment a b) → r ≡ Accepted n → h .threads a ≡ some t
-      → advance h (event next r) .segments n ≡ some (freshEntry n (t .user) b)
-  unfolding advance note
-  owner-written t a b n r e q live = rw (e, q, live, eqb-self n) refl
+-- ---- what an accepted request writes
 
-  pub maker-written : (t : Thread) (a n : ℕ) (r : Answer) → decoded next ≡ WellFormed (request.NewKey a) → r ≡ Accepted n → h .threads a ≡ some t
-      → makerIn h (event next r) ≡ t .user ∷ []
-  maker-written t a n r e q live =
-      let s = requests-exactly next (request.NewKey a) .0 e in
-      rw (ap (λ (y : Call). y .letter) s, ap (λ (y : Call). y .a) s, q, live) refl
+user-kept : (f : List Frame → List Frame) (o : Option Thread) → mapOption (λ t. t .user) (mapOption (onFrames f) o) ≡ mapOption (λ t. t .user) o
+user-kept f none = refl
+user-kept f (some t) = refl
 
-  pub none-written : (r : Answer) → counts letters.K (event next r) ≡ false → makerIn h (event next r) ≡ []
-  none-written r e = rw e refl
+owner-kept : (f : List Key → List Key) (o : Option Entry) → mapOption (λ e. e .owner) (mapOption (onKeys f) o) ≡ mapOption (λ e. e .owner) o
+owner-kept f none = refl
+owner-kept f (some e) = refl
 
--- ---- what stays
+module _ (h : History) (text : List ℕ) (k : ℕ) where
+  called : (a n : ℕ) (f : List Frame → List Frame) → mapOption (λ t. t .user) (adjust (h .threads) a (onFrames f) n) ≡ mapOption (λ t. t .user) (h .threads n)
+  called a n f = caseBool (eqb n a) (λ p. simp p (user-kept f (h .threads n))) (λ p. simp p)
 
-kept : {o : Option Thread} {t t′ : Thread} → o ≡ some t → o ≡ some t′ → t′ .user ≡ t .user
-kept e e′ = ap (λ (x : Thread). x .user) (some-inj (sym e′ ∙ e))
+  listed : (b s : ℕ) (f : List Key → List Key) → mapOption (λ e. e .owner) (adjust (h .segments) b (onKeys f) s) ≡ mapOption (λ e. e .owner) (h .segments s)
+  listed b s f = caseBool (eqb s b) (λ p. simp p (owner-kept f (h .segments s))) (λ p. simp p)
 
-changed : (h : History) (a n : ℕ) (f : List Frame → List Frame) {t t′ : Thread} → h .threads n ≡ some t → adjust (h .threads) a (onFrames f) n ≡ some t′
-    → t′ .user ≡ t .user
-changed h a n f e e′ =
-    caseBool (eqb n a)
-    (λ q. ap (λ (x : Thread). x .user) (some-inj (sym (rw q at e′) ∙ ap (mapOption (onFrames f)) e)))
-    (λ q. kept e (rw q at e′))
+  note-users : (q : Request) (n : ℕ)
+      → mapOption (λ t. t .user) (note h q text k .threads n)
+      ≡ cond (eqb (callOf q text .letter) letters.S && eqb n k) (some (callOf q text .a))
+      (cond (eqb (callOf q text .letter) letters.E && eqb n (callOf q text .a)) none (mapOption (λ t. t .user) (h .threads n)))
+  unfolding note
+  note-users request.NewUser n = refl
+  note-users (request.StartThread a) n = caseBool (eqb n k) (λ p. simp p) (λ p. simp p)
+  note-users (request.EndThread a) n = caseBool (eqb n a) (λ p. simp p) (λ p. simp p)
+  note-users (request.NewSegment a b) n = refl
+  note-users (request.NewKey a) n = refl
+  note-users (request.GiveKey a b c) n = refl
+  note-users (request.TakeKey a b c) n = refl
+  note-users (request.AddLock a b c) n = refl
+  note-users (request.DropLock a b) n = refl
+  note-users (request.CallSegment a b) n = called a n _
+  note-users (request.ReturnCall a) n = called a n _
+  note-users (request.Access a b c) n = refl
 
--- a thread that is live before and after has its user still, unless an S hands out its number
-note-user : (h : History) (q : Request) (text : List ℕ) (k n : ℕ) {t t′ : Thread} → ((a : ℕ) → q ≡ request.StartThread a → eqb n k ≡ false)
-    → h .threads n ≡ some t → note h q text k .threads n ≡ some t′ → t′ .user ≡ t .user
-unfolding note
-note-user h request.NewUser text k n new e e′ = kept e e′
-note-user h (request.StartThread a) text k n new e e′ = kept e (rw (new a refl) at e′)
-note-user h (request.EndThread a) text k n new e e′ = caseBool (eqb n a) (λ q. absurd (some≢none (sym (rw q at e′)))) (λ q. kept e (rw q at e′))
-note-user h (request.NewSegment a b) text k n new e e′ = kept e e′
-note-user h (request.NewKey a) text k n new e e′ = kept e e′
-note-user h (request.GiveKey a b c) text k n new e e′ = kept e e′
-note-user h (request.TakeKey a b c) text k n new e e′ = kept e e′
-note-user h (request.AddLock a b c) text k n new e e′ = kept e e′
-note-user h (request.DropLock a b) text k n new e e′ = kept e e′
-note-user h (request.CallSegment a b) text k n new e e′ = changed h a n _ e e′
-note-user h (request.ReturnCall a) text k n new e e′ = changed h a n _ e e′
-note-user h (request.Access a b c) text k n new e e′ = kept e e′
+  note-owners : (q : Request) (s : ℕ)
+      → mapOption (λ e. e .owner) (note h q text k .segments s)
+      ≡ cond (eqb (callOf q text .letter) letters.N && eqb s k) (some (editorIn h (callOf q text .a))) (mapOption (λ e. e .owner) (h .segments s))
+  unfolding note
+  note-owners request.NewUser s = refl
+  note-owners (request.StartThread a) s = refl
+  note-owners (request.EndThread a) s = refl
+  note-owners (request.NewSegment a b) s = caseBool (eqb s k) (λ p. simp p) (λ p. simp p)
+  note-owners (request.NewKey a) s = refl
+  note-owners (request.GiveKey a b c) s = listed b s _
+  note-owners (request.TakeKey a b c) s = listed b s _
+  note-owners (request.AddLock a b c) s = refl
+  note-owners (request.DropLock a b) s = refl
+  note-owners (request.CallSegment a b) s = refl
+  note-owners (request.ReturnCall a) s = refl
+  note-owners (request.Access a b c) s = refl
 
--- a segment that is handed out has its owner still, unless an N hands out its number
-abbrev Owned : Map Entry → ℕ → Entry → Type 0
-Owned entries s e = (e′ : Entry) × (entries s ≡ some e′) × (e′ .owner ≡ e .owner)
+-- ---- what an event writes, of a call that is answered as the guard does: accepted only if it is well formed
 
-relisted : (h : History) (b s : ℕ) (f : List Key → List Key) {e : Entry} → h .segments s ≡ some e → Owned (adjust (h .segments) b (onKeys f)) s e
-relisted h b s f {e} q = caseBool (eqb s b) (λ p. (onKeys f e, rw (p, q) refl, refl)) (λ p. (e, rw p q, refl))
+module _ (h : History) (x : Call) where
+  abbrev UsersAfter : ℕ → Decoded → Answer → Type 0
+  UsersAfter n k r =
+      mapOption (λ t. t .user) (noteAnswer h k (x .text) r .threads n)
+      ≡ cond (counts letters.S (event x r) && eqb n (answerValue r)) (some (x .a))
+      (cond (counts letters.E (event x r) && eqb n (x .a)) none (mapOption (λ t. t .user) (h .threads n)))
 
-note-owner : (h : History) (q : Request) (text : List ℕ) (k s : ℕ) {e : Entry} → ((a b : ℕ) → q ≡ request.NewSegment a b → eqb s k ≡ false)
-    → h .segments s ≡ some e → Owned (note h q text k .segments) s e
-unfolding note
-note-owner h request.NewUser text k s {e} new q = (e, q, refl)
-note-owner h (request.StartThread a) text k s {e} new q = (e, q, refl)
-note-owner h (request.EndThread a) text k s {e} new q = (e, q, refl)
-note-owner h (request.NewSegment a b) text k s {e} new q = (e, rw (new a b refl) q, refl)
-note-owner h (request.NewKey a) text k s {e} new q = (e, q, refl)
-note-owner h (request.GiveKey a b c) text k s new q = relisted h b s _ q
-note-owner h (request.TakeKey a b c) text k s new q = relisted h b s _ q
-note-owner h (request.AddLock a b c) text k s {e} new q = (e, q, refl)
-note-owner h (request.DropLock a b) text k s {e} new q = (e, q, refl)
-note-owner h (request.CallSegment a b) text k s {e} new q = (e, q, refl)
-note-owner h (request.ReturnCall a) text k s {e} new q = (e, q, refl)
-note-owner h (request.Access a b c) text k s {e} new q = (e, q, refl)
+  abbrev OwnersAfter : ℕ → Decoded → Answer → Type 0
+  OwnersAfter s k r =
+      mapOption (λ e. e .owner) (noteAnswer h k (x .text) r .segments s)
+      ≡ cond (counts letters.N (event x r) && eqb s (answerValue r)) (some (editorIn h (x .a))) (mapOption (λ e. e .owner) (h .segments s))
 
-pub user-of : (o : Option Thread) (u : ℕ) → mapOption (λ t. t .user) o ≡ some u → (t : Thread) × (o ≡ some t) × (t .user ≡ u)
-user-of none u e = absurd (some≢none (sym e))
-user-of (some t) u e = (t, refl, some-inj e)
+  accepted-users : (q : Request) → decoded x ≡ WellFormed q → (k n : ℕ) → UsersAfter n (WellFormed q) (Accepted k)
+  accepted-users q e k n =
+      let s = requests-exactly x q .0 e in
+      rw (ap (λ (y : Call). y .letter) s, ap (λ (y : Call). y .a) s) (note-users h (x .text) k q n)
 
--- after one more event; the number that an S or an N answers is new
-module _ (es : List Event) (d : State) (m : Mirrors es d) (next : Call) (r : Answer)
-    (number : (q : Request) (k : ℕ) → decoded next ≡ WellFormed q → handsOut q ≡ true → r ≡ Accepted k → k ≡ acceptedOf (next .letter) es) where
-  numbered-as : (q : Request) (k : ℕ) → decoded next ≡ WellFormed q → handsOut q ≡ true → r ≡ Accepted k
-      → k ≡ acceptedOf (callOf q (next .text) .letter) es
-  numbered-as q k e h p = number q k e h p ∙ ap (λ (x : Call). acceptedOf (x .letter) es) (requests-exactly next q .0 e)
+  accepted-owners : (q : Request) → decoded x ≡ WellFormed q → (k s : ℕ) → OwnersAfter s (WellFormed q) (Accepted k)
+  accepted-owners q e k s =
+      let i = requests-exactly x q .0 e in
+      rw (ap (λ (y : Call). y .letter) i, ap (λ (y : Call). y .a) i) (note-owners h (x .text) k q s)
 
-  new-thread : (q : Request) (k n : ℕ) (t : Thread) → decoded next ≡ WellFormed q → r ≡ Accepted k → history es .threads n ≡ some t
-      → (a : ℕ) → q ≡ request.StartThread a → eqb n k ≡ false
-  new-thread q k n t e p live a s =
-      let is : k ≡ acceptedOf letters.S es = numbered-as (request.StartThread a) k (e ∙ ap WellFormed s) refl p in
-      let low = m .numbered n t live in
-      ne-eqb n k (λ z. omega arith)
+  module _ (r : Answer) (formed : decoded x ≡ NotWellFormed → isAccepted r ≡ false) where
+    pub users-after : (n : ℕ)
+        → mapOption (λ t. t .user) (advance h (event x r) .threads n)
+        ≡ cond (counts letters.S (event x r) && eqb n (answerValue r)) (some (x .a))
+        (cond (counts letters.E (event x r) && eqb n (x .a)) none (mapOption (λ t. t .user) (h .threads n)))
+    unfolding advance
+    users-after n = by (decoded x) refl r refl
+      where
+        by : (k : Decoded) → decoded x ≡ k → (y : Answer) → r ≡ y → UsersAfter n k y
+        by NotWellFormed e (Accepted k) p = absurd (true≢false (sym (ap isAccepted p) ∙ formed e))
+        by NotWellFormed e (Refused z) p = refl
+        by (WellFormed q) e (Accepted k) p = accepted-users q e k n
+        by (WellFormed q) e (Refused z) p = refl
 
-  new-segment : (q : Request) (k s : ℕ) (x : Entry) → decoded next ≡ WellFormed q → r ≡ Accepted k → history es .segments s ≡ some x
-      → (a b : ℕ) → q ≡ request.NewSegment a b → eqb s k ≡ false
-  new-segment q k s x e p there a b z =
-      let is : k ≡ acceptedOf letters.N es = numbered-as (request.NewSegment a b) k (e ∙ ap WellFormed z) refl p in
-      let many : length (d .segments) ≡ acceptedOf letters.N es = ap (λ (i : Issued). i .segments) (m .handedOut) in
-      let low = ltb-true s (length (d .segments)) (m .segment s ∙ ap isSome there) in
-      ne-eqb s k (λ y. omega arith)
-
-  pub user-stays : (n : ℕ) (t t′ : Thread) → history es .threads n ≡ some t → advance (history es) (event next r) .threads n ≡ some t′ → t′ .user ≡ t .user
-  unfolding advance
-  user-stays n t t′ live after = by (decoded next) refl r refl after
-    where
-      by : (k : Decoded) → decoded next ≡ k → (x : Answer) → r ≡ x → noteAnswer (history es) k (next .text) x .threads n ≡ some t′ → t′ .user ≡ t .user
-      by NotWellFormed e x p after = kept live after
-      by (WellFormed q) e (Accepted k) p after = note-user (history es) q (next .text) k n (new-thread q k n t e p live) live after
-      by (WellFormed q) e (Refused z) p after = kept live after
-
-  pub owner-stays : (s : ℕ) (x : Entry) → history es .segments s ≡ some x → Owned (advance (history es) (event next r) .segments) s x
-  unfolding advance
-  owner-stays s x there = by (decoded next) refl r refl
-    where
-      by : (k : Decoded) → decoded next ≡ k → (y : Answer) → r ≡ y → Owned (noteAnswer (history es) k (next .text) y .segments) s x
-      by NotWellFormed e y p = (x, there, refl)
-      by (WellFormed q) e (Accepted k) p = note-owner (history es) q (next .text) k s (new-segment q k s x e p there) there
-      by (WellFormed q) e (Refused z) p = (x, there, refl)
-
-pub started-by : (h : History) (next : Call) (a n : ℕ) (r : Answer) → decoded next ≡ WellFormed (request.StartThread a) → r ≡ Accepted n
-    → mapOption (λ t. t .user) (advance h (event next r) .threads n) ≡ some a
-unfolding advance note
-started-by h next a n r e q = rw (e, q, eqb-self n) refl
+    pub owners-after : (s : ℕ)
+        → mapOption (λ e. e .owner) (advance h (event x r) .segments s)
+        ≡ cond (counts letters.N (event x r) && eqb s (answerValue r)) (some (editorIn h (x .a))) (mapOption (λ e. e .owner) (h .segments s))
+    unfolding advance
+    owners-after s = by (decoded x) refl r refl
+      where
+        by : (k : Decoded) → decoded x ≡ k → (y : Answer) → r ≡ y → OwnersAfter s k y
+        by NotWellFormed e (Accepted k) p = absurd (true≢false (sym (ap isAccepted p) ∙ formed e))
+        by NotWellFormed e (Refused z) p = refl
+        by (WellFormed q) e (Accepted k) p = accepted-owners q e k s
+        by (WellFormed q) e (Refused z) p = refl

@@ -1,10 +1,10 @@
 -- What the table asks of the state is read off the agreement of model and history; the makers are counted along the
 -- list of calls, and a segment's own key is what the arrays say it is.
-use mathlib.Core.Path.{_≡_, refl, sym, ap, subst, _∙_}
+use mathlib.Core.Path.{_≡_, refl, sym, ap, _∙_}
 use mathlib.Core.Bool.{true, not, cond}
 use mathlib.Core.List.{List, [], _∷_, _++_, map, append-nil, append-assoc, List·Memᴰ}
 use mathlib.Core.Option.{Option, none, some}
-use Prim.Native.Nat.{ℕ, _<_}
+use Prim.Native.Nat.{ℕ}
 use native.Mathlib.Omega.{arith}
 use lib.Dec.{eqb}
 use lib.ListN.{length}
@@ -39,7 +39,6 @@ use Rattle.model.specs.Theorems.Mirror.{MirrorByLaws, Spelt, Mirror}
 use Rattle.base.proofs.Lists.{caseBool, same-truth, eqb-self, any-passes, at-lt, isSome-some}
 use Rattle.call.proofs.EveryRequest.{every-request}
 use Rattle.model.proofs.Refinement.Literals.{keyIn-segment}
-use Rattle.model.proofs.Agreement.Places.{thread-low}
 use Rattle.model.proofs.Agreement.Segments.{entryOf, entry-low, entry-is}
 use Rattle.model.proofs.Agreement.Locks.{found}
 use Rattle.model.proofs.Agreement.ReadLocks.{lock-homed, lock-stands, lock-made}
@@ -157,7 +156,6 @@ mirror-by-laws compile meaning law xs =
       threads = c .counts .5;
       live = λ n. ap isSome (found-as compile d (history es) count c n);
       thread = thread-as compile d (history es) count c;
-      numbered = λ n t e. subst (λ (k : ℕ). n < k) (c .counts .1) (thread-low (d .places) (d .threadNumbers) (history es .threads) (c .threads) n t e);
       editors = λ n. ap (mapOption (λ t. t .user)) (found-as compile d (history es) count c n);
       segment = segment-as compile es d c;
       owner = λ s e h. ap (λ (x : Entry). x .owner) (entry s e h);

@@ -17,7 +17,7 @@ use Rattle.model.specs.Limits.{mostThreads, passes}
 use Rattle.model.specs.Threads.{Thread}
 use Rattle.model.specs.State.{Place, free, taken, isFree, liveIn, isThread, threadIn, placeFor, placeOf, findThread}
 use Rattle.model.specs.Effects.{onThread}
-use Rattle.base.proofs.Lists.{caseBool, clash, eqb-self, indexOf-lt, indexOf-passes, some≢none}
+use Rattle.base.proofs.Lists.{caseBool, clash, eqb-self, indexOf-lt, indexOf-passes}
 
 -- ---- the place that passes a test
 
@@ -162,16 +162,6 @@ module _ (places : List Place) (numbers : ℕ) (threads : Map Thread) (c : Agree
   stands-home : (n i : ℕ) (t : Thread) → getD places i free ≡ taken n t → threads n ≡ some t
   stands-home n i t e =
       c .written n ∙ ap (λ (j : ℕ). standing n (getD places j free)) (c .here i n t e) ∙ ap (standing n) e ∙ simp (eqb-self n)
-
-  pub thread-low : (n : ℕ) (t : Thread) → threads n ≡ some t → n < numbers
-  thread-low n t e = go (getD places (c .home n) free) refl
-    where
-      go : (x : Place) → getD places (c .home n) free ≡ x → n < numbers
-      go free q = absurd (some≢none (sym e ∙ c .written n ∙ ap (standing n) q))
-      go (taken k s) q =
-          caseBool (eqb n k)
-          (λ p. let b = c .below (c .home n) k s q in let z = eqb-true n k p in omega arith)
-          (λ p. absurd (some≢none (sym e ∙ c .written n ∙ ap (standing n) q ∙ stands-not n k s p)))
 
   pub look : (n : ℕ) → threads n ≡ findThread n places
   look n = go (getD places (placeOf n places) free) refl ∙ sym (found-stands n places)

@@ -1,26 +1,28 @@
 -- Request P4: 'N, K, G, T, L and D now carry a run in field a, and the user is that run's. .. An ended or unknown run
 -- is 2 where 1 stood. .. The history in the granting theorem takes the editor from the run.' What the list of calls and
--- answers before an edit says of 2 and 6, and what an accepted N or K writes. Proved in
+-- answers before an edit says of 2 and 6, and whose everything is after any call. Proved in
 -- `proofs/Agreement/Editing.antt`.
 use mathlib.Core.Path.{_≡_}
-use mathlib.Core.Bool.{true, false}
+use mathlib.Core.Bool.{true, _&&_, cond}
 use mathlib.Core.List.{List, [], _∷_, _++_, List·Memᴰ}
 use mathlib.Core.Logic.{_↔_}
 use mathlib.Core.Option.{Option, none, some}
 use Prim.Native.Nat.{ℕ, _<_}
+use lib.Dec.{eqb}
 use lib.ListN.{getD}
 use Rattle.formula.specs.Outcome.{outcomeOf}
 use Rattle.call.specs.declared.request.Request.{Request}
-use Rattle.call.specs.declared.request.Request.the-variants.{StartThread, NewSegment, NewKey, GiveKey, TakeKey, AddLock, DropLock}
+use Rattle.call.specs.declared.request.Request.the-variants.{GiveKey, TakeKey, AddLock, DropLock}
 use Rattle.call.specs.declared.request.Decoded.the-variants.{WellFormed}
 use Rattle.call.specs.Calls.{Call, callWith, decoded}
 use Rattle.call.specs.Letters as letters
 use Rattle.model.specs.declared.answer.Refusal.the-variants.{UnknownUser, NoThread, NotOwner}
 use Rattle.model.specs.declared.answer.Answer.{Answer}
-use Rattle.model.specs.declared.answer.Answer.the-variants.{Accepted, Refused}
+use Rattle.model.specs.declared.answer.Answer.the-variants.{Refused}
+use Rattle.model.specs.Answers.{answerValue}
 use Rattle.model.specs.Threads.{Thread}
-use Rattle.model.specs.History.{Event, Entry, Lock, event, freshEntry, history, counts, acceptedOf, makersOf}
-use Rattle.base.specs.Lists.{mapOption}
+use Rattle.model.specs.History.{Event, Entry, Lock, event, history, counts, acceptedOf, makersOf}
+use Rattle.base.specs.Lists.{mapOption, orDefault}
 use Rattle.model.specs.Stores.{stepCells}
 use Rattle.model.specs.Replay.{reached, events, answerTo}
 use Rattle.model.specs.Theorems.Neighbours.{hasLetter}
@@ -49,6 +51,10 @@ pub record AnothersSegmentOrKey (es : List Event) (a s k : ℕ) : Type 0 where
 abbrev pub userIn : List Event → ℕ → Option ℕ
 userIn es a = mapOption (λ t. t .user) (history es .threads a)
 
+-- whose segment s is
+abbrev pub ownerIn : List Event → ℕ → Option ℕ
+ownerIn es s = mapOption (λ e. e .owner) (history es .segments s)
+
 -- the same call with another field a
 abbrev pub byThread : ℕ → Call → Call
 byThread a x = callWith (x .letter) a (x .b) (x .c) (x .text)
@@ -70,21 +76,15 @@ pub record Edits (es : List Event) (next : Call) (r : Answer) : Type 0 where
   pub drop : (a b : ℕ) → decoded next ≡ WellFormed (DropLock a b)
       → (r ≡ Refused NotOwner)
       ↔ ((l : Lock) × List·Memᴰ l (history es .locks) × (l .number ≡ b) × AnothersSegment es a (l .segment))
-  -- the thread's user, as the history then is, becomes the owner of a new segment and the maker of a new key; any other
-  -- call, and a refused K, leaves the makers as they were
-  pub owner : (a b n : ℕ) → decoded next ≡ WellFormed (NewSegment a b) → r ≡ Accepted n
-      → (t : Thread) → history es .threads a ≡ some t
-      → history (es ++ event next r ∷ []) .segments n ≡ some (freshEntry n (t .user) b)
-  pub maker : (a n : ℕ) → decoded next ≡ WellFormed (NewKey a) → r ≡ Accepted n
-      → (t : Thread) → history es .threads a ≡ some t
-      → makersOf (es ++ event next r ∷ []) ≡ makersOf es ++ t .user ∷ []
-  pub noMaker : counts letters.K (event next r) ≡ false → makersOf (es ++ event next r ∷ []) ≡ makersOf es
-  -- a thread has the user that its S named, as long as it is live, and a segment its owner
-  pub started : (a n : ℕ) → decoded next ≡ WellFormed (StartThread a) → r ≡ Accepted n
-      → userIn (es ++ event next r ∷ []) n ≡ some a
-  pub userStays : (n u v : ℕ) → userIn es n ≡ some u → userIn (es ++ event next r ∷ []) n ≡ some v → v ≡ u
-  pub ownerStays : (s : ℕ) (e : Entry) → history es .segments s ≡ some e
-      → (e′ : Entry) × (history (es ++ event next r ∷ []) .segments s ≡ some e′) × (e′ .owner ≡ e .owner)
+  -- Whose everything is after the call. Of a thread: whom an accepted S names, nobody after an accepted E, and else as
+  -- before. Of a segment and of a D key: who edits in an accepted N and K, and else as before.
+  pub users : (n : ℕ) → userIn (es ++ event next r ∷ []) n
+      ≡ cond (counts letters.S (event next r) && eqb n (answerValue r)) (some (next .a))
+      (cond (counts letters.E (event next r) && eqb n (next .a)) none (userIn es n))
+  pub owners : (s : ℕ) → ownerIn (es ++ event next r ∷ []) s
+      ≡ cond (counts letters.N (event next r) && eqb s (answerValue r)) (userIn es (next .a)) (ownerIn es s)
+  pub makers : makersOf (es ++ event next r ∷ [])
+      ≡ makersOf es ++ cond (counts letters.K (event next r)) (orDefault [] (λ u. u ∷ []) (userIn es (next .a))) []
 
 pub record Editing : Type 0 where
   pub edits : (xs : List Call) (next : Call) → Edits (events outcomeOf xs) next (answerTo outcomeOf xs next)

@@ -7,7 +7,7 @@ use mathlib.Core.Path.{_≡_}
 use mathlib.Core.Bool.{Bool}
 use mathlib.Core.List.{List, _∷_, List·Memᴰ}
 use mathlib.Core.Option.{some}
-use Prim.Native.Nat.{ℕ, _+_, _<_}
+use Prim.Native.Nat.{ℕ, _+_}
 use lib.Dec.{eqb}
 use Rattle.product.specs.declared.literal.Key.{Key}
 use Rattle.product.specs.declared.literal.Key.the-variants.{Segment as SegmentKey}
@@ -38,8 +38,6 @@ pub record Mirrors (es : List Event) (d : State) : Type 0 where
   pub threads : liveIn (d .places) + acceptedOf letters.E es ≡ acceptedOf letters.S es
   pub live : (n : ℕ) → isLive d n ≡ isSome (history es .threads n)
   pub thread : (n : ℕ) (t : Thread) → history es .threads n ≡ some t → threadAt d n ≡ t
-  -- their numbers are among those that S handed out
-  pub numbered : (n : ℕ) (t : Thread) → history es .threads n ≡ some t → n < acceptedOf letters.S es
   -- who edits: the user of the thread that field a names, if it is live
   pub editors : (n : ℕ) → editor d n ≡ mapOption (λ t. t .user) (history es .threads n)
   -- segments, with their owner, kind and key list, which starts with its own S key

@@ -248,6 +248,8 @@ liveThreads =
     ∷ no (S 0) 10 0
     ∷ no (R 64) 9 0
     ∷ no (R 5) 2 0
+    ∷ ok (N 64 0) 0
+    ∷ no (K 5) 2 0
     ∷ []
 
 abbrev pub keyRing : List Expected
