@@ -1,6 +1,9 @@
 pub mod Agrees
 pub mod Editing
+pub mod Editors
+pub mod EditsAccepted
 pub mod EditsAlike
+pub mod EditsRefused
 pub mod EditsWritten
 pub mod EveryCall
 pub mod Granting

@@ -48,7 +48,7 @@ use Rattle.base.proofs.Lists.{caseBool, isSome-some}
 use Rattle.model.proofs.Refusals.Refusing.{judged-accepted, answer-decoded, refused-as}
 use Rattle.model.proofs.Agreement.Mirror.{mirror}
 use Rattle.model.proofs.Agreement.StoredLocks.{stored-locks}
-use Rattle.model.proofs.Agreement.Editing.{live-as, user-as}
+use Rattle.model.proofs.Agreement.Editors.{live-as, user-as}
 use Rattle.model.proofs.Agreement.TextTests.{tests, late, isLate, reaches-text, passed, late-malformed, late-wide, late-unsatisfiable, late-full, late-none, late-over, overfull}
 
 -- ---- of an L after some events

@@ -1,28 +1,29 @@
 -- Request P4: 'N, K, G, T, L and D now carry a run in field a, and the user is that run's. .. An ended or unknown run
 -- is 2 where 1 stood. .. The history in the granting theorem takes the editor from the run.' What the list of calls and
--- answers before an edit says of 2 and 6, and whose everything is after any call. Proved in
+-- answers before an edit says of 2, of 6 and of its being accepted, and whose everything is after any call. Proved in
 -- `proofs/Agreement/Editing.antt`.
 use mathlib.Core.Path.{_≡_}
-use mathlib.Core.Bool.{true, _&&_, cond}
+use mathlib.Core.Bool.{true, false, _&&_, cond}
 use mathlib.Core.List.{List, [], _∷_, _++_, List·Memᴰ}
 use mathlib.Core.Logic.{_↔_}
 use mathlib.Core.Option.{Option, none, some}
-use Prim.Native.Nat.{ℕ, _<_}
+use Prim.Native.Nat.{ℕ, _≤_, _<_}
 use lib.Dec.{eqb}
-use lib.ListN.{getD}
+use lib.ListN.{length, getD}
+use Rattle.product.specs.declared.literal.Key.the-variants.{Defined}
 use Rattle.formula.specs.Outcome.{outcomeOf}
 use Rattle.call.specs.declared.request.Request.{Request}
-use Rattle.call.specs.declared.request.Request.the-variants.{GiveKey, TakeKey, AddLock, DropLock}
+use Rattle.call.specs.declared.request.Request.the-variants.{StartThread, NewSegment, NewKey, GiveKey, TakeKey, AddLock, DropLock}
 use Rattle.call.specs.declared.request.Decoded.the-variants.{WellFormed}
 use Rattle.call.specs.Calls.{Call, callWith, decoded}
 use Rattle.call.specs.Letters as letters
 use Rattle.model.specs.declared.answer.Refusal.the-variants.{UnknownUser, NoThread, NotOwner}
 use Rattle.model.specs.declared.answer.Answer.{Answer}
 use Rattle.model.specs.declared.answer.Answer.the-variants.{Refused}
-use Rattle.model.specs.Answers.{answerValue}
-use Rattle.model.specs.Threads.{Thread}
+use Rattle.model.specs.Answers.{isAccepted, answerValue}
+use Rattle.model.specs.Threads.{Thread, isIn}
 use Rattle.model.specs.History.{Event, Entry, Lock, event, history, counts, acceptedOf, makersOf}
-use Rattle.base.specs.Lists.{mapOption, orDefault}
+use Rattle.base.specs.Lists.{isSome, mapOption, orDefault}
 use Rattle.model.specs.Stores.{stepCells}
 use Rattle.model.specs.Replay.{reached, events, answerTo}
 use Rattle.model.specs.Theorems.Neighbours.{hasLetter}
@@ -46,6 +47,14 @@ pub record AnothersSegmentOrKey (es : List Event) (a s k : ℕ) : Type 0 where
   pub segment : history es .segments s ≡ some entry
   pub key : k < acceptedOf letters.K es
   pub other : entry .owner ≡ thread .user → getD (makersOf es) k 0 ≡ thread .user → ⊥
+
+-- thread a is live and segment s handed out, and the thread's user is the segment's owner
+pub record OwnSegment (es : List Event) (a s : ℕ) : Type 0 where
+  pub thread : Thread
+  pub live : history es .threads a ≡ some thread
+  pub entry : Entry
+  pub segment : history es .segments s ≡ some entry
+  pub owner : entry .owner ≡ thread .user
 
 -- who edits, as the history has him: the user of thread a, if it is live
 abbrev pub userIn : List Event → ℕ → Option ℕ
@@ -76,6 +85,25 @@ pub record Edits (es : List Event) (next : Call) (r : Answer) : Type 0 where
   pub drop : (a b : ℕ) → decoded next ≡ WellFormed (DropLock a b)
       → (r ≡ Refused NotOwner)
       ↔ ((l : Lock) × List·Memᴰ l (history es .locks) × (l .number ≡ b) × AnothersSegment es a (l .segment))
+  -- accepted exactly so; of L that is `made` of `LockTexts`
+  pub segmentMade : (a b : ℕ) → decoded next ≡ WellFormed (NewSegment a b)
+      → (isAccepted r ≡ true)
+      ↔ ((isSome (history es .threads a) ≡ true) × (b ≤ 1) × (acceptedOf letters.N es < 64))
+  pub keyMade : (a : ℕ) → decoded next ≡ WellFormed (NewKey a)
+      → (isAccepted r ≡ true) ↔ ((isSome (history es .threads a) ≡ true) × (acceptedOf letters.K es < 1024))
+  pub keyGiven : (a b c : ℕ) → decoded next ≡ WellFormed (GiveKey a b c)
+      → (isAccepted r ≡ true)
+      ↔ ((o : OwnSegment es a b) × (c < acceptedOf letters.K es) × (getD (makersOf es) c 0 ≡ o .thread .user)
+      × (isIn (Defined c) (o .entry .keys) ≡ false) × (length (o .entry .keys) < 8))
+  pub keyTaken : (a b c : ℕ) → decoded next ≡ WellFormed (TakeKey a b c)
+      → (isAccepted r ≡ true)
+      ↔ ((o : OwnSegment es a b) × (c < acceptedOf letters.K es) × (isIn (Defined c) (o .entry .keys) ≡ true))
+  pub lockDropped : (a b : ℕ) → decoded next ≡ WellFormed (DropLock a b)
+      → (isAccepted r ≡ true)
+      ↔ ((l : Lock) × List·Memᴰ l (history es .locks) × (l .number ≡ b) × OwnSegment es a (l .segment))
+  -- S: 1 exactly where its user isn't handed out
+  pub stranger : (a : ℕ) → decoded next ≡ WellFormed (StartThread a)
+      → (r ≡ Refused UnknownUser) ↔ (acceptedOf letters.U es ≤ a)
   -- Whose everything is after the call. Of a thread: whom an accepted S names, nobody after an accepted E, and else as
   -- before. Of a segment and of a D key: who edits in an accepted N and K, and else as before.
   pub users : (n : ℕ) → userIn (es ++ event next r ∷ []) n

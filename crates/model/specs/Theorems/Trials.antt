@@ -233,7 +233,7 @@ editors =
 
 -- 32 users, 64 segments; 64 live threads, where an ended one makes room; 8 keys in a list, where a taken one makes room
 abbrev pub users : List Expected
-users = each (ok U) 0 32 ++ no U 10 0 ∷ []
+users = each (ok U) 0 32 ++ no U 10 0 ∷ no (S 32) 1 0 ∷ no (S 65535) 1 0 ∷ ok (S 31) 0 ∷ []
 
 abbrev pub segments : List Expected
 segments = ok U 0 ∷ ok (S 0) 0 ∷ each (ok (N 0 1)) 0 64 ++ no (N 0 1) 10 0 ∷ []
