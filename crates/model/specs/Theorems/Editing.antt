@@ -70,7 +70,7 @@ byThread a x = callWith (x .letter) a (x .b) (x .c) (x .text)
 
 -- What the events before the next call say of it and its answer r.
 pub record Edits (es : List Event) (next : Call) (r : Answer) : Type 0 where
-  -- 2 exactly where the thread of field a isn't live, whatever the other fields are; and 1 never
+  -- 2 exactly where the thread of field a isn't live, whatever else is named; and 1 never
   pub noThread : (q : Request) → decoded next ≡ WellFormed q → hasLetter editLetters next ≡ true
       → (r ≡ Refused NoThread) ↔ (history es .threads (next .a) ≡ none)
   pub noStranger : (q : Request) → decoded next ≡ WellFormed q → hasLetter editLetters next ≡ true
