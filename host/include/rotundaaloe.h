@@ -442,7 +442,7 @@ typedef char rotundaaloe_private_row_fits
  * The segment's standing locks, by rising number, as the user may see them: a row for each product
  * for its owner, and one for each lock for anyone else. filled: how many of the lent rows, from the
  * first on; the others stay as they were, and so do all where it is refused. No list needs more
- * than ROTUNDAALOE_MOST_PRODUCTS. Refused: 1, 3, 19.
+ * than ROTUNDAALOE_MOST_PRODUCTS. The host vouches for the user. Refused: 1, 3, 19.
  */
 ROTUNDAALOE_CHECKED unsigned rotundaaloe_list_locks(const struct rotundaaloe_state *state,
                                                     uint16_t user, uint16_t segment,

@@ -63,7 +63,7 @@ markL = 76
 abbrev pub markD : ℕ
 markD = 68
 
--- the version: request P4, 'the file version becomes 2'
+-- the version: request P4, 'The file version becomes 2'
 abbrev pub fileVersion : ℕ
 fileVersion = 2
 

@@ -1,13 +1,16 @@
 -- The trials, by computing. Each long list is a declaration of its own, so that the prover never holds two of them.
 use mathlib.Core.Path.{_≡_, refl, ap, ap₂, _∙_}
 use mathlib.Core.List.{List, [], _∷_, _++_, map}
+use mathlib.Core.Option.{none, some}
 use lib.ListN.{getD, replicate}
 use Rattle.base.specs.Lists.{tailOf}
 use Rattle.formula.specs.Outcome.{outcomeOf}
 use Rattle.model.specs.State.{State, emptyState, freshSegment, freshThread, free, taken}
 use Rattle.model.specs.Model.{step}
-use Rattle.model.specs.Replay.{stateAfter, eventsOf}
+use Rattle.model.specs.History.{makersOf}
+use Rattle.model.specs.Replay.{stateAfter, events, eventsOf}
 use Rattle.model.specs.Notation.{Expected, callsOf, got, Happens}
+use Rattle.model.specs.Theorems.Editing.{userIn, ownerIn}
 use Rattle.model.specs.Theorems.Trials.{refusals, identity, editors, users, segments, liveThreads, keyRing, keysGiven, listed, frames, Trials}
 use Rattle.model.proofs.Unfoldings.{computing}
 use Rattle.model.proofs.Refinement.EveryCall.{refinement}
@@ -23,6 +26,18 @@ identity-happens = refl
 editors-happen : Happens editors
 unfolding computing
 editors-happen = refl
+
+editors-users : map (userIn (events outcomeOf (callsOf editors))) (0 ∷ 1 ∷ 2 ∷ 3 ∷ 4 ∷ 5 ∷ []) ≡ some 1 ∷ none ∷ some 0 ∷ some 3 ∷ some 2 ∷ some 3 ∷ []
+unfolding computing
+editors-users = refl
+
+editors-owners : map (ownerIn (events outcomeOf (callsOf editors))) (0 ∷ 1 ∷ 2 ∷ 3 ∷ []) ≡ some 0 ∷ some 3 ∷ some 2 ∷ none ∷ []
+unfolding computing
+editors-owners = refl
+
+editors-makers : makersOf (events outcomeOf (callsOf editors)) ≡ 0 ∷ 3 ∷ []
+unfolding computing
+editors-makers = refl
 
 users-happen : Happens users
 unfolding computing
@@ -85,6 +100,9 @@ trials =
       numbered = refl;
       identityHappens = identity-happens;
       editorsHappen = editors-happen;
+      editorsUsers = editors-users;
+      editorsOwners = editors-owners;
+      editorsMakers = editors-makers;
       usersHappen = users-happen;
       segmentsHappen = segments-happen;
       threadsHappen = threads-happen;

@@ -1,7 +1,7 @@
 -- Request P4: 'N, K, G, T, L and D now carry a run in field a, and the user is that run's. .. An ended or unknown run
 -- is 2 where 1 stood. .. The history in the granting theorem takes the editor from the run.' What the list of calls and
--- answers before an edit says of 2, of 6 and of its being accepted, and whose everything is after any call. Proved in
--- `proofs/Agreement/Editing.antt`.
+-- answers before an edit says of 2, of 6 and of its being accepted, and before an S of 1; and whose everything is after
+-- any call. Proved in `proofs/Agreement/Editing.antt`.
 use mathlib.Core.Path.{_≡_}
 use mathlib.Core.Bool.{true, false, _&&_, cond}
 use mathlib.Core.List.{List, [], _∷_, _++_, List·Memᴰ}

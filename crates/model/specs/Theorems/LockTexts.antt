@@ -30,7 +30,7 @@ use Rattle.model.specs.Replay.{events, answerTo}
 use Rattle.model.specs.HistoryLocks.{standingProducts}
 
 -- 'in a call that no earlier number refuses', of an L with fields a, b and c: thread a is live, segment b is handed out
--- and its user's, and it takes the operations c
+-- and the thread's user's, and it takes the operations c
 pub record Allowed (es : List Event) (a b c : ℕ) : Type 0 where
   pub thread : Thread
   pub live : history es .threads a ≡ some thread

@@ -5,6 +5,7 @@
 use mathlib.Core.Path.{_≡_}
 use mathlib.Core.Bool.{Bool, true, false, _&&_, _||_, not}
 use mathlib.Core.List.{List, [], _∷_, _++_, map}
+use mathlib.Core.Option.{none, some}
 use Prim.Native.Nat.{ℕ, _+_}
 use lib.Dec.{eqb}
 use lib.ListN.{length, replicate}
@@ -16,11 +17,14 @@ use Rattle.base.specs.Lists.{any, keep, each}
 use Rattle.model.specs.State.{State, emptyState, blankSegment, freshThread, free, taken}
 use Rattle.model.specs.Refusals.{conditions}
 use Rattle.model.specs.Model.{step}
-use Rattle.model.specs.History.{handsOut}
-use Rattle.model.specs.Notation.{Expected, U, S, E, N, K, G, T, L, D, C, R, A, ok, no, Happens}
+use Rattle.model.specs.History.{handsOut, makersOf}
+use Rattle.model.specs.Replay.{events}
+use Rattle.model.specs.Notation.{Expected, U, S, E, N, K, G, T, L, D, C, R, A, ok, no, callsOf, Happens}
+use Rattle.model.specs.Theorems.Editing.{userIn, ownerIn}
 
--- users 0 and 1; thread 0 of user 1, threads 1 and 2 of user 0, and thread 3 of user 0, which has ended. Segments 0
--- (code) and 1 (sheet) of user 0, 2 (sheet) of user 1; D0 of user 0, D1 of user 1
+-- users 0 and 1; thread 0 of user 1, threads 1 and 2 of user 0, and thread 3 of user 0, which has ended; there is no
+-- thread 4, and no thread 65, whose place would be thread 1's. Segments 0 (code) and 1 (sheet) of user 0, 2 (sheet) of
+-- user 1; D0 of user 0, D1 of user 1
 abbrev pub start : List Expected
 start =
     ok U 0
@@ -330,6 +334,12 @@ pub record Trials : Type 0 where
       ≡ true ∷ true ∷ false ∷ true ∷ true ∷ false ∷ false ∷ true ∷ false ∷ false ∷ false ∷ false ∷ []
   pub identityHappens : Happens identity
   pub editorsHappen : Happens editors
+  -- whose threads 0 to 5, segments 0 to 3 and keys are then, by the history
+  pub editorsUsers : map (userIn (events outcomeOf (callsOf editors))) (0 ∷ 1 ∷ 2 ∷ 3 ∷ 4 ∷ 5 ∷ [])
+      ≡ some 1 ∷ none ∷ some 0 ∷ some 3 ∷ some 2 ∷ some 3 ∷ []
+  pub editorsOwners : map (ownerIn (events outcomeOf (callsOf editors))) (0 ∷ 1 ∷ 2 ∷ 3 ∷ [])
+      ≡ some 0 ∷ some 3 ∷ some 2 ∷ none ∷ []
+  pub editorsMakers : makersOf (events outcomeOf (callsOf editors)) ≡ 0 ∷ 3 ∷ []
   pub usersHappen : Happens users
   pub segmentsHappen : Happens segments
   pub threadsHappen : Happens liveThreads

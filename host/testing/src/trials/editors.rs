@@ -1,6 +1,6 @@
 //! Who edits (document 02, P4): the user of the thread in field a, if it is live.
-//! The numbers of threads and of their users are different, so that the one can't
-//! be taken for the other.
+//! Where it matters, threads have other numbers than their users, so that the one
+//! can't be taken for the other.
 
 use super::{Guard, Office};
 use reference::limits::MAX_LIVE_THREADS;
