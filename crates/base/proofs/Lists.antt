@@ -274,6 +274,11 @@ module _ {A : Type 0} where
   everywhere-set P d (y ∷ ys) h (suc i) x p zero = h zero
   everywhere-set P d (y ∷ ys) h (suc i) x p (suc j) = everywhere-set P d ys (λ k. h (suc k)) i x p j
 
+  pub everywhere-map : (P Q : A → Type 0) (d : A) (f : A → A) → ((x : A) → P x → Q (f x)) → Q d → (xs : List A) → Everywhere P d xs → Everywhere Q d (map f xs)
+  everywhere-map P Q d f h q [] k i = q
+  everywhere-map P Q d f h q (x ∷ xs) k zero = h x (k zero)
+  everywhere-map P Q d f h q (x ∷ xs) k (suc i) = everywhere-map P Q d f h q xs (λ j. k (suc j)) i
+
   pub everywhere-append-one : (P : A → Type 0) (d : A) (xs : List A) → Everywhere P d xs → (x : A) → P x → Everywhere P d (xs ++ x ∷ [])
   everywhere-append-one P d [] h x p zero = p
   everywhere-append-one P d [] h x p (suc j) = h j

@@ -1,6 +1,6 @@
 -- Loops over a list, from its first element on. `Missed`: none before i passes, so that the first that passes is at i
 -- or after it. `Rest`: what is left to ask, from i on, answers what the whole does; `Asks` is the question whether one
--- passes.
+-- passes. `Changed`: the elements before i are changed, and those from i on are as they were.
 use mathlib.Core.Path.{_≡_, refl, sym, ap, _∙_}
 use mathlib.Core.Bool.{Bool, true, false, _||_}
 use mathlib.Core.List.{List, [], _∷_, map, append-nil}
@@ -8,8 +8,8 @@ use Prim.Native.Nat.{ℕ, zero, suc, _+_, _≤_, _<_}
 use native.Mathlib.Numerals.{add-one}
 use native.Mathlib.Omega.{arith}
 use lib.Dec.{eqb}
-use lib.ListN.{length, getD, drop, drop-of-length-le}
-use lib.Seq.{drop-cons}
+use lib.ListN.{length, getD, set, drop, length-set, length-map, drop-of-length-le}
+use lib.Seq.{drop-cons, getD-set-same, getD-set-other, ext-getD}
 use borrow.Author.Tests.{eqb-true, eqb-false}
 use Rattle.base.specs.Lists.{indexOf, each}
 use Rattle.base.proofs.Lists.{caseBool, each-suc, each-getD}
@@ -103,3 +103,51 @@ module _ {A : Type 0} {g : List A → Bool} {ends p : A → Bool} (q : Asks g en
 
       pub asks-miss : p (getD xs i d) ≡ false → Rest g r xs (i + 1)
       asks-miss f = record { rest = next ∙ rw f }
+
+-- ---- each element changed in its place
+
+module _ {A : Type 0} (f : A → A) (d : A) where
+  pub record Changed (xs : List A) (i : ℕ) (ys : List A) : Type 0 where
+    pub same : length ys ≡ length xs
+    pub before : (j : ℕ) → j < i → getD ys j d ≡ f (getD xs j d)
+    pub after : (j : ℕ) → i ≤ j → getD ys j d ≡ getD xs j d
+
+  pub changed-start : (xs : List A) → Changed xs 0 xs
+  changed-start xs = record { same = refl; before = λ j h. absurd (omega arith); after = λ j h. refl }
+
+  module _ {xs ys : List A} {i : ℕ} (c : Changed xs i ys) (h : i < length xs) where
+    pub changed-next : (y : A) → y ≡ f (getD ys i d) → Changed xs (i + 1) (set ys i y)
+    changed-next y e =
+        record {
+          same = length-set ys i y ∙ c .same;
+          before = λ j l.
+              caseBool (eqb j i)
+              (λ t. let p = eqb-true j i t in
+              ap (λ (k : ℕ). getD (set ys i y) k d) p ∙ getD-set-same ys i y d (let q = c .same in omega arith) ∙ e ∙ ap f (c .after i (omega arith)) ∙ ap (λ (k : ℕ). f (getD xs k d)) (sym p))
+              (λ t. let p = eqb-false j i t in getD-set-other ys i j y d p ∙ c .before j (omega (arith, p)));
+          after = λ j l. getD-set-other ys i j y d (λ p. omega arith) ∙ c .after j (omega arith);
+        }
+
+    -- one that f leaves as it is
+    pub changed-skip : f (getD ys i d) ≡ getD ys i d → Changed xs (i + 1) ys
+    changed-skip e =
+        record {
+          same = c .same;
+          before = λ j l.
+              caseBool (eqb j i)
+              (λ t. let p = eqb-true j i t in
+              ap (λ (k : ℕ). getD ys k d) p ∙ sym e ∙ ap f (c .after i (omega arith)) ∙ ap (λ (k : ℕ). f (getD xs k d)) (sym p))
+              (λ t. let p = eqb-false j i t in c .before j (omega (arith, p)));
+          after = λ j l. c .after j (omega arith);
+        }
+
+  pub changed-end : {xs ys : List A} {i : ℕ} → Changed xs i ys → length xs ≤ i → ys ≡ map f xs
+  changed-end {xs} {ys} c h =
+      ext-getD d ys (map f xs) (c .same ∙ sym (length-map xs f))
+      (λ j l. let q = c .same in let low : j < length xs = omega arith in
+      c .before j (omega arith) ∙ sym (map-read xs j low))
+    where
+      map-read : (zs : List A) (j : ℕ) → j < length zs → getD (map f zs) j d ≡ f (getD zs j d)
+      map-read [] j l = absurd (omega arith)
+      map-read (z ∷ zs) zero l = refl
+      map-read (z ∷ zs) (suc j) l = map-read zs j (omega arith)

@@ -13,11 +13,11 @@ use Rattle.product.specs.declared.literal.Key.the-variants.{User, Thread as Thr
 use Rattle.product.specs.declared.literal.Literal.{Literal}
 use Rattle.product.specs.declared.literal.Literal.the-variants.{Plain, Barred}
 use Rattle.product.specs.Atom.{agrees, atomOf, numberOf, compareAtoms, orderOf}
-use Rattle.product.proofs.Comparison.{is-equal, compare-equal, compare-same}
 use Rattle.base.specs.Lists.{any, keep, each}
 use Rattle.model.specs.Limits.{mostSegments}
 use Rattle.model.specs.Threads.{sameKey, isIn}
 use Rattle.model.specs.Cells.{Row, Table, cell, rowAt, numberCell, userCell, noKey, keyIn, hasKey, keysIn, keyCell, definedCell, signed, literalIn, framesOf}
+use Rattle.model.proofs.Keys.{same-key, key-same}
 use Rattle.model.proofs.Refinement.Literals.{keyIn-segment, keyIn-defined}
 use Rattle.base.proofs.Lists.{caseBool, same-truth, any-map, any-keep, each-suc}
 use Rattle.checking.specs.Deciding.{keysAt}
@@ -51,12 +51,6 @@ eight-cells w code l =
     ∙ ap (λ (v : Row). hasCode v code) (each-cell w)
 
 -- ---- equal keys
-
-pub same-key : (j k : Key) → sameKey j k ≡ true → j ≡ k
-same-key j k e = compare-equal j k (is-equal (compareAtoms j k) e)
-
-key-same : (j k : Key) → j ≡ k → sameKey j k ≡ true
-key-same j k e = ap (sameKey j) (sym e) ∙ (let o = compare-same j in rw o)
 
 keyCell-keyIn : (x : ℕ) → keyCell (keyIn x) ≡ x
 keyCell-keyIn x = caseBool (ltb x mostSegments) (λ e. simp e) (λ e. let l = ltb-false x mostSegments e in simp e (omega arith))

@@ -20,7 +20,8 @@ use Rattle.model.specs.Cells.{Row, Table, cell, rowAt, noKey, keyIn, hasKey, ke
 use Rattle.model.proofs.Refinement.Literals.{keyIn-segment, keyIn-defined}
 use Rattle.checking.specs.Newest.{newestFrom, NewestPlace}
 use Rattle.checking.specs.Internal.{hasCode, newestRow, listCode, RowFits, FramesFit}
-use Rattle.checking.proofs.KeyCells.{same-key, in-row}
+use Rattle.model.proofs.Keys.{same-key}
+use Rattle.checking.proofs.KeyCells.{in-row}
 
 -- ---- the code of a key
 

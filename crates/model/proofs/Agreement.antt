@@ -1,4 +1,5 @@
 pub mod Agrees
+pub mod CurrentKeys
 pub mod Editing
 pub mod Editors
 pub mod EditsAccepted
@@ -13,8 +14,10 @@ pub mod LockTexts
 pub mod Locks
 pub mod Mirror
 pub mod Numbering
+pub mod OpenCalls
 pub mod Places
 pub mod ReadLocks
+pub mod Revocation
 pub mod Segments
 pub mod StandingLocks
 pub mod StoredLocks

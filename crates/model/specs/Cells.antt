@@ -8,7 +8,8 @@
 --                                  number of literals and the operations in one cell, then the literals
 -- threads: [[[u16; 8]; 17]; 64]    (document 01: runs) row 0: number, user, number of frames (open calls), and not 0
 --                                  where it is live; rows 1 to 16: the frames, the oldest first, each a copy of its
---                                  segment's key list, whose first cell is the segment
+--                                  segment's key list, whose first cell is the segment; a key taken since is gone from
+--                                  its cell
 use mathlib.Core.Path.{_≡_}
 use mathlib.Core.Bool.{Bool, not, cond}
 use mathlib.Core.List.{List, [], _∷_, _++_, map}

@@ -1,7 +1,8 @@
 -- Document 01, 'Twelve calls': what an accepted call changes in the state, and what it answers.
-use mathlib.Core.Bool.{not}
+use mathlib.Core.Bool.{not, cond}
 use mathlib.Core.List.{List, [], _∷_, _++_, map}
 use Prim.Native.Nat.{ℕ, suc}
+use lib.Dec.{eqb}
 use lib.ListN.{length, getD, set}
 use Rattle.product.specs.declared.literal.Key.{Key}
 use Rattle.product.specs.declared.literal.Key.the-variants.{Defined}
@@ -83,8 +84,23 @@ withKeys g keys = record { owner = g .owner; kind = g .kind; keys = keys; produc
 abbrev pub giveKey : ℕ → Segment → Segment
 giveKey k g = withKeys g (g .keys ++ Defined k ∷ [])
 
+-- the keys of a list but for D key k
+abbrev pub without : ℕ → List Key → List Key
+without k keys = keep (λ j. not (sameKey (Defined k) j)) keys
+
 abbrev pub takeKey : ℕ → Segment → Segment
-takeKey k g = withKeys g (keep (λ j. not (sameKey (Defined k) j)) (g .keys))
+takeKey k g = withKeys g (without k (g .keys))
+
+-- Request P5: 'An accepted T withdraws the key from every open call of that segment.'
+abbrev pub revokeFrame : ℕ → ℕ → Frame → Frame
+revokeFrame s k f = cond (eqb (f .segment) s) (record { segment = f .segment; keys = without k (f .keys) }) f
+
+abbrev pub revokeThread : ℕ → ℕ → Thread → Thread
+revokeThread s k t = withFrames t (map (revokeFrame s k) (t .frames))
+
+-- of every thread
+abbrev pub revokeKey : ℕ → ℕ → List Place → List Place
+revokeKey s k places = map (onThread (revokeThread s k)) places
 
 abbrev pub withProducts : Segment → List LockProduct → Segment
 withProducts g products = record { owner = g .owner; kind = g .kind; keys = g .keys; products = products }
@@ -111,7 +127,7 @@ module _ (compile : Compiler) where
       withSegments d (d .segments ++ freshSegment s (userOf d a) b ∷ [])
   update d (request.NewKey a) text = withMakers d (d .makers ++ userOf d a ∷ [])
   update d (request.GiveKey a b c) text = onSegment d b (giveKey c)
-  update d (request.TakeKey a b c) text = onSegment d b (takeKey c)
+  update d (request.TakeKey a b c) text = withPlaces (onSegment d b (takeKey c)) (revokeKey b c (d .places))
   update d (request.AddLock a b c) text =
       let n = d .lockNumbers in
       let ps = sumIn (compile (issued d) text) in

@@ -1,7 +1,7 @@
 -- Document 01, 'The history', line by line: what is read from a list of calls, each with its answer or refusal. Nothing
 -- of the state is fed to it.
 use mathlib.Core.Bool.{Bool, _&&_, not, cond}
-use mathlib.Core.List.{List, [], _∷_, _++_}
+use mathlib.Core.List.{List, [], _∷_, _++_, map}
 use mathlib.Core.Option.{none}
 use Prim.Native.Nat.{ℕ, suc}
 use lib.Dec.{eqb}
@@ -17,7 +17,7 @@ use Rattle.call.specs.Requests.{callOf}
 use Rattle.model.specs.declared.answer.Answer.{Answer}
 use Rattle.model.specs.declared.answer.Answer.the-variants.{Accepted, Refused}
 use Rattle.model.specs.Answers.{isAccepted}
-use Rattle.base.specs.Lists.{Map, put, remove, adjust, any, keep, orDefault, tailOf}
+use Rattle.base.specs.Lists.{Map, put, remove, adjust, any, keep, mapOption, orDefault, tailOf}
 use Rattle.model.specs.Threads.{Frame, Thread, sameKey}
 use Rattle.formula.specs.declared.text.Issued.{Issued}
 
@@ -63,6 +63,13 @@ onKeys f e = record { owner = e .owner; kind = e .kind; keys = f (e .keys) }
 abbrev pub onFrames : (List Frame → List Frame) → Thread → Thread
 onFrames f t = record { user = t .user; frames = f (t .frames) }
 
+-- D key c struck from a list, and from what an open call hands over if it is one of segment b
+abbrev pub strikeKey : ℕ → List Key → List Key
+strikeKey c keys = keep (λ k. not (sameKey (Defined c) k)) keys
+
+abbrev pub strikeFrom : ℕ → ℕ → Frame → Frame
+strikeFrom b c f = record { segment = f .segment; keys = cond (eqb (f .segment) b) (strikeKey c (f .keys)) (f .keys) }
+
 -- the list that segment s then has
 abbrev pub listOf : History → ℕ → List Key
 listOf h s = orDefault [] (λ e. e .keys) (h .segments s)
@@ -82,10 +89,12 @@ note h (request.EndThread a) text n = withThreads h (remove (h .threads) a)
 -- 'N writes the answered segment as handed out, with owner a, kind b and a list of its own S key.' The owner is now the
 -- user of thread a.
 note h (request.NewSegment a b) text n = withEntries h (put (h .segments) n (freshEntry n (editorIn h a) b))
--- 'G adds D key c to segment b's list. T strikes it there.'
+-- 'G adds D key c to segment b's list. T strikes it there', and since request P5 from what each still open call of b
+-- hands over.
 note h (request.GiveKey a b c) text n = withEntries h (adjust (h .segments) b (onKeys (λ keys. keys ++ Defined c ∷ [])))
 note h (request.TakeKey a b c) text n =
-    withEntries h (adjust (h .segments) b (onKeys (keep (λ k. not (sameKey (Defined c) k)))))
+    withThreads (withEntries h (adjust (h .segments) b (onKeys (strikeKey c))))
+    (λ m. mapOption (onFrames (map (strikeFrom b c))) (h .threads m))
 -- 'L writes the answered lock as standing, with segment b, operations c and the text's formula. D strikes lock b.'
 note h (request.AddLock a b c) text n =
     withLocks h (h .locks ++ record { number = n; segment = b; operations = c; text = text } ∷ [])

@@ -1,9 +1,9 @@
 -- What an accepted call stores in the arrays, and one call on them. Conditions and answers are those of the state that
 -- the arrays hold, so that the table of refusals stands once.
-use mathlib.Core.Bool.{not}
+use mathlib.Core.Bool.{not, cond}
 use mathlib.Core.List.{List, [], _∷_, _++_, map}
 use mathlib.Core.Option.{Option, none, some}
-use Prim.Native.Nat.{ℕ, suc, _+_, _-_}
+use Prim.Native.Nat.{ℕ, zero, suc, _+_, _-_}
 use lib.Dec.{eqb}
 use lib.ListN.{length, set, replicate}
 use lib.Seq.{sets}
@@ -25,7 +25,7 @@ use Rattle.base.specs.Lists.{keep}
 use Rattle.model.specs.State.{userOf, isFree, placeFor, placeOf, lockSegment, issued}
 use Rattle.model.specs.Refusals.{conditions}
 use Rattle.model.specs.Effects.{answer}
-use Rattle.model.specs.Cells.{Row, Table, Cells, registryIs, makersAre, segmentsAre, locksAre, threadsAre, cell, rowAt, tableAt, userCount, threadCount, segmentCount, definedCount, lockCount, frameCount, liveCell, definedCell, hasKey, keyRow, literalCell, head, literalCells, usedRows, depthOf, productIn, listRow, stateOf}
+use Rattle.model.specs.Cells.{Row, Table, Cells, registryIs, makersAre, segmentsAre, locksAre, threadsAre, cell, rowAt, tableAt, userCount, threadCount, segmentCount, definedCount, lockCount, frameCount, liveCell, definedCell, noKey, hasKey, keyRow, literalCell, head, literalCells, usedRows, depthOf, productIn, listRow, stateOf}
 
 -- ---- what an accepted call stores
 
@@ -57,6 +57,19 @@ giveCode s x g = set g 1 (keyRow (keep hasKey (listRow s g) ++ x ∷ []))
 
 abbrev pub takeCode : ℕ → ℕ → Table → Table
 takeCode s x g = set g 1 (keyRow (keep (λ y. not (eqb x y)) (keep hasKey (listRow s g))))
+
+-- T, in a frame of segment s: the cells with that code have no key any more
+abbrev pub revokeRow : ℕ → ℕ → Row → Row
+revokeRow s x w = cond (eqb (cell w 0) s) (map (λ y. cond (eqb x y) noKey y) w) w
+
+-- the oldest n frames
+abbrev pub revokeRows : ℕ → ℕ → Table → ℕ → Table
+revokeRows s x t zero = t
+revokeRows s x t (suc n) = revokeRows s x (set t (suc n) (revokeRow s x (rowAt t (suc n)))) n
+
+-- of a thread, live or ended
+abbrev pub revokeCode : ℕ → ℕ → Table → Table
+revokeCode s x t = revokeRows s x t (depthOf t)
 
 -- L and D: rows from row n on, and the end of the rows after them; eight rows need none, and beyond the last row
 -- nothing is stored
@@ -108,7 +121,9 @@ module _ (compile : Compiler) where
       let k = cell (d .registry) definedCount in
       handOut definedCount (makersAre (set (d .makers) k (userOf (stateOf d) a)) d)
   store d (request.GiveKey a b c) text = segmentsAre (onTable (d .segments) b (giveCode b (definedCell c))) d
-  store d (request.TakeKey a b c) text = segmentsAre (onTable (d .segments) b (takeCode b (definedCell c))) d
+  store d (request.TakeKey a b c) text =
+      threadsAre (map (revokeCode b (definedCell c)) (d .threads))
+      (segmentsAre (onTable (d .segments) b (takeCode b (definedCell c))) d)
   store d (request.AddLock a b c) text =
       let n = cell (d .registry) lockCount in
       let ps = sumIn (compile (issued (stateOf d)) text) in

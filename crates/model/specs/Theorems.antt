@@ -8,6 +8,7 @@ pub mod Neighbours
 pub mod Numbering
 pub mod Refinement
 pub mod Refusing
+pub mod Revocation
 pub mod SideBySide
 pub mod StoredLocks
 pub mod Trials

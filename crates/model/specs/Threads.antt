@@ -7,7 +7,8 @@ use Rattle.product.specs.declared.literal.Key.the-variants.{User, Thread as Thr
 use Rattle.product.specs.Atom.{isEqual, compareAtoms}
 use Rattle.base.specs.Lists.{any}
 
--- an open call: its segment, and the key list that it handed over when made
+-- an open call: its segment, and the keys that it hands over: the list that it got when made, 'less what was taken
+-- since' (request P5)
 pub record Frame : Type 0 where
   pub segment : ℕ
   pub keys : List Key
@@ -23,7 +24,7 @@ sameKey j k = isEqual (compareAtoms j k)
 abbrev pub isIn : Key → List Key → Bool
 isIn k keys = any (sameKey k) keys
 
--- the open call handed the key over
+-- the open call hands the key over
 abbrev pub hands : Frame → Key → Bool
 hands f k = isIn k (f .keys)
 

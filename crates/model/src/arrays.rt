@@ -19,8 +19,7 @@ pub type Products = [[u32; 8]; 8];
 
 pub type Locks = [[[u32; 8]; 8]; 64];
 
-// A thread (document 01: run): its number, user and count of frames (open calls), and the key list that each handed
-// over.
+// A thread (document 01: run): its number, user and count of frames (open calls), and the keys that each hands over.
 pub type Thread = [[u16; 8]; 17];
 
 pub type Threads = [[[u16; 8]; 17]; 64];

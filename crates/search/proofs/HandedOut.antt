@@ -10,7 +10,7 @@ use lib.ListN.{length, getD, set, length-set}
 use borrow.Author.Tests.{lt-ltb, not-false}
 use Rattle.base.specs.Conditions.{firstRefusal}
 use Rattle.base.proofs.Conditions.{all-fail}
-use Rattle.base.proofs.Lists.{All-append, All-keep, length-append-one, everywhere-set, everywhere-append-one, everywhere-all}
+use Rattle.base.proofs.Lists.{All-append, All-keep, length-append-one, everywhere-set, everywhere-map, everywhere-append-one, everywhere-all}
 use Rattle.product.specs.declared.literal.Key.{Key}
 use Rattle.product.specs.declared.literal.Key.the-variants.{Defined}
 use Rattle.formula.specs.declared.text.Issued.{Issued}
@@ -21,7 +21,7 @@ use Rattle.call.specs.declared.request.Request.the-variants as request
 use Rattle.model.specs.Threads.{sameKey}
 use Rattle.model.specs.State.{State, emptyState, Segment, blankSegment, freshSegment, segmentAt, userOf, isKey, issued, Place, free, isFree, placeFor, placeOf, threadAt, lockSegment}
 use Rattle.model.specs.Refusals.{conditions}
-use Rattle.model.specs.Effects.{onSegment, onThread, atPlace, pushFrame, popFrame, giveKey, takeKey, addProducts, dropProducts, update}
+use Rattle.model.specs.Effects.{onSegment, onThread, atPlace, pushFrame, popFrame, giveKey, takeKey, revokeThread, addProducts, dropProducts, update}
 use Rattle.model.specs.Cells.{stateOf}
 use Rattle.model.specs.Replay.{reached}
 use Rattle.model.proofs.Limits.Invariants.{keep-calls}
@@ -32,7 +32,7 @@ use Rattle.search.specs.Searching.{searched}
 use Rattle.search.specs.Theorems.Exactly.{noFrame, callAt}
 use Rattle.search.specs.Theorems.HandedOut.{canBeListed, HandedOut}
 use Rattle.search.proofs.Exactly.{exactly}
-use Rattle.search.proofs.ListedKeys.{Listed, SegmentListed, FrameListed, PlaceListed, AllListed, Kept, place-push, place-pop, one-listed, more, kept-empty}
+use Rattle.search.proofs.ListedKeys.{Listed, SegmentListed, FrameListed, PlaceListed, AllListed, Kept, place-push, place-pop, place-revoke, one-listed, more, kept-empty}
 
 -- ---- each request
 
@@ -83,7 +83,12 @@ module _ (compile : Compiler) (d : State) (k : Kept d) (text : List ℕ) where
       let known = not-false (isKey d c) (all-fail (conditions compile d (request.GiveKey a b c) text) e .1 .1 .0) in
       on-segment b (giveKey c) (All-append InLists (segmentAt d b .keys) (Defined c ∷ []) (k .segments b) (known, tt))
   keep-accepted (request.TakeKey a b c) e =
-      on-segment b (takeKey c) (All-keep InLists (λ j. not (sameKey (Defined c) j)) (segmentAt d b .keys) (k .segments b))
+      let InTaken : Place → Type 0 = PlaceListed (length (onSegment d b (takeKey c) .segments)) (length (d .makers)) in
+      let listed = on-segment b (takeKey c) (All-keep InLists (λ j. not (sameKey (Defined c) j)) (segmentAt d b .keys) (k .segments b)) in
+      record {
+        segments = listed .segments;
+        places = everywhere-map InTaken InTaken free (onThread (revokeThread b c)) (place-revoke _ _ b c) tt (d .places) (listed .places);
+      }
   keep-accepted (request.AddLock a b c) e = on-segment b (addProducts (d .lockNumbers) c (sumIn (compile (issued d) text))) (k .segments b)
   keep-accepted (request.DropLock a b) e = on-segment (lockSegment d b) (dropProducts b) (k .segments (lockSegment d b))
   keep-accepted (request.CallSegment a b) e =

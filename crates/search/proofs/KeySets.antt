@@ -18,7 +18,8 @@ use Rattle.model.specs.Replay.{reached, historyOf}
 use Rattle.model.proofs.Agreement.Mirror.{mirror}
 use Rattle.threads.proofs.PlaceScan.{place-at}
 use Rattle.checking.specs.Newest.{newestFrom}
-use Rattle.checking.proofs.KeyCells.{same-key, not-listed, user-not-listed, thread-not-listed}
+use Rattle.model.proofs.Keys.{same-key}
+use Rattle.checking.proofs.KeyCells.{not-listed, user-not-listed, thread-not-listed}
 use Rattle.checking.proofs.NewestFrames.{some-hands}
 use Rattle.search.specs.declared.Searched.the-variants.{Nowhere}
 use Rattle.search.specs.Searching.{searchedBy, searched, isFound}

@@ -1,22 +1,23 @@
 -- The invariant by which a key that the search finds was handed out: each key in a segment's list and in a frame is the
 -- S key of a segment handed out, or a D key handed out. It stays when more are handed out.
 use mathlib.Core.Path.{_≡_, ap, _∙_}
-use mathlib.Core.Bool.{true}
-use mathlib.Core.List.{List, [], _∷_}
+use mathlib.Core.Bool.{true, not}
+use mathlib.Core.List.{List, [], _∷_, map}
 use Prim.Native.Nat.{ℕ, _≤_}
 use native.Mathlib.Omega.{arith}
+use lib.Dec.{eqb}
 use lib.ListN.{length, getD}
 use borrow.Author.Tests.{ltb-true, lt-ltb}
 use Rattle.base.specs.Lists.{tailOf}
-use Rattle.base.proofs.Lists.{All, All-map, all-at, any-found, Everywhere, everywhere-replicate}
+use Rattle.base.proofs.Lists.{All, All-keep, All-map, caseBool, all-at, any-found, Everywhere, everywhere-replicate}
 use Rattle.product.specs.declared.literal.Key.{Key}
 use Rattle.product.specs.declared.literal.Key.the-variants.{User, Thread as ThreadKey, Segment as SegmentKey, Defined}
 use Rattle.model.specs.Limits.{mostThreads}
 use Rattle.model.specs.Threads.{Frame, sameKey, isIn}
 use Rattle.model.specs.State.{State, emptyState, Segment, blankSegment, Place, free, taken}
-use Rattle.model.specs.Effects.{onThread, pushFrame, popFrame}
+use Rattle.model.specs.Effects.{onThread, pushFrame, popFrame, revokeFrame, revokeThread}
 use Rattle.model.proofs.Limits.Kept.{occupant}
-use Rattle.checking.proofs.KeyCells.{same-key}
+use Rattle.model.proofs.Keys.{same-key}
 use Rattle.search.specs.Theorems.HandedOut.{canBeListed}
 
 -- ---- when s segments and n D keys were handed out
@@ -49,6 +50,15 @@ module _ (s n : ℕ) where
       tail : (fs : List Frame) → All FrameListed fs → All FrameListed (tailOf fs)
       tail [] h = tt
       tail (f ∷ fs) h = h .1
+
+  pub place-revoke : (b c : ℕ) (p : Place) → PlaceListed p → PlaceListed (onThread (revokeThread b c) p)
+  place-revoke b c free h = tt
+  place-revoke b c (taken m t) h = each (t .frames) h
+    where
+      each : (fs : List Frame) → All FrameListed fs → All FrameListed (map (revokeFrame b c) fs)
+      each [] h = tt
+      each (f ∷ fs) h =
+          (caseBool (eqb (f .segment) b) (λ e. simp e (All-keep Listed (λ j. not (sameKey (Defined c) j)) (f .keys) (h .0))) (λ e. simp e (h .0)), each fs (h .1))
 
   -- a key of a list
   pub one-listed : (k : Key) (keys : List Key) → All Listed keys → isIn k keys ≡ true → Listed k

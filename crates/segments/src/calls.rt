@@ -22,6 +22,7 @@ use model::bounds::MOST_LISTED;
 use model::bounds::MOST_SEGMENTS;
 use registry::defined;
 use threads::editor::editor;
+use threads::revocation::revoke;
 
 // The greatest kind: 0 is code, 1 a sheet.
 const SHEET: u16 = 1;
@@ -132,12 +133,12 @@ pub fn give_key(
     Answer::Accepted(count as u16 + 1)
 }
 
-// T, take key: the owner takes a D key out of the list.
+// T, take key: the owner takes a D key out of the list, and every open call of the segment loses it.
 pub fn take_key(
     registry: &Registry,
     makers: &Makers,
     segments: &mut Segments,
-    threads: &Threads,
+    threads: &mut Threads,
     thread: u16,
     segment: u16,
     key: u16,
@@ -146,7 +147,7 @@ pub fn take_key(
         (registryIs (now (registry .entry)) and makersAre (now (makers .entry)) and segmentsAre (now (segments .entry))
         and threadsAre (now (threads .entry)))
         (TakeKey thread segment key) r
-        (segmentsAre (now (segments .exit))) ⌝ }
+        (segmentsAre (now (segments .exit)) and threadsAre (now (threads .exit))) ⌝ }
 {
     let editor = editor(threads, thread);
     let Answer::Accepted(user) = editor else {
@@ -161,12 +162,14 @@ pub fn take_key(
         return Answer::Refused(Refusal::NotOwner);
     }
     let list = segments[s][1];
-    let kept = remove(list, segment, DEFINED_CODES + key);
+    let code = DEFINED_CODES + key;
+    let kept = remove(list, segment, code);
     if !kept.found {
         return Answer::Refused(Refusal::NotPresent);
     }
     let count = kept.count;
     let cells = kept.cells;
     segments[s][1] = cells;
+    revoke(threads, segment, code);
     Answer::Accepted(count as u16)
 }

@@ -1,4 +1,5 @@
-// Document 01: a run's open calls. Each keeps the key list that was handed over, until it returns.
+// Document 01: a run's open calls. Each has the key list that was handed over, until it returns; what is taken from it
+// meanwhile is in `revocation`.
 ghost use mathlib.Core.Path.{_≡_};
 ghost use mathlib.Core.Bool.{cond};
 ghost use lib.Dec.{ltb};

@@ -62,7 +62,7 @@ module _ (h : History) (text : List ℕ) (k : ℕ) where
   note-users (request.NewSegment a b) n = refl
   note-users (request.NewKey a) n = refl
   note-users (request.GiveKey a b c) n = refl
-  note-users (request.TakeKey a b c) n = refl
+  note-users (request.TakeKey a b c) n = user-kept _ (h .threads n)
   note-users (request.AddLock a b c) n = refl
   note-users (request.DropLock a b) n = refl
   note-users (request.CallSegment a b) n = called a n _

@@ -1,10 +1,11 @@
 -- Every accepted request keeps the agreement of model and history.
 use mathlib.Core.Path.{_≡_, refl, sym, ap, _∙_}
 use mathlib.Core.Bool.{true, false, not}
-use mathlib.Core.List.{List, _∷_}
+use mathlib.Core.List.{List, _∷_, map}
 use mathlib.Core.Option.{Option, none, some}
 use Prim.Native.Nat.{ℕ, suc, _+_, _<_}
 use native.Mathlib.Omega.{arith}
+use lib.Dec.{eqb}
 use lib.ListN.{length, getD, set}
 use borrow.Author.Tests.{ltb-true, not-false}
 use Rattle.product.specs.declared.literal.Key.{Key}
@@ -20,12 +21,12 @@ use Rattle.base.proofs.Truth.{neither}
 use Rattle.base.specs.Lists.{adjust, mapOption, orDefault, tailOf}
 use Rattle.model.specs.Limits.{mostThreads, passes}
 use Rattle.model.specs.State.{freshThread, findThread, freshSegment, State, isFree, placeFor, free, taken, Segment, blankSegment, segmentAt, liveIn, issued, isLive, isLock, lockSegment, placeOf, Place, userOf}
-use Rattle.model.specs.Effects.{onThread, pushFrame, popFrame, giveKey, takeKey, addProducts, dropProducts, onSegment, update, answer, atPlace, withPlaces}
-use Rattle.model.specs.Threads.{Thread}
+use Rattle.model.specs.Effects.{onThread, withFrames, pushFrame, popFrame, giveKey, takeKey, revokeFrame, revokeThread, revokeKey, addProducts, dropProducts, onSegment, update, answer, atPlace, withPlaces}
+use Rattle.model.specs.Threads.{Frame, Thread}
 use Rattle.model.specs.Refusals.{conditions}
-use Rattle.model.specs.History.{History, Entry, withEntries, onFrames, listOf, editorIn, note, counts, withThreads}
-use Rattle.base.proofs.Lists.{at-lt}
-use Rattle.model.proofs.Agreement.Places.{AgreeThreads, look, Lives, lives, spare, one, live-change, one-onThread, agree-start, agree-change, agree-end}
+use Rattle.model.specs.History.{History, Entry, withEntries, onFrames, strikeFrom, listOf, editorIn, note, counts, withThreads}
+use Rattle.base.proofs.Lists.{caseBool, at-lt, map-same}
+use Rattle.model.proofs.Agreement.Places.{AgreeThreads, look, Lives, lives, spare, one, live-change, live-each, one-onThread, agree-start, agree-change, agree-each, agree-end}
 use Rattle.model.proofs.Agreement.Segments.{entryOf, agree-new, agree-adjust, agree-unseen, products-append-one, products-same}
 use Rattle.model.proofs.Refusals.AcceptedTexts.{compiled}
 use Rattle.model.proofs.Agreement.Locks.{agree-rows, agree-add, agree-drop}
@@ -35,6 +36,13 @@ use Rattle.model.proofs.Agreement.Agrees.{AgreeCounts, Agrees, bump, re
 user-found : (o : Option Thread) → orDefault 0 (λ t. t .user) o ≡ orDefault 0 (λ (u : ℕ). u) (mapOption (λ t. t .user) o)
 user-found none = refl
 user-found (some t) = refl
+
+-- the history strikes the key as the model does
+frame-struck : (b k : ℕ) (f : Frame) → strikeFrom b k f ≡ revokeFrame b k f
+frame-struck b k f = caseBool (eqb (f .segment) b) (λ e. simp e) (λ e. simp e)
+
+struck-as : (b k : ℕ) (t : Thread) → onFrames (map (strikeFrom b k)) t ≡ revokeThread b k t
+struck-as b k t = ap (withFrames t) (map-same (strikeFrom b k) (revokeFrame b k) (frame-struck b k) (t .frames))
 
 module _ (compile : Compiler) (d : State) (h : History) (count : ℕ → ℕ) (c : Agrees compile d h count) where
   pub editors-agree : (a : ℕ) → editorIn h a ≡ userOf d a
@@ -119,7 +127,10 @@ module _ (compile : Compiler) (holds : Meaning) (laws : Laws compile holds) (tex
   keep-accepted (request.GiveKey a b k) e =
       kept-list compile d h count c b (giveKey k) _ (λ g. refl) (λ g. refl) (bump letters.G count) (same-segments c b _)
   keep-accepted (request.TakeKey a b k) e =
-      kept-list compile d h count c b (takeKey k) _ (λ g. refl) (λ g. refl) (bump letters.T count) (same-segments c b _)
+      let listed = kept-list compile d h count c b (takeKey k) _ (λ g. refl) (λ g. refl) (bump letters.T count) (same-segments c b _) in
+      with-threads listed (revokeKey b k (d .places)) (d .threadNumbers) _ (bump letters.T count)
+      (agree-each (d .places) (d .threadNumbers) (h .threads) (c .threads) (revokeThread b k) (onFrames (map (strikeFrom b k))) (struck-as b k))
+      (same-places listed (revokeKey b k (d .places)) (live-each (revokeThread b k) (d .places)))
   keep-accepted (request.AddLock a b o) e =
       let f = all-fail (conditions compile d (request.AddLock a b o) text) e in
       let lt = ltb-true b (length (d .segments)) (not-false _ (f .1 .0)) in

@@ -3,12 +3,12 @@
 -- take, change or free a place is one equation.
 use mathlib.Core.Path.{_≡_, refl, sym, ap, _∙_}
 use mathlib.Core.Bool.{Bool, true, false, cond, false≢true}
-use mathlib.Core.List.{List, [], _∷_}
+use mathlib.Core.List.{List, [], _∷_, map}
 use mathlib.Core.Option.{Option, none, some}
 use Prim.Native.Nat.{ℕ, zero, suc, _+_, _%_, _<_}
 use native.Mathlib.Omega.{arith}
 use lib.Dec.{eqb}
-use lib.ListN.{length, getD, set, length-set}
+use lib.ListN.{length, getD, set, length-set, length-map, List·getD-map}
 use lib.Seq.{getD-set-same, getD-set-other}
 use borrow.Author.Tests.{eqb-true, eqb-false, eq-eqb, ne-eqb, ltb-false}
 use Rattle.base.proofs.Truth.{neither}
@@ -141,6 +141,11 @@ pub one-onThread : (f : Thread → Thread) (x : Place) → one (onThread f x) �
 one-onThread f free = refl
 one-onThread f (taken k t) = refl
 
+pub live-each : (f : Thread → Thread) (places : List Place) → liveIn (map (onThread f) places) ≡ liveIn places
+live-each f [] = refl
+live-each f (free ∷ xs) = live-each f xs
+live-each f (taken k t ∷ xs) = ap suc (live-each f xs)
+
 -- ---- the relation
 
 pub record AgreeThreads (places : List Place) (numbers : ℕ) (threads : Map Thread) : Type 0 where
@@ -260,6 +265,29 @@ module _ (places : List Place) (numbers : ℕ) (threads : Map Thread) (c : Agree
 
       below′ : (j k : ℕ) (s : Thread) → getD (set places i (taken n (f t))) j free ≡ taken k s → k < numbers
       below′ j k s h = let (r, w) = was j k s h in c .below j k r w
+
+  -- T: every thread changes, and the history changes all of them alike
+  pub agree-each : (f F : Thread → Thread) → ((t : Thread) → F t ≡ f t) → AgreeThreads (map (onThread f) places) numbers (λ n. mapOption F (threads n))
+  agree-each f F same =
+      record { count = length-map places (onThread f) ∙ c .count; home = c .home; written = written′; here = λ i k t h. c .here i k _ (was i k t h .1); below = λ i k t h. c .below i k _ (was i k t h .1) }
+    where
+      at-each : (i : ℕ) → getD (map (onThread f) places) i free ≡ onThread f (getD places i free)
+      at-each i = List·getD-map (onThread f) places i free
+
+      stands : (n : ℕ) (x : Place) → mapOption F (standing n x) ≡ standing n (onThread f x)
+      stands n free = refl
+      stands n (taken k t) = caseBool (eqb n k) (λ e. simp (e, same t)) (λ e. simp e)
+
+      written′ : (n : ℕ) → mapOption F (threads n) ≡ standing n (getD (map (onThread f) places) (c .home n) free)
+      written′ n = ap (mapOption F) (c .written n) ∙ stands n (getD places (c .home n) free) ∙ sym (ap (standing n) (at-each (c .home n)))
+
+      -- the same number stands there as before
+      was : (i k : ℕ) (t : Thread) → getD (map (onThread f) places) i free ≡ taken k t → (r : Thread) × (getD places i free ≡ taken k r)
+      was i k t h = go (getD places i free) refl (sym (at-each i) ∙ h)
+        where
+          go : (x : Place) → getD places i free ≡ x → onThread f (getD places i free) ≡ taken k t → (r : Thread) × (getD places i free ≡ taken k r)
+          go free e w = absurd (free≢taken (sym (ap (onThread f) e) ∙ w))
+          go (taken j r) e w = (r, e ∙ ap (λ (m : ℕ). taken m r) (taken-number (sym (ap (onThread f) e) ∙ w)))
 
   -- E: it is freed
   pub agree-end : (n i : ℕ) (t : Thread) → i < length places → getD places i free ≡ taken n t

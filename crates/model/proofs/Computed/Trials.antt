@@ -4,6 +4,7 @@ use mathlib.Core.List.{List, [], _∷_, _++_, map}
 use mathlib.Core.Option.{none, some}
 use lib.ListN.{getD, replicate}
 use Rattle.base.specs.Lists.{tailOf}
+use Rattle.product.specs.declared.literal.Key.the-variants.{Defined}
 use Rattle.formula.specs.Outcome.{outcomeOf}
 use Rattle.model.specs.State.{State, emptyState, freshSegment, freshThread, free, taken}
 use Rattle.model.specs.Model.{step}
@@ -11,7 +12,7 @@ use Rattle.model.specs.History.{makersOf}
 use Rattle.model.specs.Replay.{stateAfter, events, eventsOf}
 use Rattle.model.specs.Notation.{Expected, callsOf, got, Happens}
 use Rattle.model.specs.Theorems.Editing.{userIn, ownerIn}
-use Rattle.model.specs.Theorems.Trials.{refusals, identity, editors, users, segments, liveThreads, keyRing, keysGiven, listed, frames, Trials}
+use Rattle.model.specs.Theorems.Trials.{refusals, identity, editors, inProgress, withdrawal, revoked, handsThen, opened, users, segments, liveThreads, keyRing, keysGiven, listed, frames, Trials}
 use Rattle.model.proofs.Unfoldings.{computing}
 use Rattle.model.proofs.Refinement.EveryCall.{refinement}
 
@@ -38,6 +39,34 @@ editors-owners = refl
 editors-makers : makersOf (events outcomeOf (callsOf editors)) ≡ 0 ∷ 3 ∷ []
 unfolding computing
 editors-makers = refl
+
+revoked-happens : Happens revoked
+unfolding computing
+revoked-happens = refl
+
+handed-before : map (handsThen inProgress) (0 ∷ 1 ∷ 2 ∷ [])
+    ≡ some (opened 0 (Defined 0 ∷ Defined 1 ∷ []) ∷ [])
+    ∷ some (opened 0 (Defined 0 ∷ Defined 1 ∷ []) ∷ opened 0 (Defined 0 ∷ Defined 1 ∷ []) ∷ [])
+    ∷ some (opened 1 (Defined 0 ∷ []) ∷ opened 0 (Defined 0 ∷ Defined 1 ∷ []) ∷ [])
+    ∷ []
+unfolding computing
+handed-before = refl
+
+handed-after : map (handsThen (inProgress ++ withdrawal)) (0 ∷ 1 ∷ 2 ∷ [])
+    ≡ some (opened 0 (Defined 1 ∷ []) ∷ [])
+    ∷ some (opened 0 (Defined 1 ∷ []) ∷ opened 0 (Defined 1 ∷ []) ∷ [])
+    ∷ some (opened 1 (Defined 0 ∷ []) ∷ opened 0 (Defined 1 ∷ []) ∷ [])
+    ∷ []
+unfolding computing
+handed-after = refl
+
+handed-last : map (handsThen revoked) (0 ∷ 1 ∷ 2 ∷ [])
+    ≡ some (opened 0 (Defined 1 ∷ []) ∷ [])
+    ∷ none
+    ∷ some (opened 1 [] ∷ opened 0 (Defined 1 ∷ []) ∷ [])
+    ∷ []
+unfolding computing
+handed-last = refl
 
 users-happen : Happens users
 unfolding computing
@@ -103,6 +132,10 @@ trials =
       editorsUsers = editors-users;
       editorsOwners = editors-owners;
       editorsMakers = editors-makers;
+      revokedHappens = revoked-happens;
+      handedBefore = handed-before;
+      handedAfter = handed-after;
+      handedLast = handed-last;
       usersHappen = users-happen;
       segmentsHappen = segments-happen;
       threadsHappen = threads-happen;

@@ -5,7 +5,7 @@ use mathlib.Core.List.{List, [], _∷_, _++_}
 use mathlib.Core.Option.{none}
 use Prim.Native.Nat.{ℕ, suc, _+_, _≤_, zero-le, suc-le-suc}
 use native.Mathlib.Omega.{arith}
-use lib.ListN.{length, getD}
+use lib.ListN.{length, getD, length-map}
 use Rattle.formula.specs.Outcome.{outcomeOf, sumIn}
 use Rattle.formula.specs.Meaning.{textHolds}
 use Rattle.formula.specs.Compiler.{Compiler}
@@ -18,14 +18,14 @@ use Rattle.base.proofs.Truth.{neither}
 use Rattle.model.specs.Limits.{mostUsers, mostThreads, mostSegments, mostDefined, mostListed, mostStanding, mostFrames, mostNumbers, passes}
 use Rattle.model.specs.State.{userOf, State, emptyState, Segment, segmentAt, Place, free, isFree, liveIn, placeFor, placeOf, threadAt, lockSegment, issued}
 use Rattle.model.specs.Refusals.{conditions}
-use Rattle.model.specs.Effects.{onSegment, onThread, atPlace, pushFrame, popFrame, giveKey, takeKey, dropProducts, update}
+use Rattle.model.specs.Effects.{onSegment, onThread, atPlace, pushFrame, popFrame, giveKey, takeKey, revokeFrame, revokeThread, dropProducts, update}
 use Rattle.model.specs.Replay.{stateAfter}
 use Rattle.model.specs.Theorems.Bounds.{BoundsAlways, Bounds}
 use Rattle.base.proofs.Lists.{length-append-one}
 use Rattle.model.proofs.Refinement.Counts.{within}
 use Rattle.model.proofs.Refinement.EveryCall.{follows}
 use Rattle.model.proofs.Limits.Invariants.{keep-calls}
-use Rattle.model.proofs.Limits.Kept.{Shallow, SegmentKept, Kept, kept-empty, kept-within, with-users, with-thread-numbers, with-lock-numbers, with-makers, with-segments, with-places, places-set, shallow-push, shallow-pop, segments-set, segments-add, give-kept, take-kept, add-kept, drop-kept}
+use Rattle.model.proofs.Limits.Kept.{Shallow, SegmentKept, Kept, kept-empty, kept-within, with-users, with-thread-numbers, with-lock-numbers, with-makers, with-segments, with-places, places-set, places-each, shallow-push, shallow-pop, segments-set, segments-add, give-kept, take-kept, add-kept, drop-kept}
 
 -- ---- each request
 
@@ -63,7 +63,9 @@ module _ (compile : Compiler) (d : State) (k : Kept d) (text : List ℕ) where
       let full = all-fail (conditions compile d (request.GiveKey a b c) text) e .1 .1 .1 .1 .1 .0 in
       let room = within mostListed (suc (length (segmentAt d b .keys))) full in
       on-segment b (giveKey c) (give-kept c (segmentAt d b) (k .segments .each b) room)
-  keep-accepted (request.TakeKey a b c) e = on-segment b (takeKey c) (take-kept c (segmentAt d b) (k .segments .each b))
+  keep-accepted (request.TakeKey a b c) e =
+      let listed = on-segment b (takeKey c) (take-kept c (segmentAt d b) (k .segments .each b)) in
+      with-places listed _ (places-each (d .places) (k .places) (revokeThread b c) (λ t. length-map (t .frames) (revokeFrame b c)))
   keep-accepted (request.AddLock a b c) e =
       let ps = sumIn (compile (issued d) text) in
       let n = length (segmentAt d b .products) + length ps in

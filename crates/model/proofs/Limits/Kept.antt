@@ -16,7 +16,7 @@ use Rattle.model.specs.Threads.{Thread, sameKey}
 use Rattle.model.specs.State.{State, emptyState, Segment, blankSegment, Place, free, taken, isFree, liveIn, threadIn, blankThread, isOfLock}
 use Rattle.model.specs.Effects.{withUsers, withThreadNumbers, withLockNumbers, withMakers, withSegments, withPlaces, onThread, pushFrame, popFrame, giveKey, takeKey, lockProduct, addProducts, dropProducts}
 use Rattle.model.specs.Theorems.Bounds.{Within}
-use Rattle.base.proofs.Lists.{length-keep, length-append-one, Everywhere, everywhere-set, everywhere-append-one, everywhere-replicate}
+use Rattle.base.proofs.Lists.{length-keep, length-append-one, Everywhere, everywhere-set, everywhere-map, everywhere-append-one, everywhere-replicate}
 
 -- ---- laws of lists
 
@@ -111,6 +111,16 @@ module _ {d : State} (k : Kept d) where
 pub places-set : (places : List Place) → PlacesKept places → (i : ℕ) (p : Place) → Shallow p → PlacesKept (set places i p)
 places-set places k i p h =
     record { count = length-set places i p ∙ k .count; frames = everywhere-set Shallow free places (k .frames) i p h }
+
+-- every thread changed to one with as many frames
+pub places-each : (places : List Place) → PlacesKept places → (f : Thread → Thread) → ((t : Thread) → length (f t .frames) ≡ length (t .frames))
+    → PlacesKept (map (onThread f) places)
+places-each places k f same =
+    record { count = length-map places (onThread f) ∙ k .count; frames = everywhere-map Shallow Shallow free (onThread f) shallow-same zero-le places (k .frames) }
+  where
+    shallow-same : (p : Place) → Shallow p → Shallow (onThread f p)
+    shallow-same free h = zero-le
+    shallow-same (taken n t) h = let l = same t in omega arith
 
 pub shallow-push : (s : ℕ) (keys : List Key) (p : Place) → suc (length (occupant p .frames)) ≤ mostFrames → Shallow (onThread (pushFrame s keys) p)
 shallow-push s keys free h = zero-le

@@ -32,10 +32,10 @@ use Rattle.model.specs.Threads.{sameKey}
 use Rattle.model.specs.State.{LockProduct, segmentAt, userOf, Place, isFree, liveIn, placeFor, placeOf, isOfLock, hasLock, isLock, lockSegment, issued}
 use Rattle.model.specs.Refusals.{openingProduct, lockOf, conditions}
 use Rattle.model.specs.Effects.{answer}
-use Rattle.model.specs.Cells.{Table, Cells, Sized, cell, tableAt, userCount, threadCount, segmentCount, definedCount, lockCount, liveCell, definedCell, placeIn, listRow, stateOf, segmentsAre}
-use Rattle.model.specs.Stores.{onTable, startThread, endThread, newSegment, giveCode, takeCode, endRows, addRows, dropRows, pushRow, popRow, atThread, store}
+use Rattle.model.specs.Cells.{Table, Cells, Sized, cell, tableAt, userCount, threadCount, segmentCount, definedCount, lockCount, liveCell, definedCell, placeIn, depthOf, listRow, stateOf, segmentsAre}
+use Rattle.model.specs.Stores.{onTable, startThread, endThread, newSegment, giveCode, takeCode, endRows, addRows, dropRows, pushRow, popRow, revokeCode, atThread, store}
 use Rattle.model.specs.Theorems.Widths.{word, doubleWord, Fitting, Fields}
-use Rattle.base.proofs.Lists.{All, caseBool, some-inj, All-keep, length-keep, length-append-one, indexOf-lt}
+use Rattle.base.proofs.Lists.{All, caseBool, some-inj, All-keep, length-keep, length-append-one, indexOf-lt, everywhere-map}
 use Rattle.model.proofs.Refusals.AcceptedTexts.{compiled}
 use Rattle.model.proofs.Refinement.ServedCalls.{segmentsIn}
 use Rattle.model.proofs.Refinement.Counts.{within}
@@ -43,7 +43,7 @@ use Rattle.model.proofs.Refinement.SegmentStores.{length-segments, hand
 use Rattle.call.proofs.EveryRequest.{every-request}
 use Rattle.call.specs.Letters as letters
 use Rattle.model.proofs.Limits.FittingCells.{LowRows, LowTables, low-set, low-table, low-cell, fitting-makers, fitting-segments, fitting-locks, fitting-threads, fitting-count}
-use Rattle.model.proofs.Limits.ThreadWidths.{start-low, push-low, pop-low}
+use Rattle.model.proofs.Limits.ThreadWidths.{start-low, push-low, pop-low, revoke-low}
 use Rattle.model.proofs.Limits.SegmentWidths.{list-low, new-low, give-low, take-low}
 use Rattle.model.proofs.Limits.LockWidths.{end-low, add-low, drop-low}
 use Rattle.model.proofs.Limits.AnsweredWidths.{thread-fits, user-fits, segment-fits, opening-low}
@@ -147,7 +147,10 @@ module _ (compile : Compiler) (holds : Meaning) (law : Laws compile holds) (d : 
       let few : length keys ≤ mostListed = segment-fits d c k b (handed d b (f .1 .0)) .listed in
       let fewer : length (keep (λ j. not (sameKey (Defined n) j)) keys) ≤ length keys = length-keep (λ j. not (sameKey (Defined n) j)) keys in
       record {
-        stored = at-segment d k b (takeCode b (definedCell n)) (take-low b (definedCell n) (tableAt (d .segments) b) (l .b) (k .segments b));
+        stored =
+            fitting-threads
+            (at-segment d k b (takeCode b (definedCell n)) (take-low b (definedCell n) (tableAt (d .segments) b) (l .b) (k .segments b)))
+            _ (everywhere-map (LowRows word) (LowRows word) [] (revokeCode b (definedCell n)) (λ t. revoke-low b (definedCell n) (depthOf t) t) (λ i j. omega arith) (d .threads) (k .threads));
         answered = omega arith;
       }
   fit-accepted (request.AddLock a b o) l e =

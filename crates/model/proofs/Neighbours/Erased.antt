@@ -85,6 +85,15 @@ change-hidden n k f h e t = simp e (ap (λ (u : ℕ). taken k (freshThread u)) (
 pub all-twice : (n : ℕ) (xs : List Place) → map (erase n) (map (erase n) xs) ≡ map (erase n) xs
 all-twice n xs = map-map (erase n) (erase n) xs ∙ map-same _ (erase n) (erase-twice n) xs
 
+-- every thread changed: it looks the same
+pub each-seen : (n : ℕ) (f : Thread → Thread) → KeepsUser f → (xs : List Place)
+    → map (erase n) (map (onThread f) xs) ≡ map (erase n) (map (onThread f) (map (erase n) xs))
+each-seen n f h xs =
+    map-map (erase n) (onThread f) xs
+    ∙ map-same _ _ (λ x. sym (change-kept n f h x)) xs
+    ∙ sym (map-map (λ x. erase n (onThread f x)) (erase n) xs)
+    ∙ sym (map-map (erase n) (onThread f) (map (erase n) xs))
+
 at-erased : (n : ℕ) (xs : List Place) (i : ℕ) → getD (map (erase n) xs) i free ≡ erase n (getD xs i free)
 at-erased n xs i = List·getD-map (erase n) xs i free
 

@@ -23,11 +23,11 @@ use Rattle.model.specs.declared.answer.Answer.the-variants.{Accepted}
 use Rattle.model.specs.Threads.{Thread}
 use Rattle.model.specs.State.{State, freshThread, isFree, isLive, free, taken}
 use Rattle.model.specs.Refusals.{openingProduct, conditions}
-use Rattle.model.specs.Effects.{withPlaces, atPlace, onThread, pushFrame, popFrame, update, answer}
+use Rattle.model.specs.Effects.{withPlaces, onSegment, atPlace, onThread, pushFrame, popFrame, takeKey, revokeThread, update, answer}
 use Rattle.model.specs.Model.{judged, stepDecoded, step}
 use Rattle.model.specs.Theorems.Neighbours.{isStruck, endsAnother, withoutNumber}
 use Rattle.model.proofs.Agreement.Places.{lives}
-use Rattle.model.proofs.Neighbours.Erased.{view, erase, free-kept, all-twice, live-kept, place-kept, home-kept, own-kept, alive-kept, user-kept, KeepsUser, change-kept, change-seen, change-unseen}
+use Rattle.model.proofs.Neighbours.Erased.{view, erase, free-kept, all-twice, live-kept, place-kept, home-kept, own-kept, alive-kept, user-kept, KeepsUser, change-kept, each-seen, change-seen, change-unseen}
 
 module _ (compile : Compiler) (n : ℕ) (text : List ℕ) where
   same-thread : (m : ℕ) → not (eqb m n) ≡ false → m ≡ n
@@ -80,7 +80,7 @@ module _ (compile : Compiler) (n : ℕ) (text : List ℕ) where
   update-same d (request.NewSegment a b) = rw (user-kept n (d .places) a) (idle d (update compile d (request.NewSegment a b) text))
   update-same d (request.NewKey a) = rw (user-kept n (d .places) a) (idle d (update compile d (request.NewKey a) text))
   update-same d (request.GiveKey a b c) = idle d (update compile d (request.GiveKey a b c) text)
-  update-same d (request.TakeKey a b c) = idle d (update compile d (request.TakeKey a b c) text)
+  update-same d (request.TakeKey a b c) = ap (withPlaces (onSegment d b (takeKey c))) (each-seen n (revokeThread b c) (λ t. refl) (d .places))
   update-same d (request.AddLock a b c) = idle d (update compile d (request.AddLock a b c) text)
   update-same d (request.DropLock a b) = idle d (update compile d (request.DropLock a b) text)
   update-same d (request.CallSegment a b) =

@@ -1,11 +1,11 @@
 -- The arrays keep their sizes: a law for each array in the place of what was there, and one for a row and a cell of a
 -- table. The empty state has them.
-use mathlib.Core.Path.{_≡_, refl, ap, _∙_}
-use mathlib.Core.List.{List, []}
+use mathlib.Core.Path.{_≡_, refl, sym, ap, subst, _∙_}
+use mathlib.Core.List.{List, [], map}
 use Prim.Native.Nat.{ℕ, suc, _<_}
 use native.Mathlib.Omega.{arith}
 use lib.Dec.{eqb}
-use lib.ListN.{length, set, replicate, length-set, length-replicate, getD-replicate}
+use lib.ListN.{length, getD, set, replicate, length-set, length-map, length-replicate, getD-replicate, List·getD-map}
 use lib.Seq.{getD-set-same, getD-set-other}
 use borrow.Author.Tests.{eqb-true, eqb-false}
 use Rattle.model.specs.Limits.{mostThreads, mostSegments, mostDefined, mostStanding, mostFrames}
@@ -31,6 +31,12 @@ module _ (n k : ℕ) (ts : List Table) (c : Tables n k ts) where
           (λ e. let p = eqb-true j i e in
           rw (p, getD-set-same ts i t [] (let q = c .count in omega arith)) (s (omega arith)))
           (λ e. rw (getD-set-other ts i j t [] (eqb-false j i e)) (shaped j lt))
+
+  pub tables-each : (f : Table → Table) → f [] ≡ [] → ((t : Table) → Shaped k t → Shaped k (f t)) → Tables n k (map f ts)
+  tables-each f e h = record { count = length-map ts f ∙ c .count; rows = λ i lt. now i lt .rows; cells = λ i j lt l. now i lt .cells j l }
+    where
+      now : (i : ℕ) → i < n → Shaped k (tableAt (map f ts) i)
+      now i lt = subst (Shaped k) (sym (ap (getD (map f ts) i) (sym e) ∙ List·getD-map f ts i [])) (h (tableAt ts i) (shaped i lt))
 
 module _ (k : ℕ) (t : Table) (s : Shaped k t) where
   pub shaped-row : (i : ℕ) (w : Row) → length w ≡ 8 → Shaped k (set t i w)

@@ -27,7 +27,7 @@ use Rattle.model.proofs.Agreement.Places.{spare}
 use Rattle.model.proofs.Refusals.AcceptedTexts.{compiled}
 use Rattle.product.specs.Sum.{Sum}
 use Rattle.model.proofs.Refinement.Counts.{within, Holds, as-held, next-user, next-thread, next-lock}
-use Rattle.model.proofs.Refinement.ThreadStores.{alive, length-places, start-held, mine, mine-depth, end-held, pop-held, push-held}
+use Rattle.model.proofs.Refinement.ThreadStores.{alive, length-places, start-held, mine, mine-depth, end-held, pop-held, push-held, revoke-held}
 use Rattle.model.proofs.Refinement.SegmentStores.{handed, listed-row, own-cell, keys-read, key-held, segment-held, give-held, take-held}
 use Rattle.model.proofs.Refinement.LockStores.{drop-held, add-held}
 
@@ -58,7 +58,8 @@ module _ (compile : Compiler) (holds : Meaning) (law : Laws compile holds) (text
       give-held d c b k (handed d b (f .1 .0)) (ltb-true k _ (not-false _ (f .1 .1 .0))) (within mostListed _ (f .1 .1 .1 .1 .1 .0))
   store-accepted (request.TakeKey a b k) e =
       let f = all-fail (conditions compile (stateOf d) (request.TakeKey a b k) text) e in
-      take-held d c b k (handed d b (f .1 .0))
+      let lt = handed d b (f .1 .0) in
+      revoke-held b k (omega arith) (take-held d c b k lt)
   store-accepted (request.AddLock a b o) e =
       let f = all-fail (conditions compile (stateOf d) (request.AddLock a b o) text) e in
       let i = issued (stateOf d) in

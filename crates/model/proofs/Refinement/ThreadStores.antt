@@ -2,23 +2,26 @@
 use mathlib.Core.Path.{_≡_, refl, sym, ap, ap₂, _∙_}
 use mathlib.Core.Bool.{false, not}
 use mathlib.Core.List.{List, [], map}
-use Prim.Native.Nat.{ℕ, suc, _<_}
+use Prim.Native.Nat.{ℕ, zero, suc, _<_}
 use native.Mathlib.Omega.{arith}
 use lib.Dec.{eqb}
 use lib.ListN.{length, getD, set, length-map, List·getD-map}
 use borrow.Author.Tests.{not-false}
 use Rattle.product.specs.declared.literal.Key.{Key}
 use Rattle.base.specs.Lists.{isSome}
-use Rattle.model.specs.State.{freshThread, Place, free, taken, findThread, placeOf}
-use Rattle.model.specs.Effects.{withPlaces, onThread, atPlace, pushFrame, popFrame}
-use Rattle.model.specs.Limits.{mostThreads, mostFrames}
-use Rattle.model.specs.Cells.{Row, Table, Cells, Sized, cell, rowAt, tableAt, keysIn, placeIn, depthOf, framesOf, stateOf, threadsAre, frameCount, liveCell}
-use Rattle.model.specs.Stores.{onTable, startThread, endThread, pushRow, popRow, atThread}
-use Rattle.base.proofs.Lists.{caseBool, map-set}
+use Rattle.model.specs.State.{State, freshThread, Place, free, taken, findThread, placeOf}
+use Rattle.model.specs.Effects.{withPlaces, onThread, atPlace, pushFrame, popFrame, revokeThread, revokeKey}
+use Rattle.model.specs.Limits.{mostThreads, mostSegments, mostFrames}
+use Rattle.model.specs.Cells.{Row, Table, Cells, Sized, cell, rowAt, tableAt, definedCell, keysIn, placeIn, depthOf, framesOf, stateOf, threadsAre, frameCount, liveCell}
+use Rattle.model.specs.Stores.{onTable, startThread, endThread, pushRow, popRow, revokeRow, revokeRows, revokeCode, atThread}
+use Rattle.base.proofs.Lists.{caseBool, map-map, map-same, map-set}
 use Rattle.model.proofs.Agreement.Places.{Lives, lives}
-use Rattle.model.proofs.Refinement.ThreadTables.{length-frames, live-place, start-place, end-place, push-place, pop-place}
-use Rattle.model.proofs.Refinement.Sizes.{Shaped, shaped, tables-set, shaped-row, shaped-cell, sized-threads}
+use Rattle.model.proofs.Refinement.ThreadTables.{length-frames, live-place, start-place, end-place, push-place, pop-place, revoke-place}
+use Rattle.model.proofs.Refinement.Sizes.{Shaped, shaped, tables-set, tables-each, shaped-row, shaped-cell, sized-threads}
 use Rattle.model.proofs.Refinement.Counts.{Holds}
+
+length-revoked : (b x : ℕ) (w : Row) → length (revokeRow b x w) ≡ length w
+length-revoked b x w = caseBool (eqb (cell w 0) b) (λ e. simp e (length-map w _)) (λ e. simp e)
 
 -- a table changed at a place, as the place is
 places-set : (ts : List Table) (i : ℕ) (f : Table → Table) (F : Place → Place) → placeIn (f (tableAt ts i)) ≡ F (placeIn (tableAt ts i))
@@ -108,6 +111,29 @@ module _ (d : Cells) (c : Sized d) where
         (push-place w mine (s .rows) (s .cells 0 (omega arith)) deep
         ∙ ap₂ (λ (n : ℕ) (ks : List Key). onThread (pushFrame n ks) (placeIn mine)) own listed)
         (shaped-cell 17 _ (shaped-row 17 mine s (suc (depthOf mine)) w eight) 0 frameCount _ (omega arith))
+
+-- T: every table, of whatever the arrays hold
+module _ (b k : ℕ) (low : b < mostSegments) where
+  revoked-shaped : (n : ℕ) (t : Table) → Shaped 17 t → n < 17 → Shaped 17 (revokeRows b (definedCell k) t n)
+  revoked-shaped zero t s h = s
+  revoked-shaped (suc n) t s h =
+      revoked-shaped n _ (shaped-row 17 t s (suc n) _ (length-revoked b (definedCell k) (rowAt t (suc n)) ∙ s .cells (suc n) h)) (omega arith)
+
+  pub revoke-held : {d : Cells} {s : State} → Holds d s
+      → Holds (threadsAre (map (revokeCode b (definedCell k)) (d .threads)) d) (withPlaces s (revokeKey b k (s .places)))
+  unfolding stateOf
+  revoke-held {d} {s} h =
+      record {
+        state =
+            ap (withPlaces (stateOf d))
+            (map-map placeIn (revokeCode b (definedCell k)) (d .threads)
+            ∙ map-same _ _ (revoke-place b k low) (d .threads)
+            ∙ sym (map-map (onThread (revokeThread b k)) placeIn (d .threads)))
+            ∙ ap (λ (x : State). withPlaces x (revokeKey b k (x .places))) (h .state);
+        sized =
+            sized-threads (h .sized) _
+            (tables-each 64 17 (d .threads) (h .sized .threads) (revokeCode b (definedCell k)) refl (λ t s. revoked-shaped (depthOf t) t s (omega arith)));
+      }
 
 -- a thread that the test found
 pub alive : (d : Cells) (a : ℕ) → not (isSome (findThread a (map placeIn (d .threads)))) ≡ false → Lives a (map placeIn (d .threads))

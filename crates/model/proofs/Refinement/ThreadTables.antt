@@ -1,20 +1,25 @@
--- A thread's table after S, E, C and R holds the place that the call leaves: each store is read back, and the rows of
--- the other frames stay.
+-- A thread's table after S, E, C, R and T holds the place that the call leaves: each store is read back, and the rows
+-- of the other frames stay.
 use mathlib.Core.Path.{_≡_, refl, sym, ap, ap₂, _∙_}
-use mathlib.Core.Bool.{true, false}
-use mathlib.Core.List.{List, [], _∷_}
+use mathlib.Core.Bool.{true, false, cond}
+use mathlib.Core.List.{List, [], _∷_, map}
+use mathlib.Core.Logic.{_⊎_, inl, inr, ⊎-elim}
 use Prim.Native.Nat.{ℕ, zero, suc, _-_, _≤_, _<_, min}
 use native.Mathlib.Omega.{arith}
 use lib.Dec.{eqb}
 use lib.ListN.{length, set, length-set}
 use lib.Seq.{getD-set-same, getD-set-other}
+use borrow.Author.Tests.{eqb-true, eqb-false, ne-eqb}
+use Rattle.product.specs.declared.literal.Key.{Key}
 use Rattle.base.specs.Lists.{tailOf}
+use Rattle.model.specs.Limits.{mostSegments}
 use Rattle.model.specs.State.{freshThread, free, taken}
-use Rattle.model.specs.Effects.{onThread, pushFrame, popFrame}
+use Rattle.model.specs.Effects.{onThread, pushFrame, popFrame, without, revokeFrame, revokeThread}
 use Rattle.model.specs.Threads.{Frame, Thread}
-use Rattle.model.specs.Cells.{Row, Table, cell, rowAt, frameCount, liveCell, numberCell, userCell, keysIn, frameOf, framesOf, depthOf, placeIn}
-use Rattle.model.specs.Stores.{setCell, startThread, endThread, pushRow, popRow}
+use Rattle.model.specs.Cells.{Row, Table, cell, rowAt, frameCount, liveCell, numberCell, userCell, noKey, definedCell, keyIn, keysIn, frameOf, framesOf, depthOf, placeIn}
+use Rattle.model.specs.Stores.{setCell, startThread, endThread, pushRow, popRow, revokeRow, revokeRows, revokeCode}
 use Rattle.base.proofs.Lists.{caseBool}
+use Rattle.model.proofs.Refinement.SegmentTables.{same-code}
 
 -- ---- frames
 
@@ -113,3 +118,81 @@ pop-place t h l =
     recounted t t n (framesOf t n) (omega arith) refl l (omega arith)
     (frames-same t₂ t n (λ j a b. getD-set-other t 0 j _ [] (λ p. omega arith)))
     ∙ same-change popFrame (framesOf t n) t (λ u. ap (λ (fs : List Frame). record { user = u; frames = fs }) (tail-frames t (depthOf t)))
+
+-- ---- T
+
+-- a row changed in its place; beyond the end there is none
+row-changed : (t : Table) (i : ℕ) (f : Row → Row) → f [] ≡ [] → rowAt (set t i (f (rowAt t i))) i ≡ f (rowAt t i)
+row-changed [] i f e = sym e
+row-changed (w ∷ t) zero f e = refl
+row-changed (w ∷ t) (suc i) f e = row-changed t i f e
+
+module _ (s k : ℕ) (low : s < mostSegments) where
+  abbrev stays : ℕ → ℕ
+  stays y = cond (eqb (definedCell k) y) noKey y
+
+  -- a cell with the code has no key any more, and no other key has that code
+  keys-revoked : (w : Row) → keysIn (map stays w) ≡ without k (keysIn w)
+  keys-revoked [] = refl
+  keys-revoked (y ∷ w) =
+      caseBool (eqb (definedCell k) y)
+      (λ e. caseBool (eqb y noKey) (λ f. simp (e, f) (keys-revoked w)) (λ f. simp (e, f, same-code k y) (keys-revoked w)))
+      (λ e. caseBool (eqb y noKey)
+      (λ f. simp (e, f) (keys-revoked w))
+      (λ f. simp (e, f, same-code k y) (ap (λ (ks : List Key). keyIn y ∷ ks) (keys-revoked w))))
+
+  first-stays : (w : Row) → cell w 0 ≡ s → cell (map stays w) 0 ≡ cell w 0
+  first-stays [] e = refl
+  first-stays (y ∷ w) e = let other : eqb (definedCell k) y ≡ false = ne-eqb (definedCell k) y (λ p. omega arith) in simp other
+
+  no-row : revokeRow s (definedCell k) [] ≡ []
+  no-row = caseBool (eqb 0 s) (λ e. simp e) (λ e. simp e)
+
+  frame-revoked : (w : Row) → frameOf (revokeRow s (definedCell k) w) ≡ revokeFrame s k (frameOf w)
+  frame-revoked w =
+      caseBool (eqb (cell w 0) s)
+      (λ e. simp e (λ i. record { segment = first-stays w (eqb-true (cell w 0) s e) i; keys = keys-revoked w i }))
+      (λ e. simp e)
+
+  abbrev after : Table → ℕ → Table
+  after t n = revokeRows s (definedCell k) t n
+
+  -- the rows of the oldest n frames change, and no other
+  row-kept : (t : Table) (n j : ℕ) → (j ≡ 0) ⊎ (n < j) → rowAt (after t n) j ≡ rowAt t j
+  row-kept t zero j h = refl
+  row-kept t (suc n) j h =
+      row-kept (set t (suc n) _) n j (⊎-elim (λ p. inl p) (λ p. inr (omega arith)) h)
+      ∙ getD-set-other t (suc n) j _ [] (⊎-elim (λ p q. omega arith) (λ p q. omega arith) h)
+
+  row-revoked : (t : Table) (n j : ℕ) → 0 < j → j ≤ n → rowAt (after t n) j ≡ revokeRow s (definedCell k) (rowAt t j)
+  row-revoked t zero j a b = absurd (omega arith)
+  row-revoked t (suc n) j a b =
+      let t₁ : Table = set t (suc n) (revokeRow s (definedCell k) (rowAt t (suc n))) in
+      caseBool (eqb j (suc n))
+      (λ e. let p = eqb-true j (suc n) e in
+      row-kept t₁ n j (inr (omega arith))
+      ∙ ap (rowAt t₁) p ∙ row-changed t (suc n) (revokeRow s (definedCell k)) no-row ∙ ap (λ (m : ℕ). revokeRow s (definedCell k) (rowAt t m)) (sym p))
+      (λ e. let p = eqb-false j (suc n) e in
+      row-revoked t₁ n j a (omega (arith, p))
+      ∙ ap (revokeRow s (definedCell k)) (getD-set-other t (suc n) j _ [] p))
+
+  frames-revoked : (t t′ : Table) (n : ℕ) → ((j : ℕ) → 0 < j → j ≤ n → rowAt t′ j ≡ revokeRow s (definedCell k) (rowAt t j))
+      → framesOf t′ n ≡ map (revokeFrame s k) (framesOf t n)
+  frames-revoked t t′ zero h = refl
+  frames-revoked t t′ (suc n) h =
+      ap₂ (λ (f : Frame) (fs : List Frame). f ∷ fs)
+      (ap frameOf (h (suc n) (omega arith) (omega arith)) ∙ frame-revoked (rowAt t (suc n)))
+      (frames-revoked t t′ n (λ j a b. h j a (omega arith)))
+
+  pub revoke-place : (t : Table) → placeIn (revokeCode s (definedCell k) t) ≡ onThread (revokeThread s k) (placeIn t)
+  revoke-place t =
+      let n : ℕ = depthOf t in
+      let t′ : Table = after t n in
+      let first : rowAt t′ 0 ≡ rowAt t 0 = row-kept t n 0 (inl refl) in
+      let depth : depthOf t′ ≡ n = ap (λ (w : Row). min (cell w frameCount) 16) first in
+      let frames : List Frame = map (revokeFrame s k) (framesOf t n) in
+      let rows : framesOf t′ (depthOf t′) ≡ frames = ap (framesOf t′) depth ∙ frames-revoked t t′ n (row-revoked t n) in
+      caseBool (eqb (cell (rowAt t 0) liveCell) 0)
+      (λ e. let dead : eqb (cell (rowAt t′ 0) liveCell) 0 ≡ true = ap (λ (w : Row). eqb (cell w liveCell) 0) first ∙ e in simp (dead, e))
+      (λ e. let lives : eqb (cell (rowAt t′ 0) liveCell) 0 ≡ false = ap (λ (w : Row). eqb (cell w liveCell) 0) first ∙ e in
+      place-is t′ _ _ frames lives (ap (λ (w : Row). cell w numberCell) first) (ap (λ (w : Row). cell w userCell) first) rows ∙ sym (simp e))

@@ -123,8 +123,9 @@ deep =
     ∷ ok (E 0) 16
     ∷ []
 
--- A key is given, and taken while a call that handed it over is open. The open call keeps it, so a deny lock on it
--- still opens, until that is dropped. Then the grant lock is dropped, and then the thread ended.
+-- A key is given, and a call hands it over: a deny lock on it opens, until the key is taken while the call is open.
+-- Given again, it is no open call's, but the next call's. Then the deny lock is dropped, then the grant lock, and then
+-- the thread ended.
 abbrev pub edits : List Expected
 edits =
     ok U 0
@@ -134,14 +135,18 @@ edits =
     ∷ ok (G 0 0 0) 2
     ∷ ok (L 0 0 1 (bytes "U0")) 0
     ∷ ok (C 0 0) 0
-    ∷ ok (T 0 0 0) 1
     ∷ ok (L 0 0 9 (bytes "D0")) 1
+    ∷ no (C 0 0) 14 1
+    ∷ ok (T 0 0 0) 1
+    ∷ ok (C 0 0) 0
+    ∷ ok (G 0 0 0) 2
+    ∷ ok (C 0 0) 0
     ∷ no (C 0 0) 14 1
     ∷ ok (D 0 1) 1
     ∷ ok (C 0 0) 0
     ∷ ok (D 0 0) 1
     ∷ no (C 0 0) 15 0
-    ∷ ok (E 0) 2
+    ∷ ok (E 0) 4
     ∷ []
 
 -- what is stored of two locks on segment 0 with one dropped between them, and of one on segment 1; no thread ever has

@@ -3,7 +3,8 @@
 -- deny lock then standing for it opens, some grant lock standing for it does and, for a C, fewer than sixteen of the
 -- run's calls are open. .. Opening is judged on the run's two identity keys and what each still open call handed over
 -- when made. Live runs, segments, standing locks, open calls and keys are all read from the history of calls and
--- answers alone.' Proved in `proofs/Agreement/Granting.antt`.
+-- answers alone.' Since request P5 'a still open call now hands over its list less what was taken since, and the
+-- history reads that way' (`Revocation`). Proved in `proofs/Agreement/Granting.antt`.
 use mathlib.Core.Path.{_≡_}
 use mathlib.Core.Bool.{true}
 use mathlib.Core.List.{List}

@@ -1,24 +1,27 @@
 -- A trial for each number from 1 to 15 of document 01's table with each letter that it can refuse, in the table's order
--- and often with a later one that holds too; calls that are not well formed; the limits from both sides; and places
--- that are freed and used again. Each letter of the table of calls occurs accepted and refused. Proved in
--- `proofs/Computed/Trials.antt`, by computing.
+-- and often with a later one that holds too; calls that are not well formed; who edits; what a T withdraws; the limits
+-- from both sides; and places that are freed and used again. Each letter of the table of calls occurs accepted and
+-- refused. Proved in `proofs/Computed/Trials.antt`, by computing.
 use mathlib.Core.Path.{_≡_}
 use mathlib.Core.Bool.{Bool, true, false, _&&_, _||_, not}
 use mathlib.Core.List.{List, [], _∷_, _++_, map}
-use mathlib.Core.Option.{none, some}
+use mathlib.Core.Option.{Option, none, some}
 use Prim.Native.Nat.{ℕ, _+_}
 use lib.Dec.{eqb}
 use lib.ListN.{length, replicate}
+use Rattle.product.specs.declared.literal.Key.{Key}
+use Rattle.product.specs.declared.literal.Key.the-variants.{Segment as SegmentKey, Defined}
 use Rattle.formula.specs.Outcome.{outcomeOf}
 use Rattle.base.specs.Bytes.{bytes}
 use Rattle.call.specs.Calls.{Call, callWith, TableRow, table}
 use Rattle.model.specs.Answers.{answerNumber, answerValue}
-use Rattle.base.specs.Lists.{any, keep, each}
+use Rattle.base.specs.Lists.{any, keep, each, mapOption}
+use Rattle.model.specs.Threads.{Frame}
 use Rattle.model.specs.State.{State, emptyState, blankSegment, freshThread, free, taken}
 use Rattle.model.specs.Refusals.{conditions}
 use Rattle.model.specs.Model.{step}
 use Rattle.model.specs.History.{handsOut, makersOf}
-use Rattle.model.specs.Replay.{events}
+use Rattle.model.specs.Replay.{events, historyOf}
 use Rattle.model.specs.Notation.{Expected, U, S, E, N, K, G, T, L, D, C, R, A, ok, no, callsOf, Happens}
 use Rattle.model.specs.Theorems.Editing.{userIn, ownerIn}
 
@@ -236,6 +239,81 @@ editors =
     ∷ ok (D 3 1) 1
     ∷ []
 
+-- Withdrawal (request P5). User 0's segments 0 and 1 hand over D0, segment 0 also D1; the sheet, segment 2, may be read
+-- with D0, and written with D1 but not with D0. Thread 0, of user 1, has called segment 0; thread 1, of user 0, has
+-- called it twice; thread 2, of user 0, has called segment 0 and then segment 1. So all three may read, and not write.
+abbrev pub inProgress : List Expected
+inProgress =
+    ok U 0
+    ∷ ok U 1
+    ∷ ok (S 1) 0
+    ∷ ok (S 0) 1
+    ∷ ok (S 0) 2
+    ∷ ok (N 1 0) 0
+    ∷ ok (N 1 0) 1
+    ∷ ok (N 1 1) 2
+    ∷ ok (K 1) 0
+    ∷ ok (K 1) 1
+    ∷ ok (G 1 0 0) 2
+    ∷ ok (G 1 0 1) 3
+    ∷ ok (G 1 1 0) 2
+    ∷ ok (L 1 0 1 (bytes "U0|U1")) 0
+    ∷ ok (L 1 1 1 (bytes "U0|U1")) 1
+    ∷ ok (L 1 2 2 (bytes "D0")) 2
+    ∷ ok (L 1 2 4 (bytes "D1&!D0")) 3
+    ∷ ok (C 0 0) 0
+    ∷ ok (C 1 0) 0
+    ∷ ok (C 1 0) 0
+    ∷ ok (C 2 0) 0
+    ∷ ok (C 2 1) 1
+    ∷ []
+
+-- User 1 may not take D0 from segment 0, and nothing is withdrawn. Thread 2 takes it for user 0: no open call of
+-- segment 0 hands it over, and thread 2 still has it from segment 1.
+abbrev pub withdrawal : List Expected
+withdrawal =
+    no (T 0 0 0) 6 0
+    ∷ ok (A 0 2 2) 2
+    ∷ no (A 0 2 4) 15 0
+    ∷ ok (T 2 0 0) 2
+    ∷ no (A 0 2 2) 15 0
+    ∷ ok (A 0 2 4) 3
+    ∷ no (A 1 2 2) 15 0
+    ∷ ok (A 1 2 4) 3
+    ∷ ok (A 2 2 2) 2
+    ∷ no (A 2 2 4) 15 0
+    ∷ []
+
+-- D0 is given again, which serves thread 1's next call of segment 0 and no open one; a second T of a key that isn't in
+-- the list withdraws nothing. Then D0 is taken from segment 1, and thread 2 has lost it too.
+abbrev pub givenAgain : List Expected
+givenAgain =
+    ok (G 1 0 0) 3
+    ∷ no (A 0 2 2) 15 0
+    ∷ no (A 1 2 2) 15 0
+    ∷ ok (C 1 0) 0
+    ∷ ok (A 1 2 2) 2
+    ∷ ok (R 1) 0
+    ∷ no (A 1 2 2) 15 0
+    ∷ no (T 1 1 1) 9 0
+    ∷ ok (A 2 2 2) 2
+    ∷ ok (T 1 1 0) 1
+    ∷ no (A 2 2 2) 15 0
+    ∷ ok (A 2 2 4) 3
+    ∷ ok (E 1) 2
+    ∷ []
+
+abbrev pub revoked : List Expected
+revoked = inProgress ++ withdrawal ++ givenAgain
+
+-- what the open calls of a thread then hand over, by the history
+abbrev pub handsThen : List Expected → ℕ → Option (List Frame)
+handsThen xs n = mapOption (λ t. t .frames) (historyOf outcomeOf (callsOf xs) .threads n)
+
+-- an open call of a segment that hands over its own key and these
+abbrev pub opened : ℕ → List Key → Frame
+opened s keys = record { segment = s; keys = SegmentKey s ∷ keys }
+
 -- 32 users, 64 segments; 64 live threads, where an ended one makes room; 8 keys in a list, where a taken one makes room
 abbrev pub users : List Expected
 users = each (ok U) 0 32 ++ no U 10 0 ∷ no (S 32) 1 0 ∷ no (S 65535) 1 0 ∷ ok (S 31) 0 ∷ []
@@ -340,6 +418,23 @@ pub record Trials : Type 0 where
   pub editorsOwners : map (ownerIn (events outcomeOf (callsOf editors))) (0 ∷ 1 ∷ 2 ∷ 3 ∷ [])
       ≡ some 0 ∷ some 3 ∷ some 2 ∷ none ∷ []
   pub editorsMakers : makersOf (events outcomeOf (callsOf editors)) ≡ 0 ∷ 3 ∷ []
+  pub revokedHappens : Happens revoked
+  -- what the open calls of threads 0 to 2 hand over before the withdrawal, after it and at the end
+  pub handedBefore : map (handsThen inProgress) (0 ∷ 1 ∷ 2 ∷ [])
+      ≡ some (opened 0 (Defined 0 ∷ Defined 1 ∷ []) ∷ [])
+      ∷ some (opened 0 (Defined 0 ∷ Defined 1 ∷ []) ∷ opened 0 (Defined 0 ∷ Defined 1 ∷ []) ∷ [])
+      ∷ some (opened 1 (Defined 0 ∷ []) ∷ opened 0 (Defined 0 ∷ Defined 1 ∷ []) ∷ [])
+      ∷ []
+  pub handedAfter : map (handsThen (inProgress ++ withdrawal)) (0 ∷ 1 ∷ 2 ∷ [])
+      ≡ some (opened 0 (Defined 1 ∷ []) ∷ [])
+      ∷ some (opened 0 (Defined 1 ∷ []) ∷ opened 0 (Defined 1 ∷ []) ∷ [])
+      ∷ some (opened 1 (Defined 0 ∷ []) ∷ opened 0 (Defined 1 ∷ []) ∷ [])
+      ∷ []
+  pub handedLast : map (handsThen revoked) (0 ∷ 1 ∷ 2 ∷ [])
+      ≡ some (opened 0 (Defined 1 ∷ []) ∷ [])
+      ∷ none
+      ∷ some (opened 1 [] ∷ opened 0 (Defined 1 ∷ []) ∷ [])
+      ∷ []
   pub usersHappen : Happens users
   pub segmentsHappen : Happens segments
   pub threadsHappen : Happens liveThreads

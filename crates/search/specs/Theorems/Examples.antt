@@ -21,7 +21,7 @@ use Rattle.search.specs.Theorems.KeySets.{isOwnKey}
 use Rattle.search.specs.Theorems.HandedOut.{canBeListed, canBeListedAfter}
 
 -- Users 0 and 1; code segments 0, 1 and 2 of user 0, who may call them; D0 to D3. There is no thread 5 to make more.
--- Segment 0 hands over S0 and D0, segment 1 S1, D0 and D1, segment 2 S2. Threads 0 to 2 are user 0's; thread 2 has
+-- Segment 0 hands over S0, D0 and D3, segment 1 S1, D0 and D1, segment 2 S2. Threads 0 to 2 are user 0's; thread 2 has
 -- ended, and there is no thread 3.
 abbrev pub office : List Expected
 office =
@@ -40,6 +40,7 @@ office =
     ∷ no (N 5 0) 2 0
     ∷ no (K 5) 2 0
     ∷ ok (G 0 0 0) 2
+    ∷ ok (G 0 0 3) 3
     ∷ ok (G 0 1 0) 2
     ∷ ok (G 0 1 1) 3
     ∷ ok (L 0 0 1 (bytes "U0")) 0
@@ -49,17 +50,19 @@ office =
     ∷ []
 
 -- Thread 0 calls segment 0, then 1. D1 is taken out of segment 1's list, and D2 put into segment 0's. Thread 0 calls 1
--- again, then 2; thread 1 calls segment 0. So the open calls of thread 0 are, the newest first, of segments 2 (S2), 1
--- (S1, D0), 1 (S1, D0, D1) and 0 (S0, D0); thread 1 has one, of segment 0 (S0, D0, D2).
+-- again, then 2; thread 1 calls segment 0. Then D1 is given again. So the open calls of thread 0 are, the newest first,
+-- of segments 2 (S2), 1 (S1, D0), 1 (S1, D0; D1 was taken since) and 0 (S0, D0, D3); thread 1 has one, of segment 0
+-- (S0, D0, D3, D2).
 abbrev pub route : List Expected
 route =
     ok (C 0 0) 0
     ∷ ok (C 0 1) 1
     ∷ ok (T 0 1 1) 2
-    ∷ ok (G 0 0 2) 3
+    ∷ ok (G 0 0 2) 4
     ∷ ok (C 0 1) 1
     ∷ ok (C 1 0) 0
     ∷ ok (C 0 2) 2
+    ∷ ok (G 0 1 1) 3
     ∷ []
 
 -- thread 0 returns from its newest call
@@ -88,13 +91,14 @@ dayEvents = events outcomeOf (callsOf (office ++ route))
 pub record Examples : Type 0 where
   pub returnHappens : Happens (office ++ route ++ return)
   pub deepHappens : Happens (office ++ route ++ deep)
-  -- S1 is in two lists, D0 in three: the newest one's place; D1 is only in the older call of segment 1
+  -- S1 is in two lists, D0 in three: the newest one's place; D3 is only in the oldest call
   pub newest : searched desk 0 (Segment 2) ≡ At 0
   pub second : searched desk 0 (Segment 1) ≡ At 1
   pub shared : searched desk 0 (Defined 0) ≡ At 1
-  pub taken : searched desk 0 (Defined 1) ≡ At 2
   pub oldest : searched desk 0 (Segment 0) ≡ At 3
-  -- given after the call was made
+  pub oldestOnly : searched desk 0 (Defined 3) ≡ At 3
+  -- taken since, and given again after the calls were made; given after the call was made
+  pub taken : searched desk 0 (Defined 1) ≡ Nowhere
   pub given : searched desk 0 (Defined 2) ≡ Nowhere
   -- its own U and R keys, held but handed over by no call; and another user's
   pub ownUser : searched desk 0 (User 0) ≡ Nowhere

@@ -1,5 +1,5 @@
 -- After every list of calls from the empty state the search is read from the calls and their answers alone: the live
--- threads, and what each of their open calls handed over when it was made. Proved in `proofs/FromHistory.antt`.
+-- threads, and what each of their open calls hands over. Proved in `proofs/FromHistory.antt`.
 use mathlib.Core.Path.{_≡_}
 use mathlib.Core.List.{List}
 use mathlib.Core.Logic.{_↔_}

@@ -1,7 +1,8 @@
--- Refused in the order of the table, else the list is stored closed up without the key.
-use mathlib.Core.Path.{_≡_, refl, sym, ap, _∙_}
+-- Refused in the order of the table, else the list is stored closed up without the key, and the key goes from every
+-- thread's frames.
+use mathlib.Core.Path.{_≡_, refl, sym, ap₂, _∙_}
 use mathlib.Core.Bool.{Bool, true, false, not}
-use mathlib.Core.List.{List, []}
+use mathlib.Core.List.{List, [], map}
 use mathlib.Core.Option.{some}
 use Prim.Native.Nat.{ℕ, _<_}
 use borrow.Author.Needs.{needs}
@@ -17,7 +18,7 @@ use Rattle.model.specs.Refusals.{conditions}
 use Rattle.model.specs.Effects.{answer}
 use Rattle.model.specs.State.{editor, owns}
 use Rattle.model.specs.Cells.{Row, Table, Cells, registryIs, makersAre, segmentsAre, threadsAre, _and_, cell, rowAt, tableAt, ownerCell, definedCell, listRow, stateOf}
-use Rattle.model.specs.Stores.{store}
+use Rattle.model.specs.Stores.{revokeCode, store}
 use Rattle.model.specs.Serving.{Serves}
 use Rattle.model.proofs.Refinement.ServedCalls.{serves-refused, serves-accepted}
 use Rattle.threads.proofs.Editors.{BeginsWithEditor, editor-missing, editor-known}
@@ -54,28 +55,29 @@ module _ (d : Cells) (text : List ℕ) (a s k : ℕ) where
       unfolding conditions
       absent e = serves-refused d call text (rw (known, z .segment, z .key, owner, in-list d s (z .there) k, ← v .present, e))
 
-      taken : not found ≡ false → Serves d call text (Accepted count) (segmentsAre (set (d .segments) s (set table 1 cells)) d)
+      taken : {threads : List Table} → not found ≡ false → threads ≡ map (revokeCode s (definedCell k)) (d .threads)
+          → Serves d call text (Accepted count) ((segmentsAre (set (d .segments) s (set table 1 cells)) and threadsAre threads) d)
       unfolding conditions answer store
-      taken e =
+      taken {threads} e revoked =
           serves-accepted d call text
           (rw (known, z .segment, z .key, owner, in-list d s (z .there) k, ← v .present, e))
           (v .counted ∙ sym (left-length d s (z .there) k))
-          (ap (λ (w : Row). segmentsAre (set (d .segments) s (set table 1 w)) d) (v .closed))
+          (ap₂ (λ (w : Row) (ts : List Table). threadsAre ts (segmentsAre (set (d .segments) s (set table 1 w)) d)) (v .closed) revoked)
 
 -- what passed the tests
-low : (b : tie.After-enum-told2) → let a = b .before .before .before .before .before .before .before .before .args in (a .segment < mostSegments) × (a .key < mostDefined)
+low : (b : tie.After-enum-told2) → let a = b .before .before .before .before .before .before .before .before .before .args in (a .segment < mostSegments) × (a .key < mostDefined)
 low b = names-low (b .before .before .test-names .ensures) (b .enum-told2 .given .1)
 
 -- the editor and the names, in whatever arrays the lent ones stand
 known-at : (b : tie.After-enum-told2) (d : Cells)
     → let k = b .before .before .before .before in
-    let a = k .before .before .before .before .args in
+    let a = k .before .before .before .before .before .args in
     editor (stateOf ((registryIs (now (a .registry)) and makersAre (now (a .makers)) and segmentsAre (now (a .segments)) and threadsAre (now (a .threads))) d)) (a .thread)
     ≡ some (k .before .editor2 .given .0 .0)
 known-at b d = let k = b .before .before .before .before in editor-known _ _ (k .before .before .before .editor .ensures) _ (k .before .editor2 .given .1)
 
 named-at : (b : tie.After-enum-told2) (d : Cells)
-    → let a = b .before .before .before .before .before .before .before .before .args in
+    → let a = b .before .before .before .before .before .before .before .before .before .args in
     Named ((registryIs (now (a .registry)) and makersAre (now (a .makers)) and segmentsAre (now (a .segments)) and threadsAre (now (a .threads))) d) (a .segment) (a .key)
 named-at b d = names-known _ (TakeKey _ _ _) [] _ _ _ (names _ [] _ _ _) (known-at b d) (b .before .before .test-names .ensures) (b .enum-told2 .given .1)
 
@@ -101,9 +103,10 @@ returns-4 c =
 
 returns-5 : tie.Need-returns-5
 returns-5 c =
-    let e = c .before .before .before .before .before in
+    let f = c .before .before .before in
+    let e = f .before .before .before .before in
     let b = e .before .before in
-    λ text d. taken _ text _ _ _ (known-at b d) (named-at b d) (e .if1 .left) (c .before .before .before .remove .ensures) (c .before .if2 .left)
+    λ text d. taken _ text _ _ _ (known-at b d) (named-at b d) (e .if1 .left) (f .before .before .remove .ensures) (f .if2 .left) (c .revoke .ensures)
 
 pub take-key-spec : {M : Type 1} → statement M
 take-key-spec =
@@ -125,11 +128,12 @@ take-key-spec =
     (λ c. search needs)  -- mul-list
     (λ c. low (c .before .before) .0)  -- index-1-list
     (λ c. search needs)  -- index-2-list
-    (λ c. let l = low (c .before .before .before) in search (needs, l))  -- add-remove
+    (λ c. let l = low (c .before .before .before) in search (needs, l))  -- add-code
     (λ c κs. search needs)  -- remove-requires
     returns-4
     (λ c. search needs)  -- mul-cells
     (λ c. low (c .before .before .before .before .before .before .before) .0)  -- index-1-cells
     (λ c. search needs)  -- index-2-cells
-    (λ c. search needs)  -- cast-t24
+    (λ c κs. search needs)  -- revoke-requires
+    (λ c. search needs)  -- cast-t28
     returns-5)
