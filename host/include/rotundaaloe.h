@@ -343,7 +343,10 @@ ROTUNDAALOE_CHECKED unsigned rotundaaloe_new_key(struct rotundaaloe_state *state
     return rotundaaloe_call(state, &record, key, NULL);
 }
 
-/* G: puts the key into the segment's list. keys: those now in it. Refused: 2, 3, 4, 6, 8, 10. */
+/*
+ * G: puts the key into the segment's list, for calls to come; an open call doesn't get it. keys:
+ * those now in the list. Refused: 2, 3, 4, 6, 8, 10.
+ */
 ROTUNDAALOE_CHECKED unsigned rotundaaloe_give_key(struct rotundaaloe_state *state, uint16_t thread,
                                                   uint16_t segment, uint16_t key, uint16_t *keys)
 {
@@ -351,7 +354,10 @@ ROTUNDAALOE_CHECKED unsigned rotundaaloe_give_key(struct rotundaaloe_state *stat
     return rotundaaloe_call(state, &record, keys, NULL);
 }
 
-/* T: takes the key out of the segment's list. keys: those now in it. Refused: 2, 3, 4, 6, 9. */
+/*
+ * T: takes the key out of the segment's list, and from every open call of the segment, in every
+ * thread. keys: those now in the list. Refused: 2, 3, 4, 6, 9.
+ */
 ROTUNDAALOE_CHECKED unsigned rotundaaloe_take_key(struct rotundaaloe_state *state, uint16_t thread,
                                                   uint16_t segment, uint16_t key, uint16_t *keys)
 {

@@ -1,6 +1,6 @@
-//! The proved guard against the reference: the worked examples and long lists of
-//! calls, with the same answer to every call, and every cell of the arrays
-//! compared after each.
+//! The proved guard against the reference: the worked examples, lists of
+//! withdrawals and long lists of calls, with the same answer to every call, and
+//! every cell of the arrays compared after each.
 //!
 //! `ROTUNDAALOE_CALLS=200000000 cargo test --release --test guard` makes that
 //! many calls in the lists, instead of 20,000,000. With `-- --nocapture` it also
@@ -16,11 +16,13 @@ use std::{env, thread};
 use testing::calls::{Caller, WORLDS, World};
 use testing::random::Random;
 use testing::trials::TRIALS;
+use testing::withdrawals;
 
 const CALLS_VARIABLE: &str = "ROTUNDAALOE_CALLS";
 const CALLS: u64 = 20_000_000;
 /// The history is asked too in one of this many lists.
 const HISTORY_LISTS: u64 = 16;
+const WITHDRAWAL_LISTS: usize = 1_000;
 
 #[test]
 fn worked_examples() {
@@ -28,6 +30,25 @@ fn worked_examples() {
         println!("{name}");
         trial(&mut Pair::new());
     }
+}
+
+/// Their every C, R and A is made by its own function too, one in two.
+#[test]
+fn lists_of_withdrawals() {
+    let mut random = Random::new(97);
+    let (mut withdrawn, mut checks) = (0, 0);
+    for _ in 0..WITHDRAWAL_LISTS {
+        let mut pair = Pair::new();
+        let mut history = History::new();
+        for (turn, record) in withdrawals::list(&mut random).iter().enumerate() {
+            let answer = pair.call(record, turn % 2 == 1);
+            history.feed(record, answer.ok());
+        }
+        checks += pair.compare_checks(history.segments().count());
+        withdrawn += pair.withdrawn;
+    }
+    println!("{withdrawn} frames lost a key, and {checks} checks");
+    assert!(withdrawn > 10 * WITHDRAWAL_LISTS, "{withdrawn}");
 }
 
 /// Names the list, if it fails.
@@ -49,6 +70,7 @@ fn compare_lists(world: &World, seed: u64, calls: u64) -> Tally {
     let mut random = Random::new(seed);
     let mut tally = Tally::default();
     let mut checks = 0;
+    let mut withdrawn = 0;
     for list in 0.. {
         if tally.calls() >= calls {
             break;
@@ -82,8 +104,10 @@ fn compare_lists(world: &World, seed: u64, calls: u64) -> Tally {
         }
         checks += pair.compare_checks(caller.segments());
         tally.merge(&pair.tally);
+        withdrawn += pair.withdrawn;
     }
-    println!("{}: {checks} checks after {tally}", world.name);
+    let name = world.name;
+    println!("{name}: {withdrawn} frames lost a key, and {checks} checks after {tally}");
     tally
 }
 

@@ -28,6 +28,7 @@ use std::collections::{BTreeMap, BTreeSet};
 use testing::calls::{Caller, WORLDS, World, call, lock};
 use testing::neighbours::crowd;
 use testing::random::Random;
+use testing::withdrawals;
 
 /// Lists of each kind.
 const LISTS: usize = 100;
@@ -96,19 +97,19 @@ impl Office {
     }
 
     /// Threads call segments at random, and now and then return, while keys are
-    /// given and taken.
+    /// given and taken, the first more often.
     fn descend(&mut self, random: &mut Random) {
         let threads = Vec::from_iter(self.history.live_threads());
         let segments = Vec::from_iter(self.history.segments());
         for _ in 0..STEPS * threads.len() {
             let (thread, segment) = (random.pick(&threads), random.pick(&segments));
-            let record = match random.below(12) {
+            let record = match random.below(13) {
                 0 => call(b'R', thread, 0, 0),
                 1 => {
                     let key = self.newest_key(segment);
                     call(b'T', self.editor(segment), segment, key)
                 }
-                2 => {
+                2 | 3 => {
                     let key = random.below(self.history.issued().defined as usize);
                     call(b'G', self.editor(segment), segment, key as u16)
                 }
@@ -211,7 +212,8 @@ fn drawn(random: &mut Random, world: &World) -> (Vec<Record>, Office) {
 }
 
 /// Offices after lists of every kind, so many of each but for the long ones. Each
-/// list is made again with other C, R and A, and goes on to deep stacks.
+/// list is made again with other C, R and A, and goes on to deep stacks. Then as
+/// many lists of withdrawals.
 fn try_offices(lists: usize, mut attempt: impl FnMut(&Office)) {
     for ((world, seed), share) in WORLDS.iter().zip(80..).zip(SHARES) {
         let mut random = Random::new(seed);
@@ -225,6 +227,10 @@ fn try_offices(lists: usize, mut attempt: impl FnMut(&Office)) {
             office.descend(&mut random);
             attempt(&office);
         }
+    }
+    let mut random = Random::new(86);
+    for _ in 0..lists {
+        attempt(&Office::after(&withdrawals::list(&mut random)));
     }
 }
 
@@ -281,9 +287,16 @@ struct Tally {
     lists: [usize; MAX_LIST_KEYS + 1],
     /// Found keys that an older open call hands over too.
     handed_over_twice: usize,
-    /// Found keys that no segment of the open calls has in its list now.
-    taken_since: usize,
-    /// Keys that aren't found, but that such a segment has in its list now.
+    /// Found keys that no segment of the open calls has in its list now: none, since
+    /// what is taken is withdrawn.
+    taken_and_found: usize,
+    /// Keys that aren't found, but that an open call found in its list.
+    withdrawn: usize,
+    /// Keys that a newer open call found in its list, and that an older one hands
+    /// over.
+    withdrawn_from_newer: usize,
+    /// Keys that aren't found, but that a segment of the open calls has in its list
+    /// now.
     given_since: usize,
 }
 
@@ -325,8 +338,12 @@ impl Tally {
             segment.is_some_and(|segment| segment.list.contains(&key))
         };
         let is_now = calls.iter().any(has_now);
+        let newest_found = calls.iter().rposition(|call| call.found.contains(&key));
+        let newest = calls.iter().rposition(|call| call.list.contains(&key));
         self.handed_over_twice += usize::from(with_key > 1);
-        self.taken_since += usize::from(with_key > 0 && !is_now);
+        self.taken_and_found += usize::from(with_key > 0 && !is_now);
+        self.withdrawn += usize::from(newest_found.is_some() && newest.is_none());
+        self.withdrawn_from_newer += usize::from(newest.is_some() && newest < newest_found);
         self.given_since += usize::from(with_key == 0 && is_now);
     }
 
@@ -338,7 +355,9 @@ impl Tally {
         assert!(self.lists[1..].iter().all(|count| *count > 10 * LISTS));
         assert!(self.not_live > 100 * LISTS);
         assert!(self.handed_over_twice > 100 * LISTS);
-        assert!(self.taken_since > 10 * LISTS);
+        assert_eq!(self.taken_and_found, 0);
+        assert!(self.withdrawn > 10 * LISTS);
+        assert!(self.withdrawn_from_newer > LISTS);
         assert!(self.given_since > 10 * LISTS);
     }
 }

@@ -4,7 +4,7 @@
 //! many open calls an E of another thread closes. The edits that name a thread are
 //! among its calls; those of others are shared, and stay.
 //!
-//! Six faulty guards, each with an answer in which a neighbour shows, are found.
+//! Seven faulty guards, each with an answer in which a neighbour shows, are found.
 //! With `-- --nocapture` it also prints how often calls came to each outcome.
 
 #[path = "guards/faulty.rs"]
@@ -22,6 +22,7 @@ use testing::calls::{Caller, WORLDS, World, call, outcomes};
 use testing::neighbours::{crowd, is_struck, strike};
 use testing::random::Random;
 use testing::trials::{self, TRIALS};
+use testing::withdrawals;
 
 /// Lists of each kind, each with two others that are the same once struck.
 const LISTS: usize = 2_000;
@@ -143,6 +144,11 @@ struct Neighbours {
 impl Neighbours {
     fn draw(random: &mut Random, world: &World) -> Neighbours {
         let list = drawn(random, world);
+        Neighbours::of(random, world, list)
+    }
+
+    /// What is called in place of what is struck is as in this world.
+    fn of(random: &mut Random, world: &World, list: Answered) -> Neighbours {
         let one = chosen(random, &list);
         let list = records(&list);
         let left = strike(one, &list);
@@ -164,7 +170,8 @@ impl Neighbours {
     }
 }
 
-/// Neighbours of every kind, so many of each.
+/// Neighbours of every kind, so many of each, and as many among whom keys are taken
+/// from open calls.
 fn try_neighbours(lists: usize, mut attempt: impl FnMut(&Neighbours)) {
     for (world, seed) in WORLDS.iter().zip(60..) {
         let mut random = Random::new(seed);
@@ -172,6 +179,12 @@ fn try_neighbours(lists: usize, mut attempt: impl FnMut(&Neighbours)) {
         for _ in 0..if to_the_limit { lists / 20 } else { lists } {
             attempt(&Neighbours::draw(&mut random, world));
         }
+    }
+    let mut random = Random::new(65);
+    for _ in 0..lists {
+        let list = withdrawals::list(&mut random);
+        let list = answered(&mut Both::default(), &list);
+        attempt(&Neighbours::of(&mut random, &WORLDS[0], list));
     }
 }
 

@@ -13,6 +13,7 @@ use std::thread;
 use testing::calls::{Caller, WORLDS};
 use testing::journals;
 use testing::random::Random;
+use testing::withdrawals;
 
 /// What the program prints for a file that comes in these pieces.
 fn printed(program: &Path, pieces: [&[u8]; 2]) -> Vec<u8> {
@@ -141,7 +142,8 @@ fn generated_files() {
     let (mut lines, mut nothing, mut refusals) = (0, 0, [0; 3]);
     for turn in 0..4_000 {
         let file = match turn % 20 {
-            0..8 => list_file(&mut random),
+            0..7 => list_file(&mut random),
+            7 => journal::write(&withdrawals::list(&mut random)),
             8..11 => journals::whole(&mut random),
             11..17 => journals::damaged(&mut random),
             17 => {

@@ -11,6 +11,7 @@ use rotundaaloe::{Access, Guard, Kind, Operations, Recorder, Refusal, User, refu
 use std::collections::BTreeSet;
 use testing::calls::{Caller, WORLDS};
 use testing::random::Random;
+use testing::withdrawals;
 
 /// The live threads that the history tells of.
 fn threads(history: &History) -> Vec<Thread> {
@@ -130,6 +131,32 @@ fn lists_of_calls() {
     }
     assert_eq!(most[..2], [64, 64]);
     assert!(most[2] > 64, "{most:?}");
+}
+
+/// What an open call hands over is told in the order of the list that it found, also
+/// after keys of it were taken.
+#[test]
+fn lists_of_withdrawals() {
+    let mut random = Random::new(17);
+    let mut withdrawn = 0;
+    for _ in 0..200 {
+        let mut guard = Guard::new();
+        let mut history = History::new();
+        for record in withdrawals::list(&mut random) {
+            let answer = guard.call(lent(&record)).ok();
+            history.feed(&record, answer);
+            if b"GT".contains(&record.letter) {
+                same_view(&guard, &history);
+            }
+        }
+        same_view(&guard, &history);
+        let threads = history
+            .live_threads()
+            .filter_map(|live| history.thread(live));
+        let mut calls = threads.flat_map(|thread| &thread.open_calls);
+        withdrawn += usize::from(calls.any(|call| call.list.len() < call.found.len()));
+    }
+    assert!(withdrawn > 100, "{withdrawn}");
 }
 
 /// Numbers of which some are small, so that calls find what they name.

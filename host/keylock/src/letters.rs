@@ -48,7 +48,7 @@ fn summary(letter: Letter) -> &'static str {
         Letter::NewSegment => "a new segment: 0 code, 1 sheet",
         Letter::NewKey => "a new key",
         Letter::GiveKey => "give the key to the segment",
-        Letter::TakeKey => "take it",
+        Letter::TakeKey => "take it, from open calls too",
         Letter::AddLock => "lock: 1 execute, 2 read, 4 write, and 8 to deny",
         Letter::DropLock => "drop the lock",
         Letter::CallSegment => "call",

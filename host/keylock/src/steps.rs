@@ -16,6 +16,7 @@ mod troubles;
 mod view;
 
 pub use judgement::{Judgement, Tried};
+pub use kept::Taken;
 pub use listing::Lists;
 pub use product::{Holder, Literal, Product};
 pub use troubles::Troubles;
@@ -26,7 +27,7 @@ use crate::text::{self, Line};
 use crate::words;
 use rotundaaloe::formula::Key;
 use rotundaaloe::{Guard, Record, Refusal, Segment};
-use state::State;
+use state::{Loss, State};
 use view::Concern;
 
 /// A call, with what its author wrote beside it.
@@ -81,6 +82,8 @@ pub struct Step<'a> {
     pub thread: Option<ThreadView>,
     /// The segment of an N, G, T, L or D, after it.
     pub segment: Option<SegmentView>,
+    /// The threads of which a T withdraws the key from an open call, after it.
+    pub losing: Vec<ThreadView>,
     /// The segment of a C or an A, after it.
     pub asked: Option<SegmentView>,
     /// What the explanation and the guard's answer differ in. Never there,
@@ -166,9 +169,8 @@ impl Teller {
         };
         let disagreement = check::disagreement(state, &record, answer, judgement.as_ref());
         let concern = view::concern(state, &record, answer);
-        if let Ok(answer) = answer {
-            self.state.take_in(&record, answer);
-        }
+        let losses = self.take_in(place, &record, answer);
+        let withdrawn = check::withdrawn_disagreement(&self.state, &self.guard, &losses);
         let (thread, segment) = self.views(concern);
         let asked = judgement::asked(&record).and_then(|(_, segment)| self.view_of(segment));
         let mut listed = segment.iter().chain(&asked);
@@ -182,10 +184,26 @@ impl Teller {
             judgement,
             thread,
             segment,
+            losing: view::losing(&self.state, &losses),
             asked,
-            disagreement: disagreement.or(listed),
+            disagreement: disagreement.or(withdrawn).or(listed),
             entry,
         }
+    }
+
+    /// Takes in an answered call, and tells which open calls lost a key by it.
+    fn take_in(
+        &mut self,
+        place: usize,
+        record: &Record,
+        answer: Result<u16, Refusal>,
+    ) -> Vec<Loss> {
+        let Ok(answer) = answer else {
+            return Vec::new();
+        };
+        let losses = self.state.losses(record);
+        self.state.take_in(place, record, answer, &losses);
+        losses
     }
 
     /// The thread or the segment that a call concerns, after it.

@@ -1,5 +1,5 @@
 //! `keylock key`: which open call hands a key over, worked out by hand from
-//! document 02, P3, and on random journals against the history.
+//! document 02, P3 and P5, and on random journals against the history.
 
 #[expect(dead_code, reason = "other tests use the rest")]
 mod commands;
@@ -18,9 +18,10 @@ use std::fs;
 use testing::calls::WORLDS;
 use testing::random::Random;
 
-/// Parts 0 and 1 hand over D0, part 1 D1 too, and D2 is in no part's list. Thread
-/// 0's open calls are then, the newest first: S0, S0 D0, S1 D0 D1 and S0 D0.
-/// Thread 1 has ended, and thread 2 has no open call.
+/// Parts 0 and 1 hand over D0, part 1 D1 too, and D2 is in no part's list. D0 is
+/// taken from part 0 while two calls of it are open. Thread 0's open calls are then,
+/// the newest first: S0, S0, S1 D0 D1 and S0. Thread 1 has ended, and thread 2 has
+/// no open call.
 const OFFICE: &str = "\
 U
 U
@@ -65,7 +66,7 @@ fn finds(thread: &str, key: &str, printed: &str) {
 #[test]
 fn the_newest_call_that_hands_the_key_over() {
     finds("0", "S0", "ok 0");
-    finds("0", "D0", "ok 1");
+    finds("0", "D0", "ok 2");
     finds("0", "S1", "ok 2");
     finds("0", "D1", "ok 2");
 }
@@ -110,7 +111,7 @@ fn after_returns() {
             1,
             [
                 ("S0", "ok 0"),
-                ("D0", "ok 0"),
+                ("D0", "ok 1"),
                 ("S1", "ok 1"),
                 ("D1", "ok 1"),
             ],
@@ -128,7 +129,7 @@ fn after_returns() {
             3,
             [
                 ("S0", "ok 0"),
-                ("D0", "ok 0"),
+                ("D0", "none"),
                 ("S1", "none"),
                 ("D1", "none"),
             ],
@@ -149,6 +150,28 @@ fn after_returns() {
         }
     }
     finds_after("E 0\n", "0", "S0", "no 2 0");
+}
+
+/// An open call loses what is taken from its part, and what is given again comes
+/// with a new call.
+#[test]
+fn after_a_key_is_taken() {
+    for (more, d0, d1) in [
+        ("T 0 1 0\n", "none", "ok 2"),
+        ("T 0 1 1\n", "ok 2", "none"),
+        ("T 0 1 0\nG 0 1 0\n", "none", "ok 2"),
+        ("T 0 1 0\nG 0 1 0\nC 0 1\n", "ok 0", "ok 0"),
+        ("T 0 1 0\nG 0 1 0\nC 0 1\nR 0\n", "none", "ok 2"),
+        ("T 0 1 0\nC 0 1\n", "none", "ok 0"),
+        ("G 0 0 0\nC 0 0\nT 0 1 0\n", "ok 0", "ok 3"),
+        ("G 0 0 0\nC 0 0\nT 0 0 0\n", "ok 3", "ok 3"),
+        // Refused: by another user, and from a list without the key.
+        ("T 2 1 0\n", "ok 2", "ok 2"),
+        ("T 0 0 1\n", "ok 2", "ok 2"),
+    ] {
+        finds_after(more, "0", "D0", d0);
+        finds_after(more, "0", "D1", d1);
+    }
 }
 
 /// Sixteen open calls, the oldest of which alone hands over S1.
@@ -188,7 +211,7 @@ fn a_file_and_a_text_find_the_same() {
         fine(&keylock(&["key", "--", name, "0", "U0"], b""), "none\n");
     }
     let found = commands::shell("keylock key -- -9 0 D0", directory.path());
-    fine(&found, "ok 1\n");
+    fine(&found, "ok 2\n");
 }
 
 /// `run` compares them.

@@ -2,8 +2,9 @@
 //! and those of a small guard. Each of five broken guards is caught by its own
 //! lesson and by no other, and each of four more by its own trap. In another four
 //! one thread disturbs another, which lesson 8 shows, and which is seen too where
-//! the lines of the other are struck. A last three mistake who edits, which lesson
-//! 9 shows and no other.
+//! the lines of the other are struck. Three mistake who edits, which lesson 9 shows
+//! and no other. A last five mistake from which open calls a key is withdrawn, which
+//! lesson 10 shows and no other.
 
 mod faults;
 
@@ -27,6 +28,7 @@ const ALL_FIVE: &str = "6-five-faults.txt";
 const TRAPS: &str = "7-traps.txt";
 const NEIGHBOURS: &str = "8-neighbours.txt";
 const WINDOWS: &str = "9-two-windows.txt";
+const WITHDRAWN: &str = "10-withdrawn.txt";
 const ROUTE: &str = "route.txt";
 
 fn path(name: &str) -> PathBuf {
@@ -102,7 +104,7 @@ fn small(guard: &mut Guard, record: &Record) -> Answer {
 fn names() -> Vec<&'static str> {
     let names: Vec<&str> = LESSONS
         .into_iter()
-        .chain([ALL_FIVE, TRAPS, NEIGHBOURS, WINDOWS, ROUTE])
+        .chain([ALL_FIVE, TRAPS, NEIGHBOURS, WINDOWS, WITHDRAWN, ROUTE])
         .collect();
     let folder = fs::read_dir(path("")).expect("the lessons");
     let texts = folder.filter(|entry| {
@@ -177,18 +179,25 @@ fn announced(text: &Text, words: &str) -> Vec<(usize, String)> {
         .collect()
 }
 
-/// A guard with the fault differs at one line, the one that says so, with the
-/// answer that stands there.
-#[track_caller]
-fn gives_itself_away(name: &str, fault: Fault, words: &str) {
-    let text = lesson(name);
-    let given = faulty(&text, Some(fault)).into_iter();
+/// The places of a lesson at which a guard with the fault differs, with its
+/// answers.
+fn caught(name: &str, fault: Fault) -> Vec<(usize, String)> {
+    let given = faulty(&lesson(name), Some(fault)).into_iter();
     let given: Vec<(usize, String)> = given
         .map(|(place, answer)| (place, answer.to_string()))
         .collect();
     for (place, answer) in &given {
         println!("{fault:?}: caught by {name} at place {place}, where it answers {answer}");
     }
+    given
+}
+
+/// A guard with the fault differs at one line, the one that says so, with the
+/// answer that stands there.
+#[track_caller]
+fn gives_itself_away(name: &str, fault: Fault, words: &str) {
+    let text = lesson(name);
+    let given = caught(name, fault);
     assert_eq!(given.len(), 1, "{fault:?}: {given:?}");
     assert_eq!(given, announced(&text, words), "{fault:?}");
 }
@@ -310,8 +319,8 @@ fn each_of_the_four_lets_a_neighbour_disturb() {
 #[test]
 fn no_other_guard_lets_a_neighbour_disturb() {
     let others = Fault::FIVE.into_iter().chain(Fault::TRAPS);
-    let others = others.chain(Fault::WINDOWS).map(Some);
-    for fault in others.chain([None]) {
+    let others = others.chain(Fault::WINDOWS).chain(Fault::WITHDRAWALS);
+    for fault in others.map(Some).chain([None]) {
         for one in [JANUARY, FEBRUARY] {
             assert!(!is_disturbed(one, fault), "{fault:?}: thread {one}");
         }
@@ -326,7 +335,7 @@ fn all_three_are_caught_between_two_windows_in_the_ninth() {
     }
 }
 
-/// In the other lessons one user edits, in one window.
+/// In the other lessons the accepted edits are one user's, in one window.
 #[test]
 fn none_of_these_three_shows_elsewhere() {
     for name in names().into_iter().filter(|name| *name != WINDOWS) {
@@ -342,6 +351,32 @@ fn none_of_the_others_shows_in_the_ninth() {
     let others = Fault::FIVE.into_iter().chain(Fault::TRAPS);
     for fault in others.chain(Fault::NEIGHBOURS) {
         assert_eq!(faulty(&lesson(WINDOWS), Some(fault)), [], "{fault:?}");
+    }
+}
+
+#[test]
+fn all_five_are_caught_while_calls_are_open_in_the_tenth() {
+    let words = |number: usize| format!("a guard with fault {number} answers ");
+    let faults = Fault::WITHDRAWALS.into_iter().zip(1..);
+    for (fault, number) in faults.skip(1) {
+        gives_itself_away(WITHDRAWN, fault, &words(number));
+    }
+    // The first leaves the key wherever the next three do, and in one more place,
+    // which comes before them.
+    let text = lesson(WITHDRAWN);
+    let lines = (1..=4).flat_map(|number| announced(&text, &words(number)));
+    let lines: Vec<(usize, String)> = lines.collect();
+    assert_eq!(caught(WITHDRAWN, Fault::KeepsTheTaken), lines);
+    assert!(lines.len() == 4 && lines.is_sorted(), "{lines:?}");
+}
+
+/// In the other lessons no key is taken.
+#[test]
+fn none_of_these_five_shows_elsewhere() {
+    for name in names().into_iter().filter(|name| *name != WITHDRAWN) {
+        for fault in Fault::WITHDRAWALS {
+            assert_eq!(faulty(&lesson(name), Some(fault)), [], "{name}: {fault:?}");
+        }
     }
 }
 

@@ -234,6 +234,35 @@ fn a_key_that_stays_held_is_not_crossed_out() {
     assert_eq!(page.matches("still held").count(), 1);
 }
 
+/// The older call loses D0 in step 8. The newer one handed over S0 too and D1 alone.
+#[test]
+fn a_key_that_was_taken_is_crossed_out() {
+    let calls = "U; S 0; N 0 0; K 0; K 0; G 0 0 0; L 0 0 1 U0; C 0 0; T 0 0 0; G 0 0 1; C 0 0; \
+                 R 0; E 0";
+    let page = page(&[], explained(calls));
+    check_nesting(&page);
+    let lost = "<span class=\"taken\"><code class=\"gone\">D0</code>\
+                <i>taken in step\u{a0}8</i></span></div>";
+    let open = format!("<b>segment\u{a0}0</b><div class=\"keys\"><code>S0</code>{lost}");
+    for (place, times) in [(7, 0), (8, 1), (9, 0), (10, 1), (11, 1), (12, 0)] {
+        assert_eq!(
+            section(&page, place).matches(&open).count(),
+            times,
+            "{place}"
+        );
+    }
+    let left = "<em>just left</em></b><div class=\"keys\">\
+                <code class=\"gone\">D1</code><code>S0</code><i>still held</i></div>";
+    assert!(section(&page, 11).contains(left), "{}", section(&page, 11));
+    let closed = "<em>closed</em></b><div class=\"keys\"><code class=\"gone\">S0</code>";
+    let closed = format!("{closed}{lost}");
+    assert!(
+        section(&page, 12).contains(&closed),
+        "{}",
+        section(&page, 12)
+    );
+}
+
 #[test]
 fn a_granted_call_names_the_keys_before_it() {
     let page = page(&[], explained("U; S 0; N 0 0; C 0 0; L 0 0 1 !S0; C 0 0"));

@@ -183,20 +183,20 @@ fn a_dropped_lock() {
 }
 
 #[test]
-fn an_open_call_keeps_a_key_that_was_taken() {
+fn an_open_call_loses_a_key_that_is_taken() {
     let calls = "U; S 0; N 0 0; K 0; G 0 0 0; L 0 0 1 U0; C 0 0; T 0 0 0; R 0; C 0 0; E 0";
     let steps = explained(calls);
     assert_eq!(
         steps[7].reason,
-        "New calls of segment 0 don't hand over D0. \
-         Open ones that handed it over keep it until they return."
+        "New calls of segment 0 don't hand over D0. It is withdrawn from an open call of thread 0."
     );
     let list = &steps[7].segment.as_ref().expect("a segment").keys;
     assert_eq!(shown_keys(list), "S0");
     match &steps[8].thread.as_ref().expect("a thread").change {
-        Change::Left(call) => assert_eq!(shown_keys(&call.keys), "S0 D0"),
+        Change::Left(call) => assert_eq!(shown_keys(&call.keys), "S0"),
         other => panic!("{other:?}"),
     }
+    assert_eq!(steps[8].reason, "It gives back S0.");
     assert_eq!(keys(&steps[9]), "U0 R0 S0");
     match &steps[10].thread.as_ref().expect("a thread").change {
         Change::Ended(calls) => assert_eq!(calls.len(), 1),
@@ -204,21 +204,22 @@ fn an_open_call_keeps_a_key_that_was_taken() {
     }
 }
 
-/// A given key reaches new calls only. One that was open before the key was
-/// taken has it still.
+/// A given key reaches new calls only, and an open one that lost it doesn't get it
+/// back.
 #[test]
 fn a_key_given_again() {
     let calls = "U; S 0; N 0 0; K 0; L 0 0 1 U0; G 0 0 0; C 0 0; T 0 0 0; G 0 0 0; T 0 0 0; C 0 0";
     let steps = explained(calls);
-    let given =
-        "New calls of segment 0 hand over D0. Open ones keep the keys that they handed over.";
-    assert_eq!(steps[5].reason, given);
-    assert_eq!(steps[8].reason, given);
+    let given = "New calls of segment 0 hand over D0. Open ones don't get it";
+    assert_eq!(steps[5].reason, format!("{given}."));
+    let again = format!("{given}, not even those that it was taken from.");
+    assert_eq!(steps[8].reason, again);
     let taken = "New calls of segment 0 don't hand over D0.";
-    let keep = " Open ones that handed it over keep it until they return.";
-    assert_eq!(steps[7].reason, format!("{taken}{keep}"));
+    let lost = " It is withdrawn from an open call of thread 0.";
+    assert_eq!(steps[7].reason, format!("{taken}{lost}"));
+    assert_eq!(steps[9].reason, taken);
     assert_eq!(keys(&steps[6]), "U0 R0 S0 D0");
-    assert_eq!(keys(&steps[10]), "U0 R0 S0 D0");
+    assert_eq!(keys(&steps[10]), "U0 R0 S0");
 }
 
 #[test]
@@ -266,7 +267,7 @@ fn keys_given_back_and_keys_that_stay() {
             "S0, D1 and D0 stay held: another open call of this thread handed them over too.",
             "It gives back S1. D1 stays held: another open call of this thread handed it over too.",
             "S0 and D1 stay held: another open call of this thread handed them over too.",
-            "It gives back S0, D1 and D0.",
+            "It gives back S0 and D1.",
             "It holds no key any more.",
         ]
     );

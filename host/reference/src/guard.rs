@@ -32,8 +32,9 @@ pub struct Thread {
     frames: Vec<Frame>,
 }
 
-/// An open call, and the keys that it handed over: the segment's own, and the
-/// defined keys that were in the segment's list when it was made.
+/// An open call, and the keys that it hands over: the segment's own, and the
+/// defined keys that were in the segment's list when it was made and weren't taken
+/// since.
 #[derive(Clone, Debug, PartialEq, Eq)]
 struct Frame {
     segment: u16,
@@ -263,15 +264,18 @@ impl Guard {
     }
 
     /// T. Answers how many keys are now in the segment's list. The key may be
-    /// anyone's.
+    /// anyone's. It is withdrawn from the segment's open calls too (document 02, P5).
     pub fn take_key(&mut self, thread: u16, segment: u16, key: u16) -> Answer {
         let user = self.editor(thread)?;
         self.known_segment(segment)?;
         self.maker_of(key)?;
-        let segment = self.owned_segment(user, segment)?;
-        let place = segment.defined.iter().position(|given| *given == key);
-        segment.defined.remove(place.ok_or(Refusal::NotPresent)?);
-        Ok(segment.list_length() as u16)
+        let owned = self.owned_segment(user, segment)?;
+        let place = owned.defined.iter().position(|given| *given == key);
+        let place = place.ok_or(Refusal::NotPresent)?;
+        owned.defined.remove(place);
+        let left = owned.list_length();
+        self.withdraw(segment, key);
+        Ok(left as u16)
     }
 
     /// L. Answers the lock.
@@ -386,6 +390,15 @@ impl Guard {
             Ok(segment)
         } else {
             Err(Refusal::NotOwner)
+        }
+    }
+
+    /// Withdraws a defined key from every open call of a segment, whoever's the
+    /// thread is.
+    fn withdraw(&mut self, segment: u16, key: u16) {
+        let frames = self.threads.iter_mut().flat_map(|of| &mut of.frames);
+        for frame in frames.filter(|frame| frame.segment == segment) {
+            frame.defined.retain(|handed_over| *handed_over != key);
         }
     }
 

@@ -1,10 +1,14 @@
 //! The history (document 01, 'The history'): what stands after a list of calls,
 //! read from the calls and their answers alone, and what it makes of a next
 //! call. It sees no guard. A lock is its formula here, asked of a whole key set;
-//! no products are made to judge it.
+//! no products are made to judge it. An open call is the list that it found, with
+//! what was taken since written beside it.
 
 mod key_search;
 mod listing;
+mod open_call;
+
+pub use open_call::OpenCall;
 
 use crate::call::Call;
 use crate::formula::{self, Formula};
@@ -20,12 +24,6 @@ pub struct Thread {
     pub user: u16,
     /// The open calls, the newest last.
     pub open_calls: Vec<OpenCall>,
-}
-
-/// An open call, and the keys that it handed over.
-pub struct OpenCall {
-    pub segment: u16,
-    pub list: Vec<Key>,
 }
 
 /// A segment that is handed out.
@@ -105,10 +103,7 @@ impl History {
             }
             Call::NewSegment { thread, kind } => self.hand_out(answer, thread, kind),
             Call::GiveKey { segment, key, .. } => self.segment_mut(segment).list.push(defined(key)),
-            Call::TakeKey { segment, key, .. } => {
-                let list = &mut self.segment_mut(segment).list;
-                list.retain(|given| *given != defined(key));
-            }
+            Call::TakeKey { segment, key, .. } => self.take(segment, defined(key)),
             Call::AddLock {
                 segment,
                 operations,
@@ -119,8 +114,7 @@ impl History {
                 self.standing.remove(&lock);
             }
             Call::CallSegment { thread, segment } => {
-                let list = self.segment_mut(segment).list.clone();
-                let call = OpenCall { segment, list };
+                let call = OpenCall::new(segment, &self.segment_mut(segment).list);
                 self.thread_mut(thread).open_calls.push(call);
             }
             Call::ReturnCall { thread } => {
@@ -146,6 +140,18 @@ impl History {
             list: vec![own],
         };
         self.segments.insert(number, segment);
+    }
+
+    /// Strikes the key from the segment's list, and writes beside its open calls that
+    /// it was taken.
+    fn take(&mut self, segment: u16, key: Key) {
+        let list = &mut self.segment_mut(segment).list;
+        list.retain(|given| *given != key);
+        for thread in self.live.values_mut() {
+            let calls = thread.open_calls.iter_mut();
+            let of_segment = calls.filter(|call| call.segment == segment);
+            of_segment.for_each(|call| call.note_taken(key));
+        }
     }
 
     fn stand(&mut self, lock: u16, segment: u16, operations: u16, text: &[u8]) {
@@ -304,7 +310,7 @@ impl History {
     }
 }
 
-/// A thread's user's key, its own, and what its open calls handed over.
+/// A thread's user's key, its own, and what its open calls hand over.
 fn key_set(number: u16, thread: &Thread) -> BTreeSet<Key> {
     let key = |kind, number| Key { kind, number };
     let mut keys = BTreeSet::from([key(Kind::User, thread.user), key(Kind::Thread, number)]);

@@ -114,7 +114,8 @@ impl Guard {
         answer.map(Defined).map_err(refusal::NewKey::of)
     }
 
-    /// G: puts the key into the segment's list. Answers the keys now in it.
+    /// G: puts the key into the segment's list, for calls to come; an open call
+    /// doesn't get it. Answers the keys now in the list.
     pub fn give_key(
         &mut self,
         thread: Thread,
@@ -125,7 +126,8 @@ impl Guard {
         answer.map_err(refusal::GiveKey::of)
     }
 
-    /// T: takes the key out of the segment's list. Answers the keys now in it.
+    /// T: takes the key out of the segment's list, and from every open call of the
+    /// segment, in every thread. Answers the keys now in the list.
     pub fn take_key(
         &mut self,
         thread: Thread,

@@ -33,7 +33,7 @@ impl Thread {
 #[derive(Clone, Debug, PartialEq, Eq)]
 pub struct Frame {
     pub segment: numbers::Segment,
-    /// The keys that it handed over.
+    /// The keys that it hands over.
     pub keys: Vec<Key>,
 }
 

@@ -1,4 +1,4 @@
-//! The key search: worked examples by hand from document 02, P3.
+//! The key search: worked examples by hand from document 02, P3 and P5.
 
 use rotundaaloe::formula::Key;
 use rotundaaloe::limits::MOST_OPEN_CALLS;
@@ -161,22 +161,29 @@ fn what_no_open_call_hands_over() {
     }
 }
 
-/// The list may change; what an open call handed over doesn't.
+/// What is given meanwhile comes with later calls. What is taken is gone at once from
+/// the segment's open calls, and given again it comes with later ones.
 #[test]
-fn an_open_call_keeps_its_keys() {
+fn lists_change_while_calls_are_open() {
     let mut guard = office();
-    call(&mut guard, &[LOADER]);
-    assert_eq!(guard.take_key(BUSY, LOADER, Defined(0)), Ok(1));
-    found(&guard, &[(d(0), Some(0))]);
-    call(&mut guard, &[LOADER]);
-    found(&guard, &[(s(LOADER), Some(0)), (d(0), Some(1))]);
-    give(&mut guard, LOADER, 0);
+    call(&mut guard, &[RECALCULATION, LOADER]);
     give(&mut guard, LOADER, 2);
-    found(&guard, &[(d(0), Some(1)), (d(2), None)]);
+    found(&guard, &[(d(0), Some(0)), (d(1), Some(1)), (d(2), None)]);
+    assert_eq!(guard.take_key(IDLE, LOADER, Defined(0)), Ok(2));
+    found(
+        &guard,
+        &[(s(LOADER), Some(0)), (d(0), Some(1)), (d(1), Some(1))],
+    );
+    assert_eq!(guard.take_key(BUSY, RECALCULATION, Defined(0)), Ok(2));
+    found(&guard, &[(d(0), None), (d(1), Some(1))]);
+    let held = guard.thread(BUSY).expect("a live thread").keys();
+    assert!(held.contains(&d(1)) && !held.contains(&d(0)));
+    give(&mut guard, LOADER, 0);
+    found(&guard, &[(d(0), None), (d(2), None)]);
     call(&mut guard, &[LOADER]);
-    found(&guard, &[(d(0), Some(0)), (d(2), Some(0))]);
+    found(&guard, &[(d(0), Some(0)), (d(1), Some(2)), (d(2), Some(0))]);
     assert_eq!(guard.return_call(BUSY), Ok(LOADER));
-    found(&guard, &[(d(0), Some(1)), (d(2), None)]);
+    found(&guard, &[(d(0), None), (d(1), Some(1)), (d(2), None)]);
 }
 
 /// Of another thread nothing is found, nor in its place once it has ended.

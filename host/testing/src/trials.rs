@@ -1,11 +1,12 @@
 //! Worked examples for tests, each with the answers that document 01 gives with
-//! document 02's P4: its own (document 01: trial desks), the installer's
-//! checklist, the table of refusals, who edits, and the limits from both sides.
-//! What is expected is written out by hand from the documents, and every guard
-//! must give it.
+//! document 02's P4 and P5: its own (document 01: trial desks), the installer's
+//! checklist, the table of refusals, who edits, what a key that is taken is gone
+//! from, and the limits from both sides. What is expected is written out by hand
+//! from the documents, and every guard must give it.
 
 mod editors;
 mod limits;
+mod withdrawal;
 
 use reference::guard::Answer;
 use reference::letter::Letter;
@@ -21,7 +22,7 @@ pub trait Guard {
 pub type Trial = (&'static str, fn(&mut dyn Guard));
 
 /// All of them, each to be tried on a new guard.
-pub const TRIALS: [Trial; 25] = [
+pub const TRIALS: [Trial; 38] = [
     ("the route over two segments", the_route_over_two_segments),
     (
         "an empty state has no user and no thread",
@@ -67,8 +68,60 @@ pub const TRIALS: [Trial; 25] = [
         deny_beats_grant_and_the_lowest_number_is_given,
     ),
     (
-        "an open call keeps the keys that it handed over",
-        an_open_call_keeps_the_keys_that_it_handed_over,
+        "an open call hands over the list that it found",
+        an_open_call_hands_over_the_list_that_it_found,
+    ),
+    (
+        "a taken key is gone from the open call",
+        withdrawal::a_taken_key_is_gone_from_the_open_call,
+    ),
+    (
+        "a key given after the call is not with it",
+        withdrawal::a_key_given_after_the_call_is_not_with_it,
+    ),
+    (
+        "another segments open call still hands it over",
+        withdrawal::another_segments_open_call_still_hands_it_over,
+    ),
+    (
+        "every open call of the segment loses it",
+        withdrawal::every_open_call_of_the_segment_loses_it,
+    ),
+    (
+        "open calls of every thread lose it",
+        withdrawal::open_calls_of_every_thread_lose_it,
+    ),
+    (
+        "sixteen open calls of sixty four threads lose it",
+        withdrawal::sixteen_open_calls_of_sixty_four_threads_lose_it,
+    ),
+    (
+        "one of sixteen open calls loses it",
+        withdrawal::one_of_sixteen_open_calls_loses_it,
+    ),
+    (
+        "locks that bar it and locks that deny",
+        withdrawal::locks_that_bar_it_and_locks_that_deny,
+    ),
+    (
+        "a refused take withdraws nothing",
+        withdrawal::a_refused_take_withdraws_nothing,
+    ),
+    (
+        "the segments own key stays",
+        withdrawal::the_segments_own_key_stays,
+    ),
+    (
+        "the other keys of the list stay",
+        withdrawal::the_other_keys_of_the_list_stay,
+    ),
+    (
+        "any thread of the owner takes it",
+        withdrawal::any_thread_of_the_owner_takes_it,
+    ),
+    (
+        "a thread at a freed place has calls of its own",
+        withdrawal::a_thread_at_a_freed_place_has_calls_of_its_own,
     ),
     (
         "identity keys are a threads own",
@@ -286,8 +339,9 @@ fn deny_beats_grant_and_the_lowest_number_is_given(guard: &mut dyn Guard) {
     office.no(b'A', [0, 2, 2], "", 15, 0);
 }
 
-/// Thread 1 edits while thread 0 has a call open.
-fn an_open_call_keeps_the_keys_that_it_handed_over(guard: &mut dyn Guard) {
+/// Thread 1 edits while thread 0 has a call open. What is given meanwhile comes with
+/// later calls, and what is taken is gone at once.
+fn an_open_call_hands_over_the_list_that_it_found(guard: &mut dyn Guard) {
     let mut office = Office::with_totals(guard);
     office.ok(b'K', [0, 0, 0], "", 0);
     office.ok(b'K', [0, 0, 0], "", 1);
@@ -297,11 +351,11 @@ fn an_open_call_keeps_the_keys_that_it_handed_over(guard: &mut dyn Guard) {
     office.no(b'A', [0, 2, 2], "", 15, 0);
     office.ok(b'C', [0, 0, 0], "", 0);
     office.ok(b'A', [0, 2, 2], "", 3);
-    office.ok(b'T', [1, 0, 0], "", 1);
-    office.ok(b'G', [1, 0, 1], "", 2);
+    office.ok(b'G', [1, 0, 1], "", 3);
     office.ok(b'A', [0, 2, 2], "", 3);
+    office.ok(b'T', [1, 0, 0], "", 2);
+    office.no(b'A', [0, 2, 2], "", 15, 0);
     office.ok(b'C', [0, 0, 0], "", 0);
-    office.ok(b'D', [1, 3, 0], "", 1);
     office.ok(b'A', [0, 2, 2], "", 4);
     office.ok(b'R', [0, 0, 0], "", 0);
     office.no(b'A', [0, 2, 2], "", 15, 0);

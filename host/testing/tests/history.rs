@@ -1,6 +1,6 @@
 //! The reference guard against the history: a second opinion on every answer,
-//! read from the calls and answers alone. Lists of many kinds, and after each of
-//! them every fitting next operation of every live thread.
+//! read from the calls and answers alone. The worked examples, lists of many kinds,
+//! and after each of these every fitting next operation of every live thread.
 //!
 //! `cargo test --release -- --nocapture` also prints how often each outcome came.
 
@@ -11,9 +11,11 @@ use reference::journal::Record;
 use reference::letter::Letter;
 use reference::limits::MAX_FRAMES;
 use reference::operations::{READ, WRITE};
+use reference::{Key, Kind};
 use std::collections::BTreeMap;
 use testing::calls::{Caller, WORLDS, World, call, lock, outcomes};
 use testing::random::Random;
+use testing::trials::{self, TRIALS};
 
 const LISTS: usize = 600;
 
@@ -59,6 +61,34 @@ fn compared(
     let letter = Letter::of(record.letter).map_or('?', Letter::char);
     *tally.entry((letter, outcome)).or_default() += 1;
     answer
+}
+
+/// A guard whose answers are compared with the history's.
+#[derive(Default)]
+struct Told {
+    guard: Guard,
+    history: History,
+    tally: Tally,
+}
+
+impl trials::Guard for Told {
+    fn call(&mut self, letter: u8, [a, b, c]: [u16; 3], text: &[u8]) -> Answer {
+        let text = text.to_vec();
+        let record = Record {
+            text,
+            ..call(letter, a, b, c)
+        };
+        compared(&mut self.guard, &mut self.history, &record, &mut self.tally)
+    }
+}
+
+/// Their answers are by hand, so the history gives those.
+#[test]
+fn worked_examples() {
+    for (name, trial) in TRIALS {
+        println!("{name}");
+        trial(&mut Told::default());
+    }
 }
 
 /// Every operation that fits. A C is made on a copy of the guard.
@@ -205,6 +235,80 @@ fn the_history_takes_the_editor_from_the_thread() {
         [0, 1, 2].map(|n| owner(&history, n)),
         [Some(0), Some(1), Some(0)]
     );
+}
+
+/// A thread's open calls, the newest last: what each found, and what it hands over.
+fn open_calls(history: &History, thread: u16) -> Vec<(Vec<Key>, Vec<Key>)> {
+    let thread = history.thread(thread).expect("it is live");
+    let calls = thread.open_calls.iter();
+    calls
+        .map(|call| (call.found.clone(), call.list.clone()))
+        .collect()
+}
+
+/// Segments 0 and 1 both have D0. It is taken from segment 0 and given again, and
+/// then D1 is, which no open call found.
+#[test]
+fn an_open_call_hands_over_its_list_less_what_was_taken() {
+    let key = |kind| move |number| Key { kind, number };
+    let (s, d) = (key(Kind::Segment), key(Kind::Defined));
+    let mut history = History::new();
+    let feed = |history: &mut History, record: Record, answer: u32| {
+        assert_eq!(history.answer(&record), Some(answer), "{record:?}");
+        history.feed(&record, Some(answer as u16));
+    };
+    for (record, answer) in [
+        (call(b'U', 0, 0, 0), 0),
+        (call(b'S', 0, 0, 0), 0),
+        (call(b'S', 0, 0, 0), 1),
+        (call(b'N', 0, 0, 0), 0),
+        (call(b'N', 0, 0, 0), 1),
+        (lock(0, 0, 1, b"U0"), 0),
+        (lock(0, 1, 1, b"U0"), 1),
+        (call(b'K', 0, 0, 0), 0),
+        (call(b'K', 0, 0, 0), 1),
+        (call(b'G', 0, 0, 0), 2),
+        (call(b'G', 0, 1, 0), 2),
+        (call(b'C', 0, 0, 0), 0),
+        (call(b'C', 0, 1, 0), 1),
+        (call(b'C', 1, 0, 0), 0),
+    ] {
+        feed(&mut history, record, answer);
+    }
+    let with_key = |segment| vec![s(segment), d(0)];
+    let kept = |segment| (with_key(segment), with_key(segment));
+    let lost = |segment| (with_key(segment), vec![s(segment)]);
+    assert_eq!(open_calls(&history, 0), [kept(0), kept(1)]);
+    assert_eq!(open_calls(&history, 1), [kept(0)]);
+    // A refused T changes nothing in it.
+    history.feed(&call(b'T', 0, 0, 0), None);
+    assert_eq!(open_calls(&history, 0), [kept(0), kept(1)]);
+    feed(&mut history, call(b'T', 0, 0, 0), 1);
+    assert_eq!(open_calls(&history, 0), [lost(0), kept(1)]);
+    assert_eq!(open_calls(&history, 1), [lost(0)]);
+    feed(&mut history, call(b'G', 0, 0, 0), 2);
+    feed(&mut history, call(b'C', 1, 0, 0), 0);
+    assert_eq!(open_calls(&history, 0), [lost(0), kept(1)]);
+    assert_eq!(open_calls(&history, 1), [lost(0), kept(0)]);
+    feed(&mut history, call(b'G', 0, 0, 1), 3);
+    feed(&mut history, call(b'T', 0, 0, 1), 2);
+    assert_eq!(open_calls(&history, 1), [lost(0), kept(0)]);
+    let taken = |history: &History, thread| {
+        let thread = history.thread(thread).expect("it is live");
+        let calls = thread.open_calls.iter();
+        Vec::from_iter(calls.map(|call| Vec::from_iter(call.taken.clone())))
+    };
+    assert_eq!(taken(&history, 0), [vec![d(0), d(1)], vec![]]);
+    assert_eq!(taken(&history, 1), [vec![d(0), d(1)], vec![d(1)]]);
+    // The key set is by what is handed over.
+    let holds = |history: &History, thread| {
+        let keys = history.key_set(thread).expect("it is live");
+        keys.contains(&d(0))
+    };
+    assert!(holds(&history, 0) && holds(&history, 1));
+    feed(&mut history, call(b'R', 0, 0, 0), 1);
+    feed(&mut history, call(b'R', 1, 0, 0), 0);
+    assert!(!holds(&history, 0) && !holds(&history, 1));
 }
 
 /// The history can tell a guard that is wrong: each of these answers is none

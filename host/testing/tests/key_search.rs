@@ -1,5 +1,5 @@
-//! Key searches worked out by hand from document 02, P3, and document 01, for the
-//! reference guard and for the history.
+//! Key searches worked out by hand from document 02, P3 and P5, and document 01, for
+//! the reference guard and for the history.
 
 use reference::guard::{Guard, Refusal};
 use reference::history::History;
@@ -285,36 +285,107 @@ fn a_key_given_meanwhile_comes_with_later_calls_alone() {
 }
 
 #[test]
-fn a_key_taken_meanwhile_stays_with_the_open_call() {
+fn a_key_taken_meanwhile_is_gone_from_the_open_call() {
     let mut office = Office::new();
     office.give(LOADER, 0, 2);
     office.call(FIRST, LOADER);
-    office.take(LOADER, 0, 1);
     office.finds(FIRST, 0, &[s(0), d(0)]);
-    office.call(FIRST, LOADER);
+    office.take(LOADER, 0, 1);
     office.finds(FIRST, 0, &[s(0)]);
-    office.finds(FIRST, 1, &[d(0)]);
+    office.finds_none(FIRST, &[d(0)]);
+    office.call(FIRST, LOADER);
     office.call(FIRST, RECALCULATION);
-    office.finds(FIRST, 0, &[s(1)]);
-    office.finds(FIRST, 1, &[s(0)]);
-    office.finds(FIRST, 2, &[d(0)]);
+    office.finds_none(FIRST, &[d(0)]);
     // Given to another segment, it comes with that one's later calls.
     office.give(RECALCULATION, 0, 2);
-    office.finds(FIRST, 2, &[d(0)]);
+    office.finds_none(FIRST, &[d(0)]);
     office.call(FIRST, RECALCULATION);
     office.finds(FIRST, 0, &[s(1), d(0)]);
+    office.finds(FIRST, 2, &[s(0)]);
     office.return_from(FIRST, RECALCULATION);
-    office.finds(FIRST, 2, &[d(0)]);
-    // Given again, it isn't with the call that was made without it.
+    office.finds_none(FIRST, &[d(0)]);
+    // Given again, it comes with later calls too.
     office.give(LOADER, 0, 2);
-    office.finds(FIRST, 2, &[d(0)]);
-    office.return_from(FIRST, RECALCULATION);
-    office.finds(FIRST, 0, &[s(0)]);
-    office.finds(FIRST, 1, &[d(0)]);
-    office.return_from(FIRST, LOADER);
+    office.finds(FIRST, 0, &[s(1)]);
+    office.finds(FIRST, 1, &[s(0)]);
+    office.finds_none(FIRST, &[d(0)]);
+    office.call(FIRST, LOADER);
     office.finds(FIRST, 0, &[s(0), d(0)]);
     office.return_from(FIRST, LOADER);
-    office.finds_none(FIRST, &[s(0), d(0)]);
+    for left in [RECALCULATION, LOADER, LOADER] {
+        office.finds_none(FIRST, &[d(0)]);
+        office.return_from(FIRST, left);
+    }
+    office.finds_none(FIRST, &[s(0), s(1), d(0)]);
+}
+
+/// D0 is in the loader's list and in the report's. Of the report it is taken first.
+#[test]
+fn a_key_taken_from_the_newer_call_is_found_in_the_older() {
+    let mut office = Office::new();
+    office.give(LOADER, 0, 2);
+    office.give(REPORT, 0, 2);
+    for segment in [LOADER, RECALCULATION, REPORT, RECALCULATION] {
+        office.call(FIRST, segment);
+    }
+    office.finds(FIRST, 1, &[s(2), d(0)]);
+    office.take(REPORT, 0, 1);
+    office.finds(FIRST, 1, &[s(2)]);
+    office.finds(FIRST, 3, &[s(0), d(0)]);
+    office.give(REPORT, 0, 2);
+    office.finds(FIRST, 3, &[d(0)]);
+    office.take(LOADER, 0, 1);
+    office.finds(FIRST, 3, &[s(0)]);
+    office.finds_none(FIRST, &[d(0)]);
+    // The report has it in its list, and its next call hands it over.
+    office.call(FIRST, REPORT);
+    office.finds(FIRST, 0, &[s(2), d(0)]);
+}
+
+/// The loader is called before the recalculation and after it, and both of its calls
+/// lose D0.
+#[test]
+fn a_key_taken_from_two_calls_is_found_between_them() {
+    let mut office = Office::new();
+    office.give(LOADER, 0, 2);
+    office.give(RECALCULATION, 0, 2);
+    for segment in [LOADER, RECALCULATION, LOADER] {
+        office.call(FIRST, segment);
+    }
+    office.finds(FIRST, 0, &[s(0), d(0)]);
+    office.take(LOADER, 0, 1);
+    office.finds(FIRST, 0, &[s(0)]);
+    office.finds(FIRST, 1, &[s(1), d(0)]);
+    office.take(RECALCULATION, 0, 1);
+    office.finds(FIRST, 1, &[s(1)]);
+    office.finds_none(FIRST, &[d(0)]);
+}
+
+/// Each thread calls the loader once, and then the report as often as its number.
+#[test]
+fn a_key_is_taken_from_the_calls_of_every_thread() {
+    let mut office = Office::new();
+    office.give(LOADER, 0, 2);
+    office.give(LOADER, 1, 3);
+    for (thread, place) in [(FIRST, 0), (SECOND, 1), (COLLEAGUES, 2)] {
+        office.call(thread, LOADER);
+        for _ in 0..place {
+            office.call(thread, REPORT);
+        }
+        office.finds(thread, place, &[s(0), d(0), d(1)]);
+    }
+    // A colleague can't take it, nor can anyone from where it isn't.
+    office.no(calls::call(b'T', COLLEAGUES, LOADER, 0), 6);
+    office.no(calls::call(b'T', SECOND, REPORT, 0), 9);
+    for (thread, place) in [(FIRST, 0), (SECOND, 1), (COLLEAGUES, 2)] {
+        office.finds(thread, place, &[d(0)]);
+    }
+    office.take(LOADER, 0, 2);
+    office.give(LOADER, 0, 3);
+    for (thread, place) in [(FIRST, 0), (SECOND, 1), (COLLEAGUES, 2)] {
+        office.finds(thread, place, &[s(0), d(1)]);
+        office.finds_none(thread, &[d(0)]);
+    }
 }
 
 #[test]
@@ -333,12 +404,13 @@ fn a_list_of_eight_keys_is_handed_over_whole() {
     // Another key in the place of D3.
     office.take(LOADER, 3, 7);
     office.give(LOADER, 7, 8);
-    office.finds(FIRST, 1, &eight);
-    office.finds_none(FIRST, &[d(7)]);
+    let others = [s(0), d(0), d(1), d(2), d(4), d(5), d(6)];
+    office.finds(FIRST, 1, &others);
+    office.finds_none(FIRST, &[d(3), d(7)]);
     office.call(FIRST, LOADER);
-    let others = [s(0), d(0), d(1), d(2), d(4), d(5), d(6), d(7)];
     office.finds(FIRST, 0, &others);
-    office.finds(FIRST, 2, &[d(3)]);
+    office.finds(FIRST, 0, &[d(7)]);
+    office.finds_none(FIRST, &[d(3)]);
 }
 
 /// Segment 3 is a sheet, segment 4 has no lock, and lock 3 denies the report to
@@ -545,23 +617,46 @@ fn sixteen_open_calls_have_places_0_to_15() {
     }
 }
 
-/// The first call alone hands D0 over.
+/// The first eight are made before D0 is given.
 #[test]
 fn sixteen_open_calls_of_one_segment() {
     let mut office = Office::new();
-    office.give(LOADER, 0, 2);
-    office.call(FIRST, LOADER);
-    office.take(LOADER, 0, 1);
-    for place in 1..16 {
+    for _ in 0..8 {
         office.call(FIRST, LOADER);
         office.finds(FIRST, 0, &[s(0)]);
-        office.finds(FIRST, place, &[d(0)]);
     }
-    for place in (0..15).rev() {
+    office.give(LOADER, 0, 2);
+    office.finds_none(FIRST, &[d(0)]);
+    for _ in 0..8 {
+        office.call(FIRST, LOADER);
+        office.finds(FIRST, 0, &[s(0), d(0)]);
+    }
+    for _ in 0..8 {
+        office.finds(FIRST, 0, &[s(0), d(0)]);
         office.return_from(FIRST, LOADER);
-        office.finds(FIRST, 0, &[s(0)]);
-        office.finds(FIRST, place, &[d(0)]);
     }
-    office.return_from(FIRST, LOADER);
+    for _ in 0..8 {
+        office.finds(FIRST, 0, &[s(0)]);
+        office.finds_none(FIRST, &[d(0)]);
+        office.return_from(FIRST, LOADER);
+    }
     office.finds_none(FIRST, &[s(0), d(0)]);
+}
+
+#[test]
+fn sixteen_open_calls_of_one_segment_lose_a_key() {
+    let mut office = Office::new();
+    office.give(LOADER, 0, 2);
+    office.give(LOADER, 1, 3);
+    for _ in 0..16 {
+        office.call(FIRST, LOADER);
+    }
+    office.finds(FIRST, 0, &[s(0), d(0), d(1)]);
+    office.take(LOADER, 0, 2);
+    for _ in 0..16 {
+        office.finds(FIRST, 0, &[s(0), d(1)]);
+        office.finds_none(FIRST, &[d(0)]);
+        office.return_from(FIRST, LOADER);
+    }
+    office.finds_none(FIRST, &[s(0), d(0), d(1)]);
 }

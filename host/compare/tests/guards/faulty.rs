@@ -1,11 +1,11 @@
 //! The reference with a fault, by which one thread's calls show in what another is
 //! answered.
 
-use reference::Key;
 use reference::call::Call;
 use reference::guard::{Answer, Guard, Refusal};
 use reference::history::History;
 use reference::limits::MAX_FRAMES;
+use reference::{Key, Kind};
 use std::collections::BTreeSet;
 use testing::trials;
 
@@ -22,17 +22,20 @@ pub enum Fault {
     KeysOfNext,
     /// D counts the open calls of every thread among the products removed.
     CountsOpenCalls,
+    /// T counts the open calls of other threads that lose the key among the keys left.
+    CountsLosses,
     /// U answers a number that is higher by the open calls of every thread.
     NumbersByOpenCalls,
 }
 
 /// Those that show in what a thread is answered.
-pub const FAULTS: [Fault; 5] = [
+pub const FAULTS: [Fault; 6] = [
     Fault::ReturnsEverywhere,
     Fault::OneStack,
     Fault::KeysOfAll,
     Fault::KeysOfNext,
     Fault::CountsOpenCalls,
+    Fault::CountsLosses,
 ];
 
 pub struct Faulty {
@@ -68,6 +71,14 @@ impl Faulty {
                     operation,
                 },
             ) if by_locks(answer) => self.check(&self.keys(thread), segment, operation),
+            (
+                Fault::CountsLosses,
+                Call::TakeKey {
+                    thread,
+                    segment,
+                    key,
+                },
+            ) => answer.map(|number| number + self.losses_of_others(thread, segment, key)),
             (Fault::CountsOpenCalls, Call::DropLock { .. })
             | (Fault::NumbersByOpenCalls, Call::NewUser) => {
                 let open = self.open_calls(self.history.live_threads()).count();
@@ -89,6 +100,19 @@ impl Faulty {
         }
         let _ = self.guard.return_call(thread);
         Err(Refusal::Full)
+    }
+
+    /// How many open calls of other threads an accepted T takes the key from.
+    fn losses_of_others(&self, thread: u16, segment: u16, key: u16) -> u16 {
+        let key = Key {
+            kind: Kind::Defined,
+            number: key,
+        };
+        let others = self.history.live_threads().filter(|live| *live != thread);
+        let others = others.filter_map(|other| self.history.thread(other));
+        let calls = others.flat_map(|thread| &thread.open_calls);
+        let lose = calls.filter(|call| call.segment == segment && call.list.contains(&key));
+        lose.count() as u16
     }
 
     /// The key lists of these threads' open calls.

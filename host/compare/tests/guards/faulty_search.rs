@@ -21,6 +21,8 @@ pub enum Fault {
     LeavesOutTheLast,
     /// Asks the list that the segment has now.
     ListOfNow,
+    /// Asks the list that the segment had when the call was made.
+    ListOfThen,
     /// Finds the thread's own U and R keys.
     FindsOwnKeys,
     /// Takes segments beyond the last for defined keys: S100 for D36.
@@ -39,13 +41,14 @@ pub enum Fault {
     RefusesTheKey,
 }
 
-pub const FAULTS: [Fault; 14] = [
+pub const FAULTS: [Fault; 15] = [
     Fault::OldestFirst,
     Fault::CountsFromOldest,
     Fault::CountsCallsWithKey,
     Fault::NewestAlone,
     Fault::LeavesOutTheLast,
     Fault::ListOfNow,
+    Fault::ListOfThen,
     Fault::FindsOwnKeys,
     Fault::SegmentForDefined,
     Fault::DefinedForSegment,
@@ -80,6 +83,9 @@ impl Faulty<'_> {
                 right.map(|place| place.filter(|place| place + 1 < MAX_FRAMES))
             }
             Fault::ListOfNow => right.map(|_| self.by_lists_of_now(thread, key)),
+            Fault::ListOfThen => {
+                right.map(|_| self.newest(thread, |call| call.found.contains(&key)))
+            }
             Fault::FindsOwnKeys => right.map(|place| place.or(self.own(thread, key))),
             Fault::SegmentForDefined => self.right(thread, segment_for_defined(key)),
             Fault::DefinedForSegment => self.right(thread, defined_for_segment(key)),

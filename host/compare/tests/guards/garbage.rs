@@ -1,13 +1,15 @@
 //! The proved guard on arrays that no list of calls leads to. Whatever numbers
 //! are in them, a call comes back, with an outcome that its letter can have; a
 //! refusal changes no cell; an accepted call changes nothing but what it is
-//! about; and C, R and A are the same by the entry and by their own functions.
+//! about, and a T each frame of its segment as it must; and C, R and A are the
+//! same by the entry and by their own functions.
 //!
 //! With `-- --nocapture` it also prints how often each letter came to each
-//! outcome.
+//! outcome, and how many frames lost a key.
 
 use super::ACCESSES;
 use super::filling::{EDGES, FILLINGS, Filling};
+use super::frames::{FRAMES, LIVE, code, depth, withdraw};
 use super::tally::Tally;
 use compare::guard::{Cells, Guard, Own, outcome};
 use reference::call::Call;
@@ -63,6 +65,12 @@ fn aim(random: &mut Random, record: &mut Record, cells: &Cells) {
         if !owned.is_empty() {
             record.b = random.pick(&owned);
         }
+    }
+    if letter == Letter::TakeKey && !random.one_in(4) {
+        // A list has seven keys among 65,536 numbers.
+        let list = cells.segments.get(usize::from(record.b)).map(|of| of[1]);
+        let cell = list.map_or(0, |list| random.pick(&list));
+        record.c = cell.wrapping_sub(code(0));
     }
 }
 
@@ -135,6 +143,7 @@ fn confines(call: Call, answer: u16) -> Confines {
             makers: new,
             ..REGISTRY
         },
+        // The frames that a T changes are compared by themselves.
         Call::GiveKey { segment, .. } | Call::TakeKey { segment, .. } => Confines {
             segments: at(segment),
             ..NOTHING
@@ -151,10 +160,55 @@ fn confines(call: Call, answer: u16) -> Confines {
     }
 }
 
-/// An accepted call may change this much and no more.
-fn assert_confined(record: &Record, answer: u16, before: &Cells, after: &Cells) {
+/// How many frames have lost a key, of live threads and of others, and of some with a
+/// count of frames beyond the most.
+#[derive(Debug, Default)]
+struct Withdrawn {
+    live: usize,
+    dead: usize,
+    beyond: usize,
+}
+
+impl Withdrawn {
+    /// Takes the key out of the frames of the cells, as a T must.
+    fn withdraw(&mut self, cells: &mut Cells, segment: u16, key: u16) {
+        let before = cells.threads;
+        withdraw(&mut cells.threads, segment, key);
+        for (before, after) in before.iter().zip(&cells.threads) {
+            let changed = differences(before, after).len();
+            match before[0][LIVE] {
+                0 => self.dead += changed,
+                _ => self.live += changed,
+            }
+            if usize::from(before[0][FRAMES]) > depth(before) {
+                self.beyond += changed;
+            }
+        }
+    }
+
+    fn add(&mut self, more: &Withdrawn) {
+        self.live += more.live;
+        self.dead += more.dead;
+        self.beyond += more.beyond;
+    }
+
+    fn assert_often(&self, least: usize) {
+        let Withdrawn { live, dead, beyond } = *self;
+        for count in [live, dead, beyond] {
+            assert!(count >= least, "{self:?}");
+        }
+    }
+}
+
+/// An accepted call may change this much and no more. What a T must change is changed
+/// in the cells before it, so that they are to be the same.
+fn assert_confined(record: &Record, answer: u16, before: &Cells, after: &Cells) -> Withdrawn {
     let call = Call::of(record).expect("an accepted call is well formed");
     let may = confines(call, answer);
+    let (mut before, mut withdrawn) = (before.clone(), Withdrawn::default());
+    if let Call::TakeKey { segment, key, .. } = call {
+        withdrawn.withdraw(&mut before, segment, key);
+    }
     let confined = (may.registry || before.registry == after.registry)
         && may
             .makers
@@ -166,15 +220,22 @@ fn assert_confined(record: &Record, answer: u16, before: &Cells, after: &Cells) 
         && may
             .threads
             .include(&differences(&before.threads, &after.threads));
-    assert!(confined, "{record:?} changes what it is not about");
+    assert!(
+        confined,
+        "a cell is another than it must be after {record:?}"
+    );
+    withdrawn
 }
 
 /// One call on arrays of any numbers. Answers the outcome.
-fn tried(guard: &mut Guard, record: &Record) -> u32 {
+fn tried(guard: &mut Guard, record: &Record, withdrawn: &mut Withdrawn) -> u32 {
     let before = guard.clone();
     let answer = guard.call(record.letter, record.a, record.b, record.c, &record.text);
     match outcome(answer) {
-        0 => assert_confined(record, answer as u16, before.cells(), guard.cells()),
+        0 => {
+            let lost = assert_confined(record, answer as u16, before.cells(), guard.cells());
+            withdrawn.add(&lost);
+        }
         14 => assert!(guard.cells() == before.cells(), "{record:?}"),
         refusal => {
             assert_eq!(answer, refusal * 65_536, "the second number on {record:?}");
@@ -198,6 +259,7 @@ fn tried(guard: &mut Guard, record: &Record) -> u32 {
 fn any_numbers_in_the_arrays() {
     let mut random = Random::new(31);
     let mut tally = Tally::default();
+    let mut withdrawn = Withdrawn::default();
     for turn in 0..ARRAYS {
         let filling = FILLINGS[turn % FILLINGS.len()];
         let world = &WORLDS[random.below(WORLDS.len())];
@@ -219,7 +281,7 @@ fn any_numbers_in_the_arrays() {
             if random.one_in(2) {
                 aim(&mut random, &mut record, guard.cells());
             }
-            let outcome = tried(&mut guard, &record);
+            let outcome = tried(&mut guard, &record, &mut withdrawn);
             tally.add(record.letter, outcome);
         }
         let before = guard.clone();
@@ -237,6 +299,7 @@ fn any_numbers_in_the_arrays() {
             "an access has changed a cell"
         );
     }
-    println!("arrays of any numbers: {tally}");
+    println!("arrays of any numbers: {tally}\n{withdrawn:?}");
     tally.assert_complete(10);
+    withdrawn.assert_often(ARRAYS / 100);
 }

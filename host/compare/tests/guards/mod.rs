@@ -1,6 +1,7 @@
 //! What the comparison of the two guards is made of.
 
 mod filling;
+mod frames;
 mod garbage;
 pub mod pair;
 pub mod tally;

@@ -1,9 +1,11 @@
 //! Both guards side by side. Every call goes to both, and they must give the
 //! same answer. The proved guard's arrays are compared after every call, all of
 //! their cells: after a refusal they are as they were, and after an accepted
-//! call only the part that the call is about may differ.
+//! call only the part that the call is about may differ. What an accepted T makes
+//! of open calls is written down here, cell by cell.
 
 use super::ACCESSES;
+use super::frames::withdraw;
 use super::tally::Tally;
 use compare::guard::{Cells, Guard, Own, coded, filled_with, outcome};
 use reference::call::Call;
@@ -22,6 +24,8 @@ pub struct Pair {
     /// The segment of each standing lock.
     locked: BTreeMap<u16, u16>,
     pub tally: Tally,
+    /// How many frames have lost a key, those of ended threads included.
+    pub withdrawn: usize,
 }
 
 impl Pair {
@@ -37,6 +41,7 @@ impl Pair {
             places: BTreeMap::new(),
             locked: BTreeMap::new(),
             tally: Tally::default(),
+            withdrawn: 0,
         }
     }
 
@@ -61,7 +66,7 @@ impl Pair {
             self.expect_change(call, answer);
         }
         let same = *self.proved.cells() == *self.expected;
-        assert!(same, "a cell has changed that {record:?} is not about");
+        assert!(same, "a cell is another than it must be after {record:?}");
         self.tally.add(letter, outcome(given));
         answer
     }
@@ -88,9 +93,10 @@ impl Pair {
                 self.expected.registry = cells.registry;
                 self.expected.makers[new] = cells.makers[new];
             }
-            Call::GiveKey { segment, .. } | Call::TakeKey { segment, .. } => {
-                let segment = usize::from(segment);
-                self.expected.segments[segment] = cells.segments[segment];
+            Call::GiveKey { segment, .. } => self.expect_list(segment),
+            Call::TakeKey { segment, key, .. } => {
+                self.expect_list(segment);
+                self.withdrawn += withdraw(&mut self.expected.threads, segment, key);
             }
             Call::AddLock { segment, .. } => {
                 self.expected.registry = cells.registry;
@@ -122,6 +128,11 @@ impl Pair {
     fn expect_thread(&mut self, thread: u16) {
         let place = self.places[&thread];
         self.expected.threads[place] = self.proved.cells().threads[place];
+    }
+
+    fn expect_list(&mut self, segment: u16) {
+        let segment = usize::from(segment);
+        self.expected.segments[segment] = self.proved.cells().segments[segment];
     }
 
     fn expect_locks(&mut self, segment: u16) {

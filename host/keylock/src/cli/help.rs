@@ -138,9 +138,12 @@ Explains a journal or a text journal step by step: what each call asks for, the
 guard's answer and why, the thread's open calls and keys after it and, for a C
 or an A, each lock with the key that opened it or kept it shut. A segment stands
 there with its locks and with its lock list, as its owner and as a colleague
-sees it; on a page that list is at a C or an A too, where a click opens it. The
-text's comments and expected answers stand beside the steps. A comment that
-begins with what its call makes gives it a name, of up to 40 characters:
+sees it; on a page that list is at a C or an A too, where a click opens it. A T
+takes its key from the segment's open calls too: the threads that lose it stand
+there, and while such a call is open, the key stands in it with the step that
+took it, struck out on a page. The text's comments and expected answers stand
+beside the steps. A comment that begins with what its call makes gives it a
+name, of up to 40 characters:
 
   S 0    # thread 0, the May closing
   N 0 1  # segment 2, the totals sheet
@@ -195,6 +198,10 @@ Replays a journal or a text journal from the empty state, and prints which open
 call of a thread then hands a key over: 'ok N' with the place of the newest one
 that does, 'none' where no open call does, or 'no 2 0'. Place 0 is the thread's
 newest open call, 1 the one before it, and all open calls count.
+
+An open call hands over the list that its segment had when the call was made,
+less what was taken from it since. A key that is given later, or given again,
+comes with new calls only.
 
 A thread holds its user's U key and its own R key, but no call hands them over,
 so they are 'none'. So is a key that was never handed out.

@@ -64,8 +64,27 @@ fn frame(call: &OpenCall, is_new: bool, pieces: &mut Pieces) -> String {
         true => (" class=\"new\"", " <em>just called</em>"),
         false => ("", ""),
     };
-    let (name, keys) = (said(&call.said), key_row(&call.keys, pieces));
+    let (name, keys) = (said(&call.said), handed_over(call, pieces));
     pieces.share(format!("<li{class}><b>{name}{word}</b>{keys}</li>"))
+}
+
+/// The keys that an open call hands over, and behind them those that were taken
+/// since.
+fn handed_over(call: &OpenCall, pieces: &mut Pieces) -> String {
+    let keys: String = call.keys.iter().map(|key| code(key, pieces)).collect();
+    let taken = taken(call, pieces);
+    pieces.share(format!("<div class=\"keys\">{keys}{taken}</div>"))
+}
+
+/// The keys that were taken from a call while it was open: struck out, with the
+/// steps that took them.
+fn taken(call: &OpenCall, pieces: &mut Pieces) -> String {
+    let taken = call.taken.iter().map(|taken| {
+        let (key, when) = (taken.key, said(&taken.when()));
+        let struck = format!("<code class=\"gone\">{key}</code><i>{when}</i>");
+        pieces.share(format!("<span class=\"taken\">{struck}</span>"))
+    });
+    taken.collect()
 }
 
 /// The box of a call that is no longer open. Keys that the thread holds no more
@@ -82,8 +101,9 @@ fn left(call: &OpenCall, held: &[Key], word: &str, pieces: &mut Pieces) -> Strin
         true => "",
         false => "<i>still held</i>",
     };
-    let name = said(&call.said);
+    let (name, taken) = (said(&call.said), taken(call, pieces));
+    let keys = format!("<div class=\"keys\">{keys}{label}{taken}</div>");
     pieces.share(format!(
-        "<li class=\"left\"><b>{name} <em>{word}</em></b><div class=\"keys\">{keys}{label}</div></li>"
+        "<li class=\"left\"><b>{name} <em>{word}</em></b>{keys}</li>"
     ))
 }

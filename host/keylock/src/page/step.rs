@@ -31,7 +31,7 @@ fn columns(step: &Step, pieces: &mut Pieces) -> String {
     if let Some(view) = &step.segment {
         columns += &segment::columns(view, pieces);
     }
-    if let Some(thread) = &step.thread {
+    for thread in step.thread.iter().chain(&step.losing) {
         columns += &stack::column(thread, pieces);
     }
     pieces.share(format!("<div class=\"cols\">\n{columns}</div>\n"))

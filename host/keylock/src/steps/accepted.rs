@@ -2,10 +2,13 @@
 
 use super::judgement::Judgement;
 use super::product::wanted;
-use super::state::{State, for_reference, key};
+use super::state::{Loss, State, key};
 use crate::words;
 use rotundaaloe::formula::{self, Key};
 use rotundaaloe::{Call, Defined, Lock, Operations, Record, Segment, Thread, User};
+
+/// So many threads are named whose open calls lose a key; more are counted.
+const MOST_NAMED: usize = 4;
 
 /// Asked before the call is taken in, when the name of what it makes is known.
 pub fn reason(
@@ -38,7 +41,7 @@ pub fn reason(
             format!("Only {maker} can give D{answer}, and only to segments of his own.")
         }
         Call::GiveKey { segment, key, .. } => given(state, segment, key),
-        Call::TakeKey { segment, key, .. } => taken(state, segment, key),
+        Call::TakeKey { segment, key, .. } => taken(state, segment, key, &state.losses(record)),
         Call::AddLock {
             operations, text, ..
         } => locked(state, operations, text),
@@ -61,32 +64,46 @@ fn given(state: &State, segment: Segment, key: Defined) -> String {
     if state.is_sheet(segment) {
         return uncalled(key);
     }
+    let but = match state.was_taken_from_calls(segment, Key::Defined(key)) {
+        true => ", not even those that it was taken from",
+        false => "",
+    };
     let segment = state.said(segment);
-    format!(
-        "New calls of {segment} hand over {key}. Open ones keep the keys that they handed over."
-    )
+    format!("New calls of {segment} hand over {key}. Open ones don't get it{but}.")
 }
 
 fn uncalled(key: Defined) -> String {
     format!("A sheet isn't called, so nobody gets {key} from it.")
 }
 
-fn taken(state: &State, segment: Segment, key: Defined) -> String {
+fn taken(state: &State, segment: Segment, key: Defined, losses: &[Loss]) -> String {
     if state.is_sheet(segment) {
         return uncalled(key);
     }
-    let wanted = for_reference(Key::Defined(key));
-    let mut threads = state.history.live_threads();
-    let kept = threads.any(|thread| {
-        let mut calls = state.open_calls(Thread(thread)).iter();
-        calls.any(|call| call.segment == segment.0 && call.list.contains(&wanted))
-    });
-    let keep = match kept {
-        true => " Open ones that handed it over keep it until they return.",
-        false => "",
+    let lost = match losses.is_empty() {
+        true => String::new(),
+        false => format!(" It is withdrawn from {}.", losing(state, losses)),
     };
     let segment = state.said(segment);
-    format!("New calls of {segment} don't hand over {key}.{keep}")
+    format!("New calls of {segment} don't hand over {key}.{lost}")
+}
+
+/// `an open call of thread 0 and 2 open calls of thread 1`
+fn losing(state: &State, losses: &[Loss]) -> String {
+    let calls = |count: usize| match count {
+        1 => "an open call".to_string(),
+        _ => format!("{count} open calls"),
+    };
+    let threads = losses.chunk_by(|loss, next| loss.thread == next.thread);
+    let threads = threads.map(|lost| {
+        let thread = state.said(lost[0].thread);
+        format!("{} of {thread}", calls(lost.len()))
+    });
+    let threads: Vec<String> = threads.collect();
+    match threads.len() {
+        ..=MOST_NAMED => words::listed(&threads, "and"),
+        count => format!("{} of {count} threads", calls(losses.len())),
+    }
 }
 
 fn dropped(state: &State, lock: Lock) -> String {
@@ -154,8 +171,9 @@ fn listed(keys: &[&reference::Key]) -> String {
 
 fn granted(judgement: &Judgement) -> String {
     // A call hands over keys, so what it was tried with is past.
-    match judgement.operation {
+    let opening = match judgement.operation {
         1 => judgement.opening("opened", "held", "didn't hold"),
         _ => judgement.opening("opens", "holds", "doesn't hold"),
-    }
+    };
+    opening + &judgement.withdrawn()
 }

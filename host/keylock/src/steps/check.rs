@@ -4,10 +4,11 @@
 use super::judgement::Judgement;
 use super::product::Literal;
 use super::shown_keys;
-use super::state::{State, for_history, for_reference};
+use super::state::{Loss, State, for_history, for_reference};
 use super::view::{self, SegmentView};
+use rotundaaloe::formula::Key;
 use rotundaaloe::limits::MOST_OPEN_CALLS;
-use rotundaaloe::{Lock, LockRow, Operations, Record, Refusal, Thread};
+use rotundaaloe::{Guard, Lock, LockRow, Operations, Record, Refusal, Thread};
 
 /// What the explanation of an answered call and the answer differ in. Asked
 /// before the call is taken in.
@@ -43,18 +44,32 @@ fn misplaced(state: &State, judgement: &Judgement) -> Option<String> {
     let products = judgement.locks.iter().flat_map(|tried| &tried.products);
     let mut literals = products.flat_map(|product| &product.literals);
     literals.find_map(|literal| {
-        let (found, read) = (literal.place, newest(state, judgement.thread, literal));
         let key = literal.literal.key();
-        let differs = || format!("the history has {key} from {read:?}, the guard from {found:?}");
-        (found != read).then(differs)
+        found_elsewhere(state, judgement.thread, key, literal.place)
     })
 }
 
-/// The place of the newest open call that handed a literal's key over.
-fn newest(state: &State, thread: Thread, literal: &Literal) -> Option<usize> {
-    let key = for_reference(literal.literal.key());
+/// The same for the keys that open calls lost by a call. Asked after the call is
+/// taken in.
+pub fn withdrawn_disagreement(state: &State, guard: &Guard, losses: &[Loss]) -> Option<String> {
+    losses.iter().find_map(|loss| {
+        let found = guard.find_key(loss.thread, loss.key).unwrap_or(None);
+        found_elsewhere(state, loss.thread, loss.key, found)
+    })
+}
+
+/// What the history and the guard differ in, where the guard found a key there.
+fn found_elsewhere(
+    state: &State,
+    thread: Thread,
+    key: Key,
+    found: Option<usize>,
+) -> Option<String> {
+    let wanted = for_reference(key);
     let mut newest_first = state.open_calls(thread).iter().rev();
-    newest_first.position(|call| call.list.contains(&key))
+    let read = newest_first.position(|call| call.list.contains(&wanted));
+    let differs = || format!("the history has {key} from {read:?}, the guard from {found:?}");
+    (found != read).then(differs)
 }
 
 /// The answer that follows from the locks.
@@ -177,5 +192,17 @@ mod tests {
             differs.starts_with("lock 2's literals and products"),
             "{differs}"
         );
+    }
+
+    /// A guard whose thread called the other part: the open call of the history loses
+    /// D0, and the guard's hands it over still.
+    #[test]
+    fn a_key_that_is_not_withdrawn_is_told() {
+        let calls = |part: &str| told(&format!("{PARTS}{part}"));
+        assert_eq!(wrong(&mut calls("C 0 0\n"), "T 0 0 0"), None);
+        let mut teller = calls("C 0 0\n");
+        teller.guard = calls("C 0 1\n").guard;
+        let differs = "the history has D0 from None, the guard from Some(0)";
+        assert_eq!(wrong(&mut teller, "T 0 0 0").as_deref(), Some(differs));
     }
 }

@@ -61,16 +61,28 @@ impl Judgement {
     /// How the lock that decided opened: `Lock 2 opens: thread 0 holds S0`. The
     /// three verbs give the tense.
     pub fn opening(&self, opens: &str, holds: &str, lacks: &str) -> String {
-        let decides = |tried: &&Tried| self.decided == Some(tried.lock.number);
-        let Some(tried) = self.locks.iter().find(decides) else {
+        let Some((tried, place)) = self.deciding() else {
             return String::new();
         };
-        let product = tried.products.iter().position(|product| product.opens);
-        let wanted = product.map_or(String::new(), |place| {
-            wanted(&tried.lock.products[place], holds, lacks)
-        });
+        let wanted = wanted(&tried.lock.products[place], holds, lacks);
         let (number, thread) = (tried.lock.number, &self.thread_said);
         format!("Lock {number} {opens}: {thread} {wanted}.")
+    }
+
+    /// Which keys that its product bars were taken, a sentence each with a blank
+    /// before it: ` D0 was taken from segment 0 in step 9.`
+    pub fn withdrawn(&self) -> String {
+        let product = self.deciding().map(|(tried, place)| &tried.products[place]);
+        let sentences = product.map_or(Vec::new(), Product::withdrawn);
+        sentences.iter().map(|said| format!(" {said}")).collect()
+    }
+
+    /// The lock that decided, and the place of its first product that opens.
+    fn deciding(&self) -> Option<(&Tried, usize)> {
+        let mut locks = self.locks.iter();
+        let tried = locks.find(|tried| self.decided == Some(tried.lock.number))?;
+        let place = tried.products.iter().position(|product| product.opens)?;
+        Some((tried, place))
     }
 }
 

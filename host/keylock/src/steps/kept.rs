@@ -1,15 +1,31 @@
 //! What the history doesn't keep: the texts and products of standing locks, who
-//! made a key, whose a thread was, and what the comments call things.
+//! made a key, whose a thread was, which step took a key from an open call, and
+//! what the comments call things.
 
 use super::Entry;
 use crate::names::{Names, Thing};
-use rotundaaloe::formula::{self, Issued, Product};
+use rotundaaloe::formula::{self, Issued, Key, Product};
 use rotundaaloe::{Call, Defined, Record, Segment, Thread, User};
 use std::collections::BTreeMap;
 
 pub struct Formula {
     pub text: Vec<u8>,
     pub products: Vec<Product>,
+}
+
+/// A key that an open call handed over until a T took it.
+#[derive(Clone, Copy, Debug, PartialEq, Eq)]
+pub struct Taken {
+    pub key: Key,
+    /// The place of the T.
+    pub step: usize,
+}
+
+impl Taken {
+    /// `taken in step 12`
+    pub fn when(&self) -> String {
+        format!("taken in step {}", self.step)
+    }
 }
 
 #[derive(Default)]
@@ -20,6 +36,9 @@ pub struct Kept {
     makers: Vec<User>,
     /// The user of each thread, ended ones too.
     users: Vec<User>,
+    /// For each thread with open calls what was taken from each of them, the
+    /// newest call last.
+    taken: BTreeMap<Thread, Vec<Vec<Taken>>>,
     pub names: Names,
 }
 
@@ -55,10 +74,33 @@ impl Kept {
             Call::DropLock { lock, .. } => {
                 self.formulas.remove(&lock.0);
             }
-            Call::NewUser | Call::NewSegment { .. } | Call::EndThread { .. } => {}
+            Call::CallSegment { thread, .. } => {
+                self.taken.entry(thread).or_default().push(Vec::new());
+            }
+            Call::ReturnCall { thread } => {
+                self.taken.entry(thread).or_default().pop();
+            }
+            Call::EndThread { thread } => {
+                self.taken.remove(&thread);
+            }
+            Call::NewUser | Call::NewSegment { .. } | Call::Access { .. } => {}
             Call::GiveKey { .. } | Call::TakeKey { .. } => {}
-            Call::CallSegment { .. } | Call::ReturnCall { .. } | Call::Access { .. } => {}
         }
+    }
+
+    /// Writes down that a key was taken from a thread's open call, the one with so
+    /// many older ones.
+    pub fn withdraw(&mut self, thread: Thread, older: usize, taken: Taken) {
+        let calls = self.taken.get_mut(&thread);
+        let calls = calls.expect("a key is taken from an open call");
+        calls[older].push(taken);
+    }
+
+    /// What was taken from a thread's open call, the one with so many older ones,
+    /// the first taken first.
+    pub fn taken_from(&self, thread: Thread, older: usize) -> &[Taken] {
+        let call = self.taken.get(&thread).and_then(|calls| calls.get(older));
+        call.map_or(&[], Vec::as_slice)
     }
 
     /// A standing lock's formula.

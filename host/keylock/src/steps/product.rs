@@ -1,7 +1,7 @@
 //! What a thread's keys do to a product: which are held and by whom, and which
 //! hold it shut.
 
-use super::lack;
+use super::lack::{self, Lack};
 use super::state::{State, for_reference};
 use crate::words;
 use rotundaaloe::formula::{self, Key};
@@ -28,7 +28,7 @@ pub struct Literal {
     /// The segment of that call, by its name, or the one that would bring it.
     pub from: Option<String>,
     /// Why the key isn't held, if it isn't.
-    lack: String,
+    lack: Lack,
 }
 
 /// Where a held key comes from.
@@ -46,8 +46,8 @@ impl Product {
         self.literals.iter().filter(|literal| !literal.agrees())
     }
 
-    /// Why it stays shut, a sentence each without its full stop. Keys that
-    /// no open call of the thread hands over share one.
+    /// Why it stays shut, a sentence each without its full stop. Keys that no open
+    /// call of the thread ever handed over share one.
     pub fn against(&self) -> Vec<String> {
         let (lacking, others): (Vec<_>, Vec<_>) =
             self.disagreeing().partition(|literal| literal.is_lacking());
@@ -86,17 +86,30 @@ impl Product {
         parts.join(", ")
     }
 
-    /// Where its held keys come from: `U0 always held, S0 from segment 0`.
+    /// Where its held keys come from, and where its barred ones went that were
+    /// taken: `U0 always held, S0 from segment 0, D0 taken from segment 0 in step 9`.
     pub fn sources(&self) -> String {
         let source = |literal: &Literal| {
             let key = literal.literal.key();
-            match (literal.held_by.first()?, &literal.from) {
-                (Holder::Call(_), Some(segment)) => Some(format!("{key} from {segment}")),
-                _ => Some(format!("{key} always held")),
+            match (literal.held_by.first(), &literal.from) {
+                (Some(Holder::Call(_)), Some(segment)) => Some(format!("{key} from {segment}")),
+                (Some(_), _) => Some(format!("{key} always held")),
+                (None, _) => Some(format!("{key} {}", literal.taken_from_barred()?)),
             }
         };
         let sources: Vec<String> = self.literals.iter().filter_map(source).collect();
         sources.join(", ")
+    }
+
+    /// A sentence for each barred key that the thread would hold, had it not been
+    /// taken: `D0 was taken from segment 0 in step 9.`
+    pub fn withdrawn(&self) -> Vec<String> {
+        let literals = self.literals.iter();
+        let withdrawn = literals.filter_map(|literal| {
+            let taken = literal.taken_from_barred()?;
+            Some(format!("{} was {taken}.", literal.literal.key()))
+        });
+        withdrawn.collect()
     }
 }
 
@@ -114,10 +127,17 @@ impl Literal {
         self.is_held() != self.is_barred()
     }
 
-    /// Whether it waits for a key that an open call would have to bring.
+    /// Whether it waits for a key that an open call would have to bring, and none
+    /// ever did.
     fn is_lacking(&self) -> bool {
         let brought = matches!(self.literal.key(), Key::Segment(_) | Key::Defined(_));
-        brought && !self.is_barred() && !self.is_held()
+        brought && !self.is_barred() && !self.is_held() && self.lack.taken.is_none()
+    }
+
+    /// Where its key was taken from, if it is barred.
+    fn taken_from_barred(&self) -> Option<&str> {
+        let taken = self.lack.taken.as_deref();
+        taken.filter(|_| self.is_barred())
     }
 
     /// In a word or two: `held`, `missing`.
@@ -136,7 +156,7 @@ impl Literal {
         match (self.is_barred(), self.is_held()) {
             (false, true) => format!("{said} is held: {}", self.source()),
             (true, true) => format!("{said} is barred, but held: {}", self.source()),
-            (false, false) => format!("{said} is missing: {}", self.lack),
+            (false, false) => format!("{said} is missing: {}", self.lack.why),
             (true, false) => format!("{said} is barred, and isn't held"),
         }
     }
@@ -205,10 +225,14 @@ impl Tester<'_> {
         let key = literal.key();
         let place = self.place(key);
         let held_by = self.holders(key, place);
-        let (from, lack) = match held_by.first() {
-            Some(Holder::Identity) => (None, String::new()),
-            Some(Holder::Call(segment)) => (Some(state.said(Segment(*segment))), String::new()),
-            None => lack::of(state, thread, key),
+        let lack = match held_by.is_empty() {
+            true => lack::of(state, thread, key),
+            false => Lack::default(),
+        };
+        let from = match held_by.first() {
+            Some(Holder::Identity) => None,
+            Some(Holder::Call(segment)) => Some(state.said(Segment(*segment))),
+            None => lack.from.clone(),
         };
         Literal {
             literal,

@@ -290,7 +290,8 @@ fn first_unknown(text: &[u8], issued: formula::Issued) -> Option<String> {
 
 fn denied(judgement: &Judgement) -> String {
     let opening = judgement.opening("opens", "holds", "doesn't hold");
-    format!("{opening} It denies, and a deny beats every grant.")
+    let withdrawn = judgement.withdrawn();
+    format!("{opening} It denies, and a deny beats every grant.{withdrawn}")
 }
 
 /// Names the keys that are missing, of several products those of the nearest.

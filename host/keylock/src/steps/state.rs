@@ -1,10 +1,10 @@
 //! What stands before a call: the history, and what it doesn't keep.
 
-use super::kept::Kept;
+use super::kept::{Kept, Taken};
 use crate::names::Thing;
 use reference::history::{self, History, OpenCall};
 use rotundaaloe::formula::{Issued, Key};
-use rotundaaloe::{Defined, Lock, Record, Segment, Thread, User};
+use rotundaaloe::{Call, Defined, Lock, Record, Segment, Thread, User};
 
 #[derive(Default)]
 pub struct State {
@@ -13,9 +13,13 @@ pub struct State {
 }
 
 impl State {
-    /// Takes in an accepted call.
-    pub fn take_in(&mut self, record: &Record, answer: u16) {
+    /// Takes in an accepted call, which is this step, with what is lost by it.
+    pub fn take_in(&mut self, step: usize, record: &Record, answer: u16, losses: &[Loss]) {
         let issued = self.issued();
+        for Loss { thread, older, key } in losses {
+            let taken = Taken { key: *key, step };
+            self.kept.withdraw(*thread, *older, taken);
+        }
         self.kept.take_in(record, answer, issued);
         self.history.feed(&for_history(record), Some(answer));
     }
@@ -39,6 +43,45 @@ impl State {
     pub fn open_calls(&self, thread: Thread) -> &[OpenCall] {
         let thread = self.history.thread(thread.0);
         thread.map_or(&[], |thread| &thread.open_calls)
+    }
+
+    /// Which open calls lose a key by a T that is accepted: every one of its segment
+    /// that hands the key over, by rising thread, the oldest first. None by another
+    /// call.
+    pub fn losses(&self, record: &Record) -> Vec<Loss> {
+        let Some(Call::TakeKey { segment, key, .. }) = Call::of(record) else {
+            return Vec::new();
+        };
+        let key = Key::Defined(key);
+        let threads = self.history.live_threads().map(Thread);
+        let losses = threads.flat_map(|thread| {
+            let calls = self.open_calls(thread).iter().enumerate();
+            let losing = calls.filter(move |(_, call)| {
+                call.segment == segment.0 && call.list.contains(&for_reference(key))
+            });
+            losing.map(move |(older, _)| Loss { thread, older, key })
+        });
+        losses.collect()
+    }
+
+    /// Whether a key was taken from some open call of the segment.
+    pub fn was_taken_from_calls(&self, segment: Segment, key: Key) -> bool {
+        let mut threads = self.history.live_threads().map(Thread);
+        threads.any(|thread| {
+            let mut taken = self.taken(thread, key);
+            taken.any(|(from, _)| from == segment)
+        })
+    }
+
+    /// The thread's open calls that a key was taken from: their segments and the
+    /// steps that took it, the oldest call first.
+    pub fn taken(&self, thread: Thread, key: Key) -> impl Iterator<Item = (Segment, usize)> {
+        let calls = self.open_calls(thread).iter().enumerate();
+        calls.filter_map(move |(older, call)| {
+            let mut taken = self.kept.taken_from(thread, older).iter();
+            let taken = taken.find(|taken| taken.key == key)?;
+            Some((Segment(call.segment), taken.step))
+        })
     }
 
     /// A live thread's key set, in order.
@@ -74,6 +117,14 @@ impl State {
         let found = standing.find(|(number, _)| *number == lock.0);
         found.map(|(_, lock)| lock)
     }
+}
+
+/// An open call that loses a key.
+pub struct Loss {
+    pub thread: Thread,
+    /// How many of the thread's open calls are older.
+    pub older: usize,
+    pub key: Key,
 }
 
 pub fn key(key: reference::Key) -> Key {

@@ -1,7 +1,8 @@
 //! Where a thread and a segment stand after a call.
 
+use super::kept::Taken;
 use super::listing::{self, Lists};
-use super::state::{State, keys};
+use super::state::{Loss, State, keys};
 use reference::history;
 use rotundaaloe::formula::{self, Key};
 use rotundaaloe::{Call, Guard, Record, Refusal, Segment, Thread, User};
@@ -21,12 +22,15 @@ pub struct ThreadView {
     pub keys: Vec<Key>,
 }
 
-/// An open call, and the keys that it handed over.
+/// An open call, and the keys that it hands over.
 #[derive(Clone, Debug, PartialEq, Eq)]
 pub struct OpenCall {
     pub segment: u16,
     pub said: String,
     pub keys: Vec<Key>,
+    /// The keys that it handed over at first and that were taken since, the first
+    /// taken first.
+    pub taken: Vec<Taken>,
 }
 
 /// What the call did to the thread.
@@ -131,12 +135,25 @@ pub fn concern(state: &State, record: &Record, answer: Result<u16, Refusal>) -> 
     }
 }
 
+/// The threads whose open calls lost a key by a call. Asked after the call is taken
+/// in.
+pub fn losing(state: &State, losses: &[Loss]) -> Vec<ThreadView> {
+    let mut threads: Vec<Thread> = losses.iter().map(|loss| loss.thread).collect();
+    threads.dedup();
+    let threads = threads.into_iter();
+    threads
+        .filter_map(|losing| thread(state, losing, Change::Nothing))
+        .collect()
+}
+
 /// A live thread's open calls, the newest last.
 fn open_calls(state: &State, thread: Thread) -> Vec<OpenCall> {
-    let calls = state.open_calls(thread).iter().map(|call| OpenCall {
+    let calls = state.open_calls(thread).iter().enumerate();
+    let calls = calls.map(|(older, call)| OpenCall {
         segment: call.segment,
         said: state.said(Segment(call.segment)),
         keys: keys(&call.list),
+        taken: state.kept.taken_from(thread, older).to_vec(),
     });
     calls.collect()
 }

@@ -41,7 +41,7 @@ impl Details {
         if let Some(segment) = &step.segment {
             self.segment(segment);
         }
-        if let Some(thread) = &step.thread {
+        for thread in step.thread.iter().chain(&step.losing) {
             self.thread(thread);
         }
     }
@@ -126,8 +126,16 @@ impl Details {
     }
 }
 
+/// `segment 0 [S0 D1; D0 taken in step 12]`
 fn open_call(call: &OpenCall) -> String {
-    format!("{} [{}]", call.said, shown_keys(&call.keys))
+    let taken = call.taken.iter();
+    let taken = taken.map(|taken| format!("{} {}", taken.key, taken.when()));
+    let taken: Vec<String> = taken.collect();
+    let keys = shown_keys(&call.keys);
+    match taken.is_empty() {
+        true => format!("{} [{keys}]", call.said),
+        false => format!("{} [{keys}; {}]", call.said, taken.join(", ")),
+    }
 }
 
 /// ` > segment 0 [S0] > segment 1 [S1], 15 times`

@@ -1,5 +1,5 @@
 //! Guards for the lessons: a small one that does what documents 01 and 02 say of
-//! the calls that the lessons make, and the same with one of sixteen faults. Of the
+//! the calls that the lessons make, and the same with one of 21 faults. Of the
 //! limits it judges only that of a thread's open calls.
 
 use reference::formula::{Literal, Product, compile};
@@ -29,8 +29,8 @@ pub enum Fault {
     /// Lesson 7: barred keys alone open only with some key that a call handed
     /// over.
     WantsAnotherKey,
-    /// Lesson 7: a key that is taken is gone from open calls too.
-    TakesFromOpenCalls,
+    /// Lesson 7: an open call hands over its segment's list as it is at the check.
+    ReadsTheListAtTheCheck,
     /// Lesson 8: a return closes the newest open call of every thread.
     ReturnsForAll,
     /// Lesson 8: the keys of all threads' open calls are held by each.
@@ -45,6 +45,18 @@ pub enum Fault {
     TakesTheThreadForTheMaker,
     /// Lesson 9: a thread that has ended edits for its user still.
     LetsTheEndedEdit,
+    /// Lesson 10: open calls keep a key that is taken until they return.
+    KeepsTheTaken,
+    /// Lesson 10: only the threads of the user who takes a key lose it.
+    WithdrawsFromTheTakersThreads,
+    /// Lesson 10: a key that is given again comes back to the open calls that lost
+    /// it.
+    BringsTheTakenBack,
+    /// Lesson 10: of each thread only the newest open call loses a key.
+    WithdrawsFromTheNewest,
+    /// Lesson 10: a key that is taken from one segment is lost by the open calls of
+    /// all.
+    WithdrawsFromEverySegment,
 }
 
 impl Fault {
@@ -62,7 +74,7 @@ impl Fault {
         Fault::FixesAnOrder,
         Fault::LetsAGrantOutvote,
         Fault::WantsAnotherKey,
-        Fault::TakesFromOpenCalls,
+        Fault::ReadsTheListAtTheCheck,
     ];
 
     /// Those of lesson 8, in its order.
@@ -78,6 +90,15 @@ impl Fault {
         Fault::TakesTheThreadForTheOwner,
         Fault::TakesTheThreadForTheMaker,
         Fault::LetsTheEndedEdit,
+    ];
+
+    /// Those of lesson 10, in its order.
+    pub const WITHDRAWALS: [Fault; 5] = [
+        Fault::KeepsTheTaken,
+        Fault::WithdrawsFromTheTakersThreads,
+        Fault::BringsTheTakenBack,
+        Fault::WithdrawsFromTheNewest,
+        Fault::WithdrawsFromEverySegment,
     ];
 }
 
@@ -105,7 +126,22 @@ impl Standing {
 
 struct OpenCall {
     segment: Segment,
+    /// What it hands over.
     keys: Vec<Key>,
+    /// What it handed over until it was taken.
+    lost: Vec<Key>,
+}
+
+impl OpenCall {
+    fn lose(&mut self, key: Key) {
+        self.lost
+            .extend(self.keys.extract_if(.., |held| *held == key));
+    }
+
+    fn get_back(&mut self, key: Key) {
+        self.keys
+            .extend(self.lost.extract_if(.., |lost| *lost == key));
+    }
 }
 
 struct Running {
@@ -250,6 +286,11 @@ impl Guard {
         if !self.has_made(thread, key) {
             return Err((6, 0));
         }
+        if self.fault == Some(Fault::BringsTheTakenBack) {
+            let calls = self.threads.iter_mut().flat_map(|of| &mut of.open_calls);
+            let calls = calls.filter(|call| call.segment == segment);
+            calls.for_each(|call| call.get_back(defined(key)));
+        }
         let list = self.list(segment);
         list.push(defined(key));
         Ok(list.len() as u16)
@@ -257,15 +298,31 @@ impl Guard {
 
     fn take(&mut self, thread: Thread, segment: Segment, key: Key) -> Answer {
         self.must_own(thread, segment)?;
+        let taker = self.editor(thread)?;
         self.list(segment).retain(|listed| *listed != key);
-        if self.fault == Some(Fault::TakesFromOpenCalls) {
-            for thread in &mut self.threads {
-                for call in &mut thread.open_calls {
-                    call.keys.retain(|held| *held != key);
+        self.withdraw(taker, segment, key);
+        Ok(self.list(segment).len() as u16)
+    }
+
+    /// Withdraws a key from every open call of the segment that it is taken from.
+    fn withdraw(&mut self, taker: User, segment: Segment, key: Key) {
+        let fault = self.fault;
+        for thread in &mut self.threads {
+            let (user, count) = (thread.user, thread.open_calls.len());
+            for (call, newer) in thread.open_calls.iter_mut().zip((0..count).rev()) {
+                let is_of_it = call.segment == segment;
+                let loses = match fault {
+                    Some(Fault::KeepsTheTaken) => false,
+                    Some(Fault::WithdrawsFromTheTakersThreads) => is_of_it && user == taker,
+                    Some(Fault::WithdrawsFromTheNewest) => is_of_it && newer == 0,
+                    Some(Fault::WithdrawsFromEverySegment) => true,
+                    _ => is_of_it,
+                };
+                if loses {
+                    call.lose(key);
                 }
             }
         }
-        Ok(self.list(segment).len() as u16)
     }
 
     fn add_lock(
@@ -311,14 +368,18 @@ impl Guard {
         let keys = self.list(segment).clone();
         let thread = self.running(thread);
         thread.flat.extend(&keys);
-        thread.open_calls.push(OpenCall { segment, keys });
+        thread.open_calls.push(OpenCall {
+            segment,
+            keys,
+            lost: Vec::new(),
+        });
         Ok(lock)
     }
 
     fn leave(&mut self, thread: Thread) -> Answer {
         let fault = self.fault;
         let running = self.running(thread);
-        let OpenCall { segment, keys } = running.open_calls.pop().ok_or((9, 0))?;
+        let OpenCall { segment, keys, .. } = running.open_calls.pop().ok_or((9, 0))?;
         if fault != Some(Fault::LeavesAKeyBehind) {
             running.flat.retain(|key| !keys.contains(key));
         }
@@ -398,11 +459,15 @@ impl Guard {
         threads.iter().flat_map(|thread| &thread.open_calls)
     }
 
-    /// The keys that the open calls handed over, the oldest call's first.
+    /// The keys that the open calls hand over, the oldest call's first.
     fn handed_over(&self, thread: Thread) -> Vec<Key> {
         let flat = &self.threads[usize::from(thread.0)].flat;
         let open_calls = self.open_calls(thread, Fault::SharesKeys);
-        let keys = |call: &OpenCall| call.keys.clone();
+        let list = |Segment(segment): Segment| self.segments[usize::from(segment)].keys.clone();
+        let keys = |call: &OpenCall| match self.fault {
+            Some(Fault::ReadsTheListAtTheCheck) => list(call.segment),
+            _ => call.keys.clone(),
+        };
         match self.fault {
             Some(Fault::LeavesAKeyBehind | Fault::CollectsAKeyTooEarly) => flat.clone(),
             Some(Fault::LosesKeysOnTheWayDown) => open_calls.last().map(keys).unwrap_or_default(),

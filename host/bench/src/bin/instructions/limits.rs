@@ -2,6 +2,7 @@
 
 use crate::checks::{self, Case};
 use crate::scenes::{HOME, PAIRS, Pair, call_name, twelve_name};
+use crate::takes::Take;
 use reference::letter::Letter;
 
 /// What a limit is on.
@@ -15,11 +16,14 @@ pub enum Limited {
     Return,
     /// A, by its own function.
     Access,
+    /// T, by its letter.
+    Take(Take),
 }
 
 /// Each limit, and the most that is within it. The second pair of products has
-/// a barred key.
-pub const LIMITS: [(Limited, u64); 11] = [
+/// a barred key. The limit on T where all open calls lose the key was chosen after
+/// the measurement.
+pub const LIMITS: [(Limited, u64); 14] = [
     (Limited::Check(Case::FirstFails, 2, 1), 98),
     (Limited::Check(Case::FirstFails, 2, 2), 150),
     (Limited::Check(Case::FirstFails, 6, 8), 1_000),
@@ -31,6 +35,9 @@ pub const LIMITS: [(Limited, u64); 11] = [
     (Limited::Call(PAIRS[2]), 230),
     (Limited::Access, 145),
     (Limited::Return, 26),
+    (Limited::Take(Take::Small), 600),
+    (Limited::Take(Take::Fullest), 8_000),
+    (Limited::Take(Take::OneSegment), 21_000),
 ];
 
 impl Limited {
@@ -50,6 +57,7 @@ impl Limited {
             }
             Limited::Return => "R".to_string(),
             Limited::Access => "A, `S0&S1`".to_string(),
+            Limited::Take(take) => take.name().to_string(),
         }
     }
 
@@ -67,6 +75,7 @@ impl Limited {
             Limited::Call(pair) => at_home(Letter::CallSegment, pair),
             Limited::Return => at_home(Letter::ReturnCall, PAIRS[0]),
             Limited::Access => vec![twelve_name(Letter::Access, false)],
+            Limited::Take(take) => vec![take.name().to_string()],
         }
     }
 }

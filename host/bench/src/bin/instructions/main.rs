@@ -24,6 +24,8 @@ mod report;
 mod scenes;
 #[cfg(target_arch = "x86_64")]
 mod searches;
+#[cfg(target_arch = "x86_64")]
+mod takes;
 
 #[cfg(target_arch = "x86_64")]
 use callgrind::Run;
@@ -32,6 +34,8 @@ use listings::{LISTINGS, Listing};
 #[cfg(target_arch = "x86_64")]
 use searches::Search;
 use std::process::ExitCode;
+#[cfg(target_arch = "x86_64")]
+use takes::{TAKES, Take};
 
 #[cfg(target_arch = "x86_64")]
 fn main() -> ExitCode {
@@ -53,6 +57,7 @@ fn main() -> ExitCode {
     scenes.iter().for_each(counting::tried);
     LISTINGS.into_iter().for_each(Listing::tried);
     searches.into_iter().for_each(Search::tried);
+    TAKES.into_iter().for_each(Take::tried);
     match reported() {
         Ok(0) => ExitCode::SUCCESS,
         Ok(_) => ExitCode::FAILURE,

@@ -7,6 +7,7 @@ use crate::limits::LIMITS;
 use crate::listings::LISTINGS;
 use crate::scenes::{AWAY, HOME, PAIRS, Pair, call_name, the_twelve, twelve_name};
 use crate::searches;
+use crate::takes::TAKES;
 use bench::points::{Panel, Point, Series};
 use bench::route::DEPTHS;
 use reference::letter::Letter;
@@ -138,6 +139,7 @@ impl Report {
         self.print_checks();
         self.print_calls();
         self.print_the_twelve();
+        self.print_takes();
         self.print_listings();
         self.print_searches();
         if self.missed.is_empty() {
@@ -180,7 +182,8 @@ impl Report {
         println!("### Limits\n");
         println!(
             "C, A and R are by their own functions, C and R for the threads {}, each at its own \
-             place, which must take the same. A ratio is the greatest of its table below.\n",
+             place, which must take the same; T is by its letter. A ratio is the greatest of its \
+             table below.\n",
             threads_name(&HOME)
         );
         println!("| Counted | Proved | Limit |");
@@ -383,6 +386,26 @@ impl Report {
                     counts.columns()
                 );
             }
+        }
+    }
+
+    /// T of a key that no open call hands over has no limit.
+    fn print_takes(&self) {
+        println!("\n### T and the open calls\n");
+        println!(
+            "Counted is T by its letter: it takes the key out of the segment's list and out of \
+             every open call of the segment. The small state is that of the twelve calls. In the \
+             other scenes 64 threads have 16 open calls each, and the segment's list is full. On \
+             the fullest state each thread has called sixteen segments once each; all of them have \
+             handed the key over, or none where it was given after the calls. In the last scene \
+             each thread has called the one segment 16 times.\n"
+        );
+        println!("| Counted | Open calls | That lose the key | Proved | Reference | Ratio |");
+        println!("|---|---:|---:|---:|---:|---:|");
+        for take in TAKES {
+            let (name, open_calls, losing) = (take.name(), take.open_calls(), take.losing());
+            let counts = self.counts(name).columns();
+            println!("| {name} | {open_calls} | {losing} | {counts} |");
         }
     }
 

@@ -2,6 +2,7 @@
 //! and one call on it or one check.
 
 use crate::checks::{self, Case, LITERALS, PRODUCTS};
+use crate::takes::{TAKES, Take};
 use compare::guard::Own;
 use reference::call::Call;
 use reference::journal::Record;
@@ -126,7 +127,7 @@ fn call_and_return(entry: bool, pair: Pair, thread: u16) -> [Scene; 2] {
 /// The calls that lead to the state of the twelve: the thread came by the rate
 /// loader, segment 0, and by the recalculation, segment 1, and may write the
 /// totals, segment 2.
-fn before_the_twelve() -> Vec<Record> {
+pub fn before_the_twelve() -> Vec<Record> {
     vec![
         call(b'U', 0, 0, 0),
         call(b'S', 0, 0, 0),
@@ -201,5 +202,6 @@ pub fn all() -> Vec<Scene> {
                 }),
         );
     }
+    scenes.extend(TAKES.map(Take::scene));
     scenes
 }

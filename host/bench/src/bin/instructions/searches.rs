@@ -39,6 +39,14 @@ const NO_THREAD: u16 = 1;
 /// The proved function's answer where no open call hands the key over.
 const NO_PLACE: u32 = 65_535;
 
+/// The proved function's answer where the reference's is this.
+pub fn coded(found: Result<Option<usize>, Refusal>) -> u32 {
+    match found {
+        Ok(place) => place.map_or(NO_PLACE, |place| place as u32),
+        Err(refusal) => refusal.number() * 65_536,
+    }
+}
+
 /// Every search that is counted.
 pub fn all() -> Vec<Search> {
     let search = |thread, depth, wanted| Search {
@@ -112,12 +120,8 @@ impl Search {
 
     /// Both have answered as expected.
     fn assert_found(self, proved: u32, reference: Result<Option<usize>, Refusal>) {
-        let expected = match self.outcome() {
-            Ok(place) => place.map_or(NO_PLACE, |place| place as u32),
-            Err(refusal) => refusal.number() * 65_536,
-        };
         let name = self.name();
-        assert_eq!(proved, expected, "{name}");
+        assert_eq!(proved, coded(self.outcome()), "{name}");
         assert_eq!(reference, self.outcome(), "{name}");
     }
 
