@@ -134,7 +134,7 @@ hasKey x = not (eqb x noKey)
 abbrev pub keysIn : Row → List Key
 keysIn w = map keyIn (keep hasKey w)
 
--- a list that is written is closed up
+-- a segment's list that is written is closed up; a frame's may have cells without a key between others
 abbrev pub keyRow : List ℕ → Row
 keyRow xs = xs ++ replicate (mostListed - length xs) noKey
 

@@ -22,7 +22,7 @@ use Rattle.model.specs.History.{History, Event, event, emptyHistory, his
 use Rattle.model.specs.Replay.{reached, events, answerTo}
 use Rattle.model.specs.Theorems.Mirror.{Mirrors}
 use Rattle.model.specs.Theorems.Neighbours.{hasLetter}
-use Rattle.model.specs.Theorems.Editing.{editLetters, ownerIn, Edits, Editing, userIn}
+use Rattle.model.specs.Theorems.Editing.{editLetters, runLetters, ownerIn, Edits, Editing, userIn}
 use Rattle.model.specs.Answers.{isAccepted, answerValue}
 use Rattle.call.specs.declared.request.Decoded.{Decoded}
 use Rattle.call.specs.declared.request.Decoded.the-variants.{WellFormed, Corrupt as NotWellFormed}
@@ -31,7 +31,7 @@ use Rattle.model.proofs.Refusals.Refusing.{refused-as, refusing}
 use Rattle.model.proofs.Agreement.Mirror.{mirror}
 use Rattle.model.proofs.Agreement.EditsWritten.{history-one, makers-one, users-after, owners-after}
 use Rattle.model.proofs.Agreement.EditsAlike.{call-alike}
-use Rattle.model.proofs.Agreement.EditsRefused.{through, first-two, never-one, give-six, take-six, lock-six, drop-six}
+use Rattle.model.proofs.Agreement.EditsRefused.{through, first-two, first-gone, never-one, give-six, take-six, lock-six, drop-six}
 use Rattle.model.proofs.Agreement.EditsAccepted.{start-one, new-free, key-free, give-free, take-free, drop-free}
 
 same-where : {u : Option ℕ} {v : ℕ} (w : Option ℕ) (b : Bool) → (b ≡ true → u ≡ some v) → cond b (some v) w ≡ cond b u w
@@ -84,6 +84,10 @@ module _ (xs : List Call) (next : Call) where
   edits-after =
       record {
         noThread = no-thread;
+        notLive = λ q e h.
+            let s = requests-exactly next q .0 e in
+            subst (λ (a : ℕ). (r ≡ Refused NoThread) ↔ (history es .threads a ≡ none)) (sym (ap (λ (y : Call). y .a) s))
+            (through (refused-as outcomeOf d next q e NoThread) (first-gone es d m (next .text) q (sym (ap (hasLetter runLetters) s) ∙ h)));
         noStranger = λ q e h p.
             let s = requests-exactly next q .0 e in
             never-one es d m (next .text) q (sym (ap (hasLetter editLetters) s) ∙ h) (refused-as outcomeOf d next q e UnknownUser .0 p);

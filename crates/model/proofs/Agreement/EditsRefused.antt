@@ -22,14 +22,14 @@ use Rattle.call.proofs.EveryRequest.{every-request}
 use Rattle.model.specs.declared.answer.Refusal.{Refusal}
 use Rattle.model.specs.declared.answer.Refusal.the-variants.{UnknownUser, NoThread, NoSegment, NoKey, NoLock, NotOwner}
 use Rattle.model.specs.Threads.{Thread}
-use Rattle.model.specs.State.{State, isSegment, isKey, editor, userOf, owns, made, hasLock, isLock, lockSegment}
+use Rattle.model.specs.State.{State, isLive, isSegment, isKey, editor, userOf, owns, made, hasLock, isLock, lockSegment}
 use Rattle.model.specs.Refusals.{conditions, unless, unknownEditor}
 use Rattle.model.specs.Cells.{Cells, stateOf}
 use Rattle.model.specs.History.{Event, Lock, history, acceptedOf}
 use Rattle.model.specs.Theorems.Mirror.{Mirrors}
 use Rattle.model.specs.Theorems.Refusing.{someHolds}
 use Rattle.model.specs.Theorems.Neighbours.{hasLetter}
-use Rattle.model.specs.Theorems.Editing.{editLetters, AnothersSegment, AnothersSegmentOrKey}
+use Rattle.model.specs.Theorems.Editing.{editLetters, runLetters, AnothersSegment, AnothersSegmentOrKey}
 use Rattle.model.proofs.Refusals.Refusing.{gives, refusal-in, exactly-here}
 use Rattle.model.proofs.Agreement.Editors.{live-as, keys-as, anothers, is-anothers, anothers-key, is-anothers-key, passes-live, passes-key}
 
@@ -95,6 +95,32 @@ module _ (es : List Event) (d : Cells) (m : Mirrors es (stateOf d)) (text : List
       no-editor q (callOf q text .a)
       (begins q ∙ ap (λ (b : Bool). cond b (unknownEditor s₀ (callOf q text .a) ∷ later q) (conditions outcomeOf s₀ q text)) h)
       (sym (ap (λ (b : Bool). b && any (λ c. gives NoThread (c .refusal)) (later q)) h) ∙ no-two q)
+
+  -- the same of E, C, R and A, whose first condition asks whether the thread is live
+  abbrev runs : Request → Bool
+  runs q = hasLetter runLetters (callOf q text)
+
+  runs-begin : (q : Request)
+      → conditions outcomeOf s₀ q text ≡ cond (runs q) (unless (isLive s₀ (callOf q text .a)) NoThread ∷ later q) (conditions outcomeOf s₀ q text)
+  unfolding conditions
+  runs-begin q =
+      every-request (λ r. conditions outcomeOf s₀ r text)
+      (λ r. cond (runs r) (unless (isLive s₀ (callOf r text .a)) NoThread ∷ later r) (conditions outcomeOf s₀ r text))
+      (λ a b c. refl) q
+
+  runs-no-two : (q : Request) → (runs q && any (λ c. gives NoThread (c .refusal)) (later q)) ≡ false
+  unfolding conditions
+  runs-no-two q = every-request (λ r. runs r && any (λ c. gives NoThread (c .refusal)) (later r)) (λ r. false) (λ a b c. refl) q
+
+  pub first-gone : (q : Request) → runs q ≡ true → (first q ≡ some NoThread) ↔ (history es .threads (callOf q text .a) ≡ none)
+  first-gone q h =
+      let a : ℕ = callOf q text .a in
+      let (to, from) = alone NoThread q [] (not (isLive s₀ a)) (later q)
+      (runs-begin q ∙ ap (λ (b : Bool). cond b (unless (isLive s₀ a) NoThread ∷ later q) (conditions outcomeOf s₀ q text)) h) refl
+      (sym (ap (λ (b : Bool). b && any (λ c. gives NoThread (c .refusal)) (later q)) h) ∙ runs-no-two q) in
+      let (gone, was) = is-none (history es .threads a) in
+      let lives : not (isLive s₀ a) ≡ not (isSome (history es .threads a)) = ap not (m .live a) in
+      (λ e. gone (sym lives ∙ to e .1), λ e. from (refl, lives ∙ was e))
 
   pub never-one : (q : Request) → edits q ≡ true → first q ≡ some UnknownUser → ⊥
   never-one q h e =

@@ -24,7 +24,7 @@ use Rattle.model.specs.declared.answer.Answer.the-variants.{Accepted, Re
 use Rattle.model.specs.Answers.{isAccepted}
 use Rattle.model.specs.Threads.{Frame, Thread, sameKey, isIn}
 use Rattle.model.specs.History.{History, Event, event, emptyHistory, onFrames, strikeKey, strikeFrom, listOf, note, noteAnswer, advance, historyFrom, history, counts}
-use Rattle.model.specs.Theorems.Revocation.{OpenCall, takenFrom, handedOver, later, openNext, openFrom, openCalls}
+use Rattle.model.specs.Theorems.Revocation.{OpenCall, takenFrom, handedOver, andThen, openNext, openFrom, openCalls}
 use Rattle.model.proofs.Keys.{same-back}
 use Rattle.model.proofs.Agreement.EditsWritten.{history-one}
 
@@ -69,12 +69,12 @@ module _ (e : Event) (o : OpenCall) where
   abbrev less : List Key → Frame
   less taken = record { segment = s; keys = keep (λ k. not (isIn k taken)) list }
 
-  not-taken : isTake e s ≡ false → handedOver (later e o) ≡ handedOver o
+  not-taken : isTake e s ≡ false → handedOver (andThen e o) ≡ handedOver o
   not-taken f =
       let same : takenFrom s (o .since ++ e ∷ []) ≡ takenFrom s (o .since) = taken-one s (o .since) e ∙ simp f (append-nil (takenFrom s (o .since))) in
       ap less same
 
-  is-struck : counts letters.T e ≡ true → handedOver (later e o) ≡ strikeFrom (e .call .b) (e .call .c) (handedOver o)
+  is-struck : counts letters.T e ≡ true → handedOver (andThen e o) ≡ strikeFrom (e .call .b) (e .call .c) (handedOver o)
   is-struck t =
       caseBool (eqb s (e .call .b))
       (λ q. let take : isTake e s ≡ true = simp (t, q) in
@@ -84,13 +84,13 @@ module _ (e : Event) (o : OpenCall) where
       (λ q. let take : isTake e s ≡ false = simp (t, q) in not-taken take ∙ sym (simp q))
 
 module _ (e : Event) (os : List OpenCall) where
-  still-same : counts letters.T e ≡ false → map handedOver (map (later e) os) ≡ map handedOver os
+  still-same : counts letters.T e ≡ false → map handedOver (map (andThen e) os) ≡ map handedOver os
   still-same f =
-      map-map handedOver (later e) os ∙ map-same _ _ (λ o. not-taken e o (let g : isTake e (o .segment) ≡ false = simp f in g)) os
+      map-map handedOver (andThen e) os ∙ map-same _ _ (λ o. not-taken e o (let g : isTake e (o .segment) ≡ false = simp f in g)) os
 
-  still-struck : counts letters.T e ≡ true → map handedOver (map (later e) os) ≡ map (strikeFrom (e .call .b) (e .call .c)) (map handedOver os)
+  still-struck : counts letters.T e ≡ true → map handedOver (map (andThen e) os) ≡ map (strikeFrom (e .call .b) (e .call .c)) (map handedOver os)
   still-struck t =
-      map-map handedOver (later e) os ∙ map-same _ _ (λ o. is-struck e o t) os ∙ sym (map-map (strikeFrom (e .call .b) (e .call .c)) handedOver os)
+      map-map handedOver (andThen e) os ∙ map-same _ _ (λ o. is-struck e o t) os ∙ sym (map-map (strikeFrom (e .call .b) (e .call .c)) handedOver os)
 
 -- a call that is opened hands its list over whole
 opened : (es : List Event) (b : ℕ) → handedOver (record { before = es; segment = b; since = [] }) ≡ record { segment = b; keys = listOf (history es) b }
@@ -129,7 +129,7 @@ module _ (n : ℕ) where
     Next q text = Handed (note h q text k) (openNext n es (event (callOf q text) (Accepted k)) os)
 
     -- a request that changes no frame
-    idle : (e : Event) → counts letters.T e ≡ false → Handed h (map (later e) os)
+    idle : (e : Event) → counts letters.T e ≡ false → Handed h (map (andThen e) os)
     idle e f fs p = inv fs p ∙ sym (still-same e os f)
 
     -- a change of the frames that the thread has
@@ -171,7 +171,7 @@ module _ (n : ℕ) where
     next-request (request.ReturnCall a) text fs p =
         let e = event (callOf (request.ReturnCall a) text) (Accepted k) in
         caseBool (eqb n a)
-        (λ t. simp t (changed tailOf fs (rw t at p) ∙ ap tailOf (sym (still-same e os refl)) ∙ sym (tail-map (map (later e) os))))
+        (λ t. simp t (changed tailOf fs (rw t at p) ∙ ap tailOf (sym (still-same e os refl)) ∙ sym (tail-map (map (andThen e) os))))
         (λ t. simp t (idle e refl fs (rw t at p)))
     next-request (request.Access a b c) text fs p = idle (event (callOf (request.Access a b c) text) (Accepted k)) refl fs p
 

@@ -5,11 +5,11 @@ use mathlib.Core.Path.{_≡_, refl, sym, ap, subst, _∙_}
 use mathlib.Core.Bool.{Bool, true, false, _&&_, not, cond, false≢true, true≢false}
 use mathlib.Core.List.{List, [], _∷_, _++_, map, List·Memᴰ}
 use mathlib.Core.Option.{Option, none, some}
-use Prim.Native.Nat.{ℕ, zero, suc, _≤_}
+use Prim.Native.Nat.{ℕ, zero, suc, _≤_, _%_}
 use native.Mathlib.Omega.{arith}
-use lib.Dec.{eqb, ltb}
-use lib.ListN.{length, getD}
-use borrow.Author.Tests.{eqb-true, eq-eqb, ltb-false}
+use lib.Dec.{eqb, ltb, eqb·suc-zero}
+use lib.ListN.{length, getD, List·getD-map}
+use borrow.Author.Tests.{eqb-true, eq-eqb, ltb-false, not-false}
 use Rattle.product.specs.declared.literal.Key.{Key}
 use Rattle.product.specs.declared.literal.Key.the-variants.{Segment as SegmentKey, Defined}
 use Rattle.formula.specs.Outcome.{outcomeOf}
@@ -21,20 +21,26 @@ use Rattle.call.specs.Calls.{Call, decoded}
 use Rattle.call.specs.Requests.{callOf}
 use Rattle.call.specs.Letters as letters
 use Rattle.call.proofs.Requests.{requests-exactly}
-use Rattle.base.specs.Lists.{isSome, mapOption, orDefault}
-use Rattle.base.proofs.Lists.{All, caseBool}
-use Rattle.base.proofs.Truth.{never-true}
+use Rattle.base.specs.Lists.{indexOf, isSome, mapOption, orDefault, keep, adjust}
+use Rattle.model.specs.Refusals.{conditions}
+use Rattle.base.proofs.Lists.{All, caseBool, any-found, any-passes, map-same}
+use Rattle.base.proofs.Truth.{never-true, neither}
+use mathlib.Core.Logic.{_↔_}
 use Rattle.model.specs.declared.answer.Answer.{Answer}
 use Rattle.model.specs.declared.answer.Answer.the-variants.{Accepted, Refused}
 use Rattle.model.specs.Answers.{isAccepted, answerValue}
 use Rattle.model.specs.Threads.{Frame, Thread, sameKey, isIn, hands}
-use Rattle.model.specs.State.{State, Segment, blankSegment, segmentAt, threadAt}
-use Rattle.model.specs.Cells.{Cells, stateOf, emptyCells}
+use Rattle.model.specs.State.{State, Segment, Place, free, taken, blankThread, isThread, placeOf, threadIn, findThread, blankSegment, segmentAt, isLive, threadAt}
+use Rattle.model.specs.Limits.{mostThreads}
+use Rattle.model.specs.Model.{step}
+use Rattle.model.specs.Effects.{onThread, revokeFrame, revokeThread, update}
+use Rattle.model.proofs.Agreement.HistoryAnswers.{taken as taken-as}
+use Rattle.model.specs.Cells.{Cells, Sized, stateOf, emptyCells}
 use Rattle.model.specs.Stores.{stepCells}
-use Rattle.model.specs.History.{History, Event, Entry, event, emptyHistory, onKeys, onFrames, strikeKey, strikeFrom, listOf, note, noteAnswer, advance, history, counts}
+use Rattle.model.specs.History.{History, Event, Entry, Lock, event, emptyHistory, onKeys, onFrames, strikeKey, strikeFrom, listOf, note, noteAnswer, advance, history, counts}
 use Rattle.model.specs.Replay.{reached, events, eventsIn, answerTo}
 use Rattle.model.specs.Theorems.Mirror.{Mirrors}
-use Rattle.model.specs.Theorems.Revocation.{Withdrawn, AllWithdrawn, Revokes, Revocation}
+use Rattle.model.specs.Theorems.Revocation.{Withdrawn, AllWithdrawn, framesAt, lockMade, Revokes, Revocation}
 use Rattle.model.proofs.Keys.{same-key, key-same, in-without}
 use Rattle.model.proofs.Refusals.Refusing.{refusing}
 use Rattle.model.proofs.Refinement.EveryCall.{refinement}
@@ -85,6 +91,56 @@ module _ (h : History) (k : ℕ) where
   note-list (request.ReturnCall a) text g s = refl
   note-list (request.Access a b c) text g s = refl
 
+-- ---- kinds and locks
+
+abbrev kindAfter : History → Call → Answer → ℕ → Option ℕ
+kindAfter h x y s = cond (counts letters.N (event x y) && eqb s (answerValue y)) (some (x .b)) (mapOption (λ e. e .kind) (h .segments s))
+
+abbrev locksAfter : History → Call → Answer → List Lock
+locksAfter h x y =
+    cond (counts letters.L (event x y)) (h .locks ++ lockMade x (answerValue y) ∷ [])
+    (cond (counts letters.D (event x y)) (keep (λ l. not (eqb (l .number) (x .b))) (h .locks)) (h .locks))
+
+kind-kept : (f : List Key → List Key) (o : Option Entry) → mapOption (λ e. e .kind) (mapOption (onKeys f) o) ≡ mapOption (λ e. e .kind) o
+kind-kept f none = refl
+kind-kept f (some e) = refl
+
+module _ (h : History) (k : ℕ) where
+  kind-listed : (b s : ℕ) (f : List Key → List Key) → mapOption (λ e. e .kind) (adjust (h .segments) b (onKeys f) s) ≡ mapOption (λ e. e .kind) (h .segments s)
+  kind-listed b s f = caseBool (eqb s b) (λ p. simp p (kind-kept f (h .segments s))) (λ p. simp p)
+
+  note-kind : (q : Request) (text : List ℕ) (s : ℕ) → mapOption (λ e. e .kind) (note h q text k .segments s) ≡ kindAfter h (callOf q text) (Accepted k) s
+  unfolding note
+  note-kind request.NewUser text s = refl
+  note-kind (request.StartThread a) text s = refl
+  note-kind (request.EndThread a) text s = refl
+  note-kind (request.NewSegment a b) text s = caseBool (eqb s k) (λ e. simp e) (λ e. simp e)
+  note-kind (request.NewKey a) text s = refl
+  note-kind (request.GiveKey a b c) text s = kind-listed b s _
+  note-kind (request.TakeKey a b c) text s = kind-listed b s _
+  note-kind (request.AddLock a b c) text s = refl
+  note-kind (request.DropLock a b) text s = refl
+  note-kind (request.CallSegment a b) text s = refl
+  note-kind (request.ReturnCall a) text s = refl
+  note-kind (request.Access a b c) text s = refl
+
+  note-locks : (q : Request) (text : List ℕ) → note h q text k .locks ≡ locksAfter h (callOf q text) (Accepted k)
+  unfolding note
+  note-locks request.NewUser text = refl
+  note-locks (request.StartThread a) text = refl
+  note-locks (request.EndThread a) text = refl
+  note-locks (request.NewSegment a b) text = refl
+  note-locks (request.NewKey a) text = refl
+  note-locks (request.GiveKey a b c) text = refl
+  note-locks (request.TakeKey a b c) text = refl
+  note-locks (request.AddLock a b c) text = refl
+  note-locks (request.DropLock a b) text = refl
+  note-locks (request.CallSegment a b) text = refl
+  note-locks (request.ReturnCall a) text = refl
+  note-locks (request.Access a b c) text = refl
+
+-- ---- what a T leaves of an open call
+
 beyond : (gs : List Segment) (s : ℕ) → length gs ≤ s → getD gs s blankSegment ≡ blankSegment
 beyond [] s h = refl
 beyond (g ∷ gs) zero h = absurd (omega arith)
@@ -106,6 +162,56 @@ withdrawn b c f =
 all-withdrawn : (b c : ℕ) (fs : List Frame) → AllWithdrawn b c fs (map (strikeFrom b c) fs)
 all-withdrawn b c [] = tt
 all-withdrawn b c (f ∷ fs) = (withdrawn b c f, all-withdrawn b c fs)
+
+-- ---- on the arrays
+
+module _ (n : ℕ) (f : Thread → Thread) where
+  same-test : (x : Place) → isThread n (onThread f x) ≡ isThread n x
+  same-test free = refl
+  same-test (taken k t) = refl
+
+  index-each : (xs : List Place) → indexOf (isThread n) (map (onThread f) xs) ≡ indexOf (isThread n) xs
+  index-each [] = refl
+  index-each (free ∷ xs) = ap suc (index-each xs)
+  index-each (taken k t ∷ xs) = ap (λ (m : ℕ). cond (eqb n k) 0 (suc m)) (index-each xs)
+
+  place-each : (xs : List Place) → placeOf n (map (onThread f) xs) ≡ placeOf n xs
+  place-each xs =
+      simp (List·getD-map (onThread f) xs (n % mostThreads) free, same-test (getD xs (n % mostThreads) free), index-each xs)
+
+  find-each : (xs : List Place) → findThread n (map (onThread f) xs) ≡ mapOption f (findThread n xs)
+  find-each xs =
+      ap (λ (i : ℕ). threadIn (getD (map (onThread f) xs) i free)) (place-each xs)
+      ∙ ap threadIn (List·getD-map (onThread f) xs (placeOf n xs) free) ∙ by (getD xs (placeOf n xs) free)
+    where
+      by : (x : Place) → threadIn (onThread f x) ≡ mapOption f (threadIn x)
+      by free = refl
+      by (taken k t) = refl
+
+all-revoked : (b c : ℕ) (fs : List Frame) → AllWithdrawn b c fs (map (revokeFrame b c) fs)
+all-revoked b c fs =
+    subst (AllWithdrawn b c fs) (map-same (strikeFrom b c) (revokeFrame b c) (λ f. caseBool (eqb (f .segment) b) (λ e. simp e) (λ e. simp e)) fs) (all-withdrawn b c fs)
+
+of-thread : (b c : ℕ) (o : Option Thread)
+    → AllWithdrawn b c (orDefault blankThread (λ t. t) o .frames) (orDefault blankThread (λ t. t) (mapOption (revokeThread b c) o) .frames)
+of-thread b c none = tt
+of-thread b c (some t) = all-revoked b c (t .frames)
+
+on-arrays : (d : Cells) → Sized d → (next : Call) (a b c : ℕ) → decoded next ≡ WellFormed (request.TakeKey a b c) → isAccepted (stepCells outcomeOf d next .answer) ≡ true
+    → (n : ℕ) → AllWithdrawn b c (framesAt d n) (framesAt (stepCells outcomeOf d next .cells) n)
+unfolding update
+on-arrays d z next a b c e y n = by (step outcomeOf (stateOf d) next .answer) refl (ap isAccepted (sym (refinement .call d z next .answer)) ∙ y)
+  where
+    by : (r : Answer) → step outcomeOf (stateOf d) next .answer ≡ r → isAccepted (step outcomeOf (stateOf d) next .answer) ≡ true
+        → AllWithdrawn b c (framesAt d n) (framesAt (stepCells outcomeOf d next .cells) n)
+    by (Accepted k) p q =
+        let t = taken-as outcomeOf (stateOf d) next (request.TakeKey a b c) k e p in
+        let same : stateOf (stepCells outcomeOf d next .cells) .places ≡ map (onThread (revokeThread b c)) (stateOf d .places) =
+        ap (λ (s : State). s .places) (refinement .call d z next .state ∙ t .state) in
+        let found : threadAt (stateOf (stepCells outcomeOf d next .cells)) n ≡ orDefault blankThread (λ t. t) (mapOption (revokeThread b c) (findThread n (stateOf d .places))) =
+        ap (λ (ps : List Place). orDefault blankThread (λ t. t) (findThread n ps)) same ∙ ap (orDefault blankThread (λ t. t)) (find-each n (revokeThread b c) (stateOf d .places)) in
+        subst (λ (u : Thread). AllWithdrawn b c (framesAt d n) (u .frames)) (sym found) (of-thread b c (findThread n (stateOf d .places)))
+    by (Refused x) p q = absurd (false≢true (sym (ap isAccepted p) ∙ q))
 
 -- ---- one call
 
@@ -161,6 +267,62 @@ module _ (xs : List Call) (next : Call) where
           (note-list h k q (next .text) (given (ap isAccepted p) q d) s)
       by (WellFormed q) d (Refused z) p = refl
 
+  kinds-after : (s : ℕ) → mapOption (λ e. e .kind) (advance h e .segments s) ≡ kindAfter h next r s
+  unfolding advance
+  kinds-after s = by (decoded next) refl r refl
+    where
+      by : (d : Decoded) → decoded next ≡ d → (y : Answer) → r ≡ y → mapOption (λ e. e .kind) (noteAnswer h d (next .text) y .segments s) ≡ kindAfter h next y s
+      by NotWellFormed d (Accepted k) p = absurd (true≢false (sym (ap isAccepted p) ∙ formed d))
+      by NotWellFormed d (Refused z) p = refl
+      by (WellFormed q) d (Accepted k) p =
+          subst (λ (x : Call). mapOption (λ e. e .kind) (note h q (next .text) k .segments s) ≡ kindAfter h x (Accepted k) s) (sym (requests-exactly next q .0 d))
+          (note-kind h k q (next .text) s)
+      by (WellFormed q) d (Refused z) p = refl
+
+  locks-after : advance h e .locks ≡ locksAfter h next r
+  unfolding advance
+  locks-after = by (decoded next) refl r refl
+    where
+      by : (d : Decoded) → decoded next ≡ d → (y : Answer) → r ≡ y → noteAnswer h d (next .text) y .locks ≡ locksAfter h next y
+      by NotWellFormed d (Accepted k) p = absurd (true≢false (sym (ap isAccepted p) ∙ formed d))
+      by NotWellFormed d (Refused z) p = refl
+      by (WellFormed q) d (Accepted k) p =
+          subst (λ (x : Call). note h q (next .text) k .locks ≡ locksAfter h x (Accepted k)) (sym (requests-exactly next q .0 d))
+          (note-locks h k q (next .text))
+      by (WellFormed q) d (Refused z) p = refl
+
+  abbrev s₀ : State
+  s₀ = stateOf (reached outcomeOf xs)
+
+  m₀ : Mirrors es s₀
+  m₀ = mirror .state xs
+
+  abbrev Open : ℕ → Type 0
+  Open a = (t : Thread) × (f : Frame) × (fs : List Frame) × (h .threads a ≡ some t) × (t .frames ≡ f ∷ fs)
+
+  returned-after : (a : ℕ) → decoded next ≡ WellFormed (request.ReturnCall a) → (isAccepted r ≡ true) ↔ Open a
+  unfolding conditions
+  returned-after a d =
+      let (to, from) = refusing outcomeOf (reached outcomeOf xs) next .accepted (request.ReturnCall a) d in (
+        λ y.
+            let (l, rest) = neither _ _ (to y) in
+            let (z, none-left) = neither _ _ rest in
+            by (h .threads a) refl (sym (m₀ .live a) ∙ not-false _ l) z,
+        λ (t, f, fs, p, q).
+            let live : isLive s₀ a ≡ true = m₀ .live a ∙ ap isSome p in
+            let some-left : eqb (length (threadAt s₀ a .frames)) 0 ≡ false =
+            ap (λ (u : Thread). eqb (length (u .frames)) 0) (m₀ .thread a t p) ∙ ap (λ (gs : List Frame). eqb (length gs) 0) q ∙ eqb·suc-zero (length fs) in
+            from (rw (live, some-left)),
+      )
+    where
+      first : (t : Thread) (fs : List Frame) → t .frames ≡ fs → h .threads a ≡ some t → eqb (length fs) 0 ≡ false → Open a
+      first t [] q p z = absurd (true≢false z)
+      first t (f ∷ fs) q p z = (t, f, fs, p, q)
+
+      by : (o : Option Thread) → h .threads a ≡ o → isSome (h .threads a) ≡ true → eqb (length (threadAt s₀ a .frames)) 0 ≡ false → Open a
+      by none p l z = absurd (false≢true (sym (ap isSome p) ∙ l))
+      by (some t) p l z = first t (t .frames) refl p (ap (λ (u : Thread). eqb (length (u .frames)) 0) (sym (m₀ .thread a t p)) ∙ z)
+
   taken-after : (a b c : ℕ) → decoded next ≡ WellFormed (request.TakeKey a b c) → isAccepted r ≡ true → (n : ℕ) (t : Thread) → h .threads n ≡ some t
       → history (es ++ e ∷ []) .threads n ≡ some (onFrames (map (strikeFrom b c)) t)
   unfolding note
@@ -170,9 +332,12 @@ module _ (xs : List Call) (next : Call) where
   revokes-after : Revokes es next r
   revokes-after =
       record {
-        lists = λ s. ap (λ (g : History). listOf g s) one ∙ lists-after s;
         taken = λ a b c d y n t live. (onFrames (map (strikeFrom b c)) t, taken-after a b c d y n t live, refl, all-withdrawn b c (t .frames));
         refused = λ f. one ∙ unmoved f;
+        lists = λ s. ap (λ (g : History). listOf g s) one ∙ lists-after s;
+        kinds = λ s. ap (λ (g : History). mapOption (λ (x : Entry). x .kind) (g .segments s)) one ∙ kinds-after s;
+        locks = ap (λ (g : History). g .locks) one ∙ locks-after;
+        returned = returned-after;
       }
 
 -- ---- every list of calls
@@ -206,7 +371,12 @@ module _ (xs : List Call) where
 pub revocation : Revocation
 revocation =
     record {
+      handsExactly = λ f k. (
+        λ e. let (j, m, s) = any-found (sameKey k) (f .keys) e in subst (λ (x : Key). List·Memᴰ x (f .keys)) (sym (same-key k j s)) m,
+        λ m. any-passes (sameKey k) k (f .keys) m (key-same k k refl),
+      );
       revokes = revokes-after;
+      withdrawn = on-arrays;
       handed = λ xs n t live. handed-over n (events outcomeOf xs) (all-formed n emptyCells xs) (t .frames) (ap (mapOption (λ u. u .frames)) live);
       current = λ xs n t live f m k l.
           let there : List·Memᴰ f (threadAt (state xs) n .frames) = subst (λ (u : Thread). List·Memᴰ f (u .frames)) (sym (mirror .state xs .thread n t live)) m in

@@ -63,7 +63,7 @@ handed-after = refl
 handed-last : map (handsThen revoked) (0 ∷ 1 ∷ 2 ∷ [])
     ≡ some (opened 0 (Defined 1 ∷ []) ∷ [])
     ∷ none
-    ∷ some (opened 1 [] ∷ opened 0 (Defined 1 ∷ []) ∷ [])
+    ∷ some (opened 0 (Defined 1 ∷ []) ∷ [])
     ∷ []
 unfolding computing
 handed-last = refl

@@ -31,6 +31,10 @@ use Rattle.model.specs.Theorems.Neighbours.{hasLetter}
 abbrev pub editLetters : List ℕ
 editLetters = letters.N ∷ letters.K ∷ letters.G ∷ letters.T ∷ letters.L ∷ letters.D ∷ []
 
+-- the other letters whose field a names a thread; `everyEditLetter` of `SideBySide` has both
+abbrev pub runLetters : List ℕ
+runLetters = letters.E ∷ letters.C ∷ letters.R ∷ letters.A ∷ []
+
 -- thread a is live and segment s handed out, and the segment's owner isn't the thread's user
 pub record AnothersSegment (es : List Event) (a s : ℕ) : Type 0 where
   pub thread : Thread
@@ -72,6 +76,9 @@ byThread a x = callWith (x .letter) a (x .b) (x .c) (x .text)
 pub record Edits (es : List Event) (next : Call) (r : Answer) : Type 0 where
   -- 2 exactly where the thread of field a isn't live, whatever else is named; and 1 never
   pub noThread : (q : Request) → decoded next ≡ WellFormed q → hasLetter editLetters next ≡ true
+      → (r ≡ Refused NoThread) ↔ (history es .threads (next .a) ≡ none)
+  -- and so of the other letters that name a thread, E, C, R and A
+  pub notLive : (q : Request) → decoded next ≡ WellFormed q → hasLetter runLetters next ≡ true
       → (r ≡ Refused NoThread) ↔ (history es .threads (next .a) ≡ none)
   pub noStranger : (q : Request) → decoded next ≡ WellFormed q → hasLetter editLetters next ≡ true
       → r ≡ Refused UnknownUser → ⊥

@@ -17,7 +17,7 @@ use Rattle.call.specs.Requests.{callOf}
 use Rattle.model.specs.Answers.{answerNumber}
 use Rattle.model.specs.Replay.{events, answerTo}
 use Rattle.model.specs.Notation.{Expected, U, S, E, N, K, G, T, L, D, C, R, A, ok, no, callsOf, got, Happens}
-use Rattle.model.specs.Theorems.Editing.{editLetters}
+use Rattle.model.specs.Theorems.Editing.{editLetters, runLetters}
 use Rattle.model.specs.Theorems.Neighbours.{strike, threadLetters, answersTo, answersLeft}
 
 -- A letter whose field a names a thread is refused by 2 in the empty state, which has none.
@@ -69,20 +69,21 @@ ownEditing =
     ∷ no (N 1 2) 7 0
     ∷ []
 
--- sixteen open calls, one too many, a return, and three that are not well formed
+-- sixteen open calls, one too many, a return, a save on the sheet that D1 opens, and three that are not well formed
 abbrev pub nesting : List Expected
 nesting =
     replicate 14 (ok (C 1 1) 1)
     ++ no (C 1 1) 10 0
     ∷ ok (R 1) 1
+    ∷ ok (A 1 3 4) 5
     ∷ no (callWith letters.C 1 0 5 []) 18 0
     ∷ no (callWith letters.R 1 0 9 []) 18 0
     ∷ no (callWith letters.A 1 2 4 (bytes "U0")) 18 0
     ∷ []
 
--- it saves once more, also on the sheet that D1 opens, and is ended with fifteen open calls
+-- it saves once more, no longer on the sheet that D1 opens, and is ended with fifteen open calls
 abbrev pub ending : List Expected
-ending = ok (A 1 2 4) 2 ∷ ok (A 1 3 4) 5 ∷ ok (E 1) 15 ∷ no (A 1 2 4) 2 0 ∷ no (K 1) 2 0 ∷ no (E 1) 2 0 ∷ []
+ending = ok (A 1 2 4) 2 ∷ no (A 1 3 4) 15 0 ∷ ok (E 1) 15 ∷ no (A 1 2 4) 2 0 ∷ no (K 1) 2 0 ∷ no (E 1) 2 0 ∷ []
 
 abbrev pub own : List Expected
 own = loading ++ recalculating ++ ownEditing ++ nesting ++ ending
@@ -109,12 +110,13 @@ editing =
     ∷ no (callWith 99 0 1 0 []) 18 0
     ∷ []
 
--- an E of no live thread and one that is not well formed are refused; threads 0 and 2 end, with so many open calls;
--- another starts
+-- an E of no live thread and one that is not well formed are refused; thread 0 takes D1 from the recalculation, also
+-- from thread 1's open calls of it; threads 0 and 2 end, with so many open calls; another starts
 abbrev pub changing : ℕ → ℕ → List Expected
 changing closed₀ closed₂ =
     no (E 65) 2 0
     ∷ no (callWith letters.E 0 1 0 []) 18 0
+    ∷ ok (T 0 1 1) 1
     ∷ ok (E 0) closed₀
     ∷ ok (E 2) closed₂
     ∷ ok (S 1) 3
@@ -214,9 +216,8 @@ quiet =
 
 pub record SideBySide : Type 0 where
   pub everyThreadLetter : map (λ r. r .letter) (keep namesThread (table 0 0 0)) ≡ threadLetters
-  -- the others among them are E, C, R and A
-  pub everyEditLetter : keep (λ l. not (any (eqb l) (letters.E ∷ letters.C ∷ letters.R ∷ letters.A ∷ []))) threadLetters
-      ≡ editLetters
+  -- they are those of edits and the others
+  pub everyEditLetter : keep (λ l. not (any (eqb l) runLetters)) threadLetters ≡ editLetters
   pub busyHappens : Happens busy
   pub quietHappens : Happens quiet
   pub busyStruck : strike 1 (callsOf busy) ≡ callsOf whatIsLeft

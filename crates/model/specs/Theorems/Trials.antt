@@ -284,8 +284,9 @@ withdrawal =
     ∷ no (A 2 2 4) 15 0
     ∷ []
 
--- D0 is given again, which serves thread 1's next call of segment 0 and no open one; a second T of a key that isn't in
--- the list withdraws nothing. Then D0 is taken from segment 1, and thread 2 has lost it too.
+-- D0 is given again, which serves thread 1's next call of segment 0 and no open one. A T of D1 from segment 1, which
+-- hasn't it, is 9, and segment 0's open calls still hand D1 over, as the last saves show. Then D0 is taken from segment
+-- 1 too: its open call in thread 2 has its own key alone, and is returned from like any other.
 abbrev pub givenAgain : List Expected
 givenAgain =
     ok (G 1 0 0) 3
@@ -299,6 +300,8 @@ givenAgain =
     ∷ ok (A 2 2 2) 2
     ∷ ok (T 1 1 0) 1
     ∷ no (A 2 2 2) 15 0
+    ∷ ok (A 2 2 4) 3
+    ∷ ok (R 2) 1
     ∷ ok (A 2 2 4) 3
     ∷ ok (E 1) 2
     ∷ []
@@ -433,7 +436,7 @@ pub record Trials : Type 0 where
   pub handedLast : map (handsThen revoked) (0 ∷ 1 ∷ 2 ∷ [])
       ≡ some (opened 0 (Defined 1 ∷ []) ∷ [])
       ∷ none
-      ∷ some (opened 1 [] ∷ opened 0 (Defined 1 ∷ []) ∷ [])
+      ∷ some (opened 0 (Defined 1 ∷ []) ∷ [])
       ∷ []
   pub usersHappen : Happens users
   pub segmentsHappen : Happens segments
