@@ -153,6 +153,18 @@ module _ {A : Type 0} where
   All-keep P p [] h = tt
   All-keep P p (x ∷ xs) h = caseBool (p x) (λ e. simp e (h .0, All-keep P p xs (h .1))) (λ e. simp e (All-keep P p xs (h .1)))
 
+  -- what is kept was there, and passes
+  pub keep-members : (p : A → Bool) (xs : List A) → All (λ x. List·Memᴰ x xs × (p x ≡ true)) (keep p xs)
+  keep-members p [] = tt
+  keep-members p (x ∷ xs) =
+      let rest = All-map {Q = λ y. List·Memᴰ y (x ∷ xs) × (p y ≡ true)} (λ y m. (List·Memᴰ·tail (m .0), m .1)) (keep p xs) (keep-members p xs) in
+      caseBool (p x) (λ e. simp e ((List·Memᴰ·head refl, refl), rest)) (λ e. simp e rest)
+
+  pub keep-member : (p : A → Bool) (x : A) (xs : List A) → List·Memᴰ x xs → p x ≡ true → List·Memᴰ x (keep p xs)
+  keep-member p x (y ∷ ys) (List·Memᴰ·head i) t = simp (sym (ap p i) ∙ t) (List·Memᴰ·head i)
+  keep-member p x (y ∷ ys) (List·Memᴰ·tail m) t =
+      caseBool (p y) (λ e. simp e (List·Memᴰ·tail (keep-member p x ys m t))) (λ e. simp e (keep-member p x ys m t))
+
   pub indexOf-lt : (p : A → Bool) (xs : List A) → any p xs ≡ true → indexOf p xs < length xs
   indexOf-lt p [] t = absurd (false≢true t)
   indexOf-lt p (x ∷ xs) t = caseBool (p x) (λ e. simp e (suc-le-suc zero-le)) (λ e. simp e (suc-le-suc (indexOf-lt p xs (rw e at t))))
@@ -375,7 +387,7 @@ pub rising-tail : (m : ℕ) (ns : List ℕ) → rising (m ∷ ns) ≡ true → r
 rising-tail m [] h = refl
 rising-tail m (n ∷ ns) h = and-right (ltb m n) (rising (n ∷ ns)) h
 
-rising-skip : (m n : ℕ) (ns : List ℕ) → rising (m ∷ n ∷ ns) ≡ true → rising (m ∷ ns) ≡ true
+pub rising-skip : (m n : ℕ) (ns : List ℕ) → rising (m ∷ n ∷ ns) ≡ true → rising (m ∷ ns) ≡ true
 rising-skip m n [] r = refl
 rising-skip m n (k ∷ ns) r =
     let rest = and-right (ltb m n) _ r in

@@ -2,7 +2,7 @@
 use mathlib.Core.Bool.{Bool, true, false, _&&_, _||_, cond}
 use mathlib.Core.List.{List, [], _∷_, _++_}
 use mathlib.Core.Option.{Option, none, some}
-use Prim.Native.Nat.{ℕ, zero, suc, _+_}
+use Prim.Native.Nat.{ℕ, zero, suc, max, _+_}
 use lib.Dec.{eqb, ltb}
 
 module _ {ℓ} {A : Type ℓ} where
@@ -27,6 +27,19 @@ module _ {ℓ} {A : Type ℓ} where
   abbrev pub first : (A → Bool) → List A → Option A
   first p [] = none
   first p (x ∷ xs) = orElse (p x) x (first p xs)
+
+  -- the greater of what was found before, if anything was, and x; of equal ones what was found before
+  abbrev pub greater : (A → ℕ) → Option A → A → Option A
+  greater size none x = some x
+  greater size (some y) x = cond (ltb (size y) (size x)) (some x) (some y)
+
+  abbrev pub greatestFrom : (A → ℕ) → Option A → List A → Option A
+  greatestFrom size o [] = o
+  greatestFrom size o (x ∷ xs) = greatestFrom size (greater size o x) xs
+
+  -- the greatest element by its size, the first of equal ones
+  abbrev pub greatest : (A → ℕ) → List A → Option A
+  greatest size xs = greatestFrom size none xs
 
   -- the place of the first element that passes the test; the length if none does
   abbrev pub indexOf : (A → Bool) → List A → ℕ
@@ -63,6 +76,11 @@ concatMap f (x ∷ xs) = f x ++ concatMap f xs
 abbrev pub total : List ℕ → ℕ
 total [] = 0
 total (n ∷ ns) = n + total ns
+
+-- the greatest number, 0 where there is none
+abbrev pub maximum : List ℕ → ℕ
+maximum [] = 0
+maximum (n ∷ ns) = max n (maximum ns)
 
 -- each number is above the one before it
 abbrev pub rising : List ℕ → Bool

@@ -1,26 +1,27 @@
--- The row that decides is the model's: its lock is that of the first product that opens among the deny locks', else
--- among the grant locks'.
+-- The row that decides is the model's: its lock is that of the first product that opens among the deny locks', else of
+-- the longest among the grant locks'.
 use mathlib.Core.Path.{_≡_, refl, sym, ap, subst, _∙_}
 use mathlib.Core.Bool.{Bool, true, false, _&&_, not, cond}
-use mathlib.Core.List.{List, [], _∷_}
+use mathlib.Core.List.{List, [], _∷_, map}
 use mathlib.Core.Option.{Option, none, some}
 use Prim.Native.Nat.{ℕ, _/_, _%_}
 use native.Mathlib.Omega.{arith}
-use lib.Dec.{eqb}
-use borrow.Author.Tests.{eqb-true, eqb-false, not-true}
+use lib.Dec.{eqb, ltb}
+use borrow.Author.Tests.{eqb-true, eqb-false, ne-eqb, not-true}
 use Rattle.product.specs.Product.{opens}
 use Rattle.base.proofs.Truth.{and-right}
-use Rattle.base.specs.Lists.{first, isSome, mapOption}
+use Rattle.base.specs.Lists.{keep, first, greatestFrom, greatest, isSome, mapOption}
 use Rattle.model.specs.Operations.{execute, read, write, deny, includes, shares, denies, grants, isOperation}
-use Rattle.model.specs.Refusals.{opensFor, lockOf}
-use Rattle.model.specs.Cells.{Row, Table, cell, isUsed, usedRows, productIn}
-use Rattle.base.proofs.Lists.{caseBool, clash, first-map, some-inj, some≢none}
+use Rattle.model.specs.Refusals.{opensFor, literalCount, lockOf}
+use Rattle.model.specs.Cells.{Row, Table, cell, isUsed, usedRows, literalIn, productIn}
+use Rattle.base.proofs.Lists.{All, caseBool, clash, All-keep, keep-map, keep-same, keep-passes, first-map, length-each, some-inj, some≢none}
+use Rattle.base.proofs.Greatest.{greatest-has, greatest-map}
 use Rattle.model.proofs.Refinement.OperationSets.{Bit, executes, reads, writes, denying, shares-one}
 use Rattle.checking.specs.declared.Checked.{Checked}
 use Rattle.checking.specs.declared.Checked.the-variants.{Granted, Denied, NotGranted}
-use Rattle.checking.specs.Deciding.{keysOf, firstOpening, decide, checkOf}
+use Rattle.checking.specs.Deciding.{keysOf, firstOpening, tightestOpening, decide, checkOf}
 use Rattle.checking.specs.Theorems.SameNumbers.{SameNumbers}
-use Rattle.checking.specs.Internal.{isDeny, opensRow, headOf, openingOf, headChecked, codeChecked}
+use Rattle.checking.specs.Internal.{isDeny, opensRow, headOf, literalsIn, tightestFrom, decidedFrom, openingOf, headChecked, codeChecked}
 
 -- ---- the operations of a row's head are its last four bits
 
@@ -37,7 +38,7 @@ turn true true false = refl
 turn true false true = refl
 turn true false false = refl
 
--- ---- the first row of each kind
+-- ---- the first deny row and the longest grant row
 
 module _ (t : Table) (n : ℕ) where
   abbrev denyRow : Row → Bool
@@ -49,8 +50,20 @@ module _ (t : Table) (n : ℕ) where
 abbrev firstDeny : Table → Table → ℕ → Option Row
 firstDeny t w n = first (denyRow t n) (usedRows w)
 
-abbrev firstGrant : Table → Table → ℕ → Option Row
-firstGrant t w n = first (grantRow t n) (usedRows w)
+abbrev grantRows : Table → Table → ℕ → List Row
+grantRows t w n = keep (grantRow t n) (usedRows w)
+
+abbrev rowSize : Row → ℕ
+rowSize v = literalsIn (cell v 0)
+
+abbrev longestGrant : Table → Table → ℕ → Option Row
+longestGrant t w n = greatest rowSize (grantRows t w n)
+
+row-literals : (v : Row) → literalCount (productIn v) ≡ rowSize v
+row-literals v = length-each (λ i. literalIn (cell v i)) 1 (rowSize v)
+
+same-size : {A : Type 0} (p q : A → ℕ) → ((x : A) → p x ≡ q x) → (xs : List A) → greatest p xs ≡ greatest q xs
+same-size p q h xs = λ i. greatest (λ x. h x i) xs
 
 first-agree : {A : Type 0} (p q : A → Bool) → ((x : A) → p x ≡ q x) → (xs : List A) → first p xs ≡ first q xs
 first-agree p q h xs = λ i. first (λ x. h x i) xs
@@ -69,10 +82,13 @@ module _ {n : ℕ} (t : Table) (b : Bit n) where
       first-map (opensFor denies n (keysOf t)) productIn (usedRows w)
       ∙ ap (mapOption productIn) (first-agree (λ v. opensFor denies n (keysOf t) (productIn v)) (denyRow t n) is-deny-row (usedRows w))
 
-  first-grant : (w : Table) → firstOpening grants t w n ≡ mapOption productIn (firstGrant t w n)
-  first-grant w =
-      first-map (opensFor grants n (keysOf t)) productIn (usedRows w)
-      ∙ ap (mapOption productIn) (first-agree (λ v. opensFor grants n (keysOf t) (productIn v)) (grantRow t n) is-grant-row (usedRows w))
+  longest-grant : (w : Table) → tightestOpening t w n ≡ mapOption productIn (longestGrant t w n)
+  longest-grant w =
+      ap (greatest literalCount)
+      (keep-map (opensFor grants n (keysOf t)) productIn (usedRows w)
+      ∙ ap (map productIn) (keep-same (λ v. opensFor grants n (keysOf t) (productIn v)) (grantRow t n) is-grant-row (usedRows w)))
+      ∙ sym (greatest-map literalCount productIn none (grantRows t w n))
+      ∙ ap (mapOption productIn) (same-size (λ v. literalCount (productIn v)) rowSize row-literals (grantRows t w n))
 
 -- a row that is found is used, and passes
 first-used : (p : Row → Bool) (w : Table) (v : Row) → first p (usedRows w) ≡ some v → (isUsed v ≡ true) × (p v ≡ true)
@@ -85,6 +101,28 @@ first-used p (u ∷ w) v e =
     (λ g. first-used p w v (sym (simp (f, g)) ∙ e)))
     (λ f. absurd (some≢none (sym (sym (simp f) ∙ e))))
 
+used-head : (v : Row) → isUsed v ≡ true → cell v 0 ≡ 0 → ⊥
+used-head v u = eqb-false (cell v 0) 0 (not-true (eqb (cell v 0) 0) u)
+
+abbrev InUse : Row → Type 0
+InUse v = cell v 0 ≡ 0 → ⊥
+
+all-used : (w : Table) → All InUse (usedRows w)
+all-used [] = tt
+all-used (v ∷ w) = caseBool (isUsed v) (λ e. simp e (used-head v e, all-used w)) (λ e. simp e tt)
+
+-- the heads' fold is the rows', since a used row's head is not 0
+heads-after : (y : Row) (vs : List Row) → InUse y → All InUse vs → tightestFrom (cell y 0) vs ≡ headOf (greatestFrom rowSize (some y) vs)
+heads-after y [] u us = refl
+heads-after y (v ∷ vs) u us =
+    caseBool (ltb (rowSize y) (rowSize v))
+    (λ e. simp (ne-eqb (cell y 0) 0 u, e) (heads-after v vs (us .0) (us .1)))
+    (λ e. simp (ne-eqb (cell y 0) 0 u, e) (heads-after y vs u (us .1)))
+
+heads : (vs : List Row) → All InUse vs → tightestFrom 0 vs ≡ headOf (greatest rowSize vs)
+heads [] us = refl
+heads (v ∷ vs) us = heads-after v vs (us .0) (us .1)
+
 -- ---- the three ways in which the check ends
 
 data Decision (d g : Option Row) (r : ℕ) : Type 0 where
@@ -92,43 +130,45 @@ data Decision (d g : Option Row) (r : ℕ) : Type 0 where
   granted : (v : Row) → d ≡ none → g ≡ some v → (cell v 0 ≡ 0 → ⊥) → isDeny v ≡ false → r ≡ cell v 0 → Decision d g r
   neither : d ≡ none → g ≡ none → r ≡ 0 → Decision d g r
 
-used-head : (v : Row) → isUsed v ≡ true → cell v 0 ≡ 0 → ⊥
-used-head v u = eqb-false (cell v 0) 0 (not-true (eqb (cell v 0) 0) u)
-
 module _ (t w : Table) (n : ℕ) where
-  decision : Decision (firstDeny t w n) (firstGrant t w n) (openingOf t w n)
-  unfolding openingOf
-  decision = go (firstDeny t w n) (firstGrant t w n) refl refl
+  grants-used : All InUse (grantRows t w n)
+  grants-used = All-keep InUse (grantRow t n) (usedRows w) (all-used w)
+
+  decision : Decision (firstDeny t w n) (longestGrant t w n) (openingOf t w n)
+  unfolding openingOf decidedFrom
+  decision = go (firstDeny t w n) (longestGrant t w n) refl refl (heads (grantRows t w n) grants-used)
     where
-      go : (d g : Option Row) → firstDeny t w n ≡ d → firstGrant t w n ≡ g → Decision d g (cond (isSome d) (headOf d) (headOf g))
-      go (some v) g p q =
+      go : (d g : Option Row) → firstDeny t w n ≡ d → longestGrant t w n ≡ g → tightestFrom 0 (grantRows t w n) ≡ headOf g
+          → Decision d g (cond (isSome d) (headOf d) (tightestFrom 0 (grantRows t w n)))
+      go (some v) g p q e =
           let f = first-used (denyRow t n) w v p in denied v refl (used-head v (f .0)) (and-right (opensRow (keysOf t) n v) (isDeny v) (f .1)) refl
-      go none (some v) p q =
-          let f = first-used (grantRow t n) w v q in
-          granted v refl refl (used-head v (f .0)) (not-true (isDeny v) (and-right (opensRow (keysOf t) n v) (not (isDeny v)) (f .1))) refl
-      go none none p q = neither refl refl refl
+      go none (some v) p q e =
+          let passed = greatest-has rowSize (λ u. grantRow t n u ≡ true) (grantRows t w n) (keep-passes (grantRow t n) (usedRows w)) v q in
+          granted v refl refl (greatest-has rowSize InUse (grantRows t w n) grants-used v q)
+          (not-true (isDeny v) (and-right (opensRow (keysOf t) n v) (not (isDeny v)) passed)) e
+      go none none p q e = neither refl refl e
 
 module _ {n : ℕ} (t w : Table) (b : Bit n) where
   abbrev Denies : Type 0
   Denies = (isSome (firstOpening denies t w n) ≡ true) × (lockOf (firstOpening denies t w n) ≡ openingOf t w n / 65536)
 
   abbrev Neither : Type 0
-  Neither = (isSome (firstOpening denies t w n) ≡ false) × (isSome (firstOpening grants t w n) ≡ false)
+  Neither = (isSome (firstOpening denies t w n) ≡ false) × (isSome (tightestOpening t w n) ≡ false)
 
   abbrev Grants : Type 0
-  Grants = (isSome (firstOpening denies t w n) ≡ false) × (isSome (firstOpening grants t w n) ≡ true) × (lockOf (firstOpening grants t w n) ≡ openingOf t w n / 65536)
+  Grants = (isSome (firstOpening denies t w n) ≡ false) × (isSome (tightestOpening t w n) ≡ true) × (lockOf (tightestOpening t w n) ≡ openingOf t w n / 65536)
 
   -- the model's products, by the rows
   deny-is : (o : Option Row) → firstDeny t w n ≡ o → firstOpening denies t w n ≡ mapOption productIn o
   deny-is o p = first-deny t b w ∙ ap (mapOption productIn) p
 
-  grant-is : (o : Option Row) → firstGrant t w n ≡ o → firstOpening grants t w n ≡ mapOption productIn o
-  grant-is o p = first-grant t b w ∙ ap (mapOption productIn) p
+  grant-is : (o : Option Row) → longestGrant t w n ≡ o → tightestOpening t w n ≡ mapOption productIn o
+  grant-is o p = longest-grant t b w ∙ ap (mapOption productIn) p
 
   pub opening-denies : shares (openingOf t w n) deny ≡ true → Denies
   opening-denies e = go (decision t w n)
     where
-      go : Decision (firstDeny t w n) (firstGrant t w n) (openingOf t w n) → Denies
+      go : Decision (firstDeny t w n) (longestGrant t w n) (openingOf t w n) → Denies
       go (denied v p z y q) = (ap isSome (deny-is (some v) p), ap lockOf (deny-is (some v) p) ∙ ap (λ (k : ℕ). k / 65536) (sym q))
       go (granted v p g z y q) = clash e (ap (λ (k : ℕ). shares k deny) q ∙ y)
       go (neither p g q) = clash e (ap (λ (k : ℕ). shares k deny) q)
@@ -136,7 +176,7 @@ module _ {n : ℕ} (t w : Table) (b : Bit n) where
   pub opening-none : openingOf t w n ≡ 0 → Neither
   opening-none e = go (decision t w n)
     where
-      go : Decision (firstDeny t w n) (firstGrant t w n) (openingOf t w n) → Neither
+      go : Decision (firstDeny t w n) (longestGrant t w n) (openingOf t w n) → Neither
       go (denied v p z y q) = absurd (z (sym q ∙ e))
       go (granted v p g z y q) = absurd (z (sym q ∙ e))
       go (neither p g q) = (ap isSome (deny-is none p), ap isSome (grant-is none g))
@@ -144,14 +184,14 @@ module _ {n : ℕ} (t w : Table) (b : Bit n) where
   pub opening-grants : (openingOf t w n ≡ 0 → ⊥) → shares (openingOf t w n) deny ≡ false → Grants
   opening-grants z e = go (decision t w n)
     where
-      go : Decision (firstDeny t w n) (firstGrant t w n) (openingOf t w n) → Grants
+      go : Decision (firstDeny t w n) (longestGrant t w n) (openingOf t w n) → Grants
       go (denied v p u y q) = clash (ap (λ (k : ℕ). shares k deny) q ∙ y) e
       go (granted v p g u y q) =
           (ap isSome (deny-is none p), ap isSome (grant-is (some v) g), ap lockOf (grant-is (some v) g) ∙ ap (λ (k : ℕ). k / 65536) (sym q))
       go (neither p g q) = absurd (z q)
 
   -- so the answer by the head is the check's
-  pub decided : headChecked (openingOf t w n) ≡ decide (firstOpening denies t w n) (firstOpening grants t w n)
+  pub decided : headChecked (openingOf t w n) ≡ decide (firstOpening denies t w n) (tightestOpening t w n)
   unfolding headChecked
   decided =
       caseBool (eqb (openingOf t w n) 0)

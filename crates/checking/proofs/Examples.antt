@@ -19,4 +19,7 @@ examples =
       deny = refl;
       sixteen = refl;
       lock-unit = refl;
+      tightest = refl;
+      lowest-deny = refl;
+      no-literal = refl;
     }

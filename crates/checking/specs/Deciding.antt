@@ -7,11 +7,11 @@ use Prim.Native.Nat.{ℕ}
 use Rattle.model.specs.declared.answer.Refusal.the-variants.{Denied as DeniedBy, NotGranted as NoneGrants}
 use Rattle.model.specs.declared.answer.Answer.{Answer}
 use Rattle.model.specs.declared.answer.Answer.the-variants.{Accepted, Refused}
-use Rattle.base.specs.Lists.{first, isSome}
+use Rattle.base.specs.Lists.{keep, first, greatest, isSome}
 use Rattle.model.specs.Operations.{denies, grants, isOperation}
 use Rattle.model.specs.Threads.{KeySet, keySet}
 use Rattle.model.specs.State.{LockProduct}
-use Rattle.model.specs.Refusals.{opensFor, lockOf}
+use Rattle.model.specs.Refusals.{opensFor, literalCount, lockOf}
 use Rattle.model.specs.Cells.{Table, cell, rowAt, numberCell, userCell, framesOf, depthOf, usedRows, productIn}
 use Rattle.checking.specs.declared.Checked.{Checked}
 use Rattle.checking.specs.declared.Checked.the-variants.{Granted, Denied, NotGranted}
@@ -27,14 +27,19 @@ keysOf t = keysAt t (depthOf t)
 abbrev pub firstOpening : (ℕ → ℕ → Bool) → Table → Table → ℕ → Option LockProduct
 firstOpening stands t w n = first (opensFor stands n (keysOf t)) (map productIn (usedRows w))
 
--- 'If a deny lock opens, the lowest one's number goes with refusal 14. Otherwise the lowest opening grant lock is the
--- answer, and 15 if none opens.'
+-- of the grant locks that stand for operation n the longest product that opens, the first of equal ones
+abbrev pub tightestOpening : Table → Table → ℕ → Option LockProduct
+tightestOpening t w n = greatest literalCount (keep (opensFor grants n (keysOf t)) (map productIn (usedRows w)))
+
+-- 'If a deny lock opens, the lowest one's number goes with refusal 14. Otherwise' comes a grant lock's, 'and 15 if none
+-- opens.'
 abbrev pub decide : Option LockProduct → Option LockProduct → Checked
 decide d g = cond (isSome d) (Denied (lockOf d)) (cond (isSome g) (Granted (lockOf g)) NotGranted)
 
--- no lock stands for a number that is no operation
+-- Request P6: 'The answer becomes the lock whose longest opening product has most signed keys. .. Deny locks keep their
+-- order.' No lock stands for a number that is no operation.
 unfoldable pub checkOf : Table → Table → ℕ → Checked
-checkOf t w n = cond (isOperation n) (decide (firstOpening denies t w n) (firstOpening grants t w n)) NotGranted
+checkOf t w n = cond (isOperation n) (decide (firstOpening denies t w n) (tightestOpening t w n)) NotGranted
 
 -- document 01's number of each case, 0 where nothing is refused, and its value: the lock
 abbrev pub checkedNumber : Checked → ℕ

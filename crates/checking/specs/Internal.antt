@@ -1,18 +1,19 @@
 -- What the crate's private functions promise each other. Nothing here is part of what a reader must believe.
-use mathlib.Core.Bool.{Bool, true, _&&_, not, cond}
+use mathlib.Core.Path.{_≡_}
+use mathlib.Core.Bool.{Bool, true, false, _&&_, _||_, not, cond}
+use mathlib.Core.List.{List, [], _∷_}
 use mathlib.Core.Option.{Option}
-use Prim.Native.Nat.{ℕ, zero, suc, _-_, _/_, _≤_, _<_}
+use Prim.Native.Nat.{ℕ, zero, suc, _-_, _/_, _%_, _≤_, _<_}
 use lib.Dec.{eqb, ltb}
-use lib.ListN.{drop}
 use Rattle.product.specs.Code.{numberLimit}
 use Rattle.product.specs.Product.{opens}
-use Rattle.base.specs.Lists.{any, first, isSome, orDefault}
+use Rattle.base.specs.Lists.{any, keep, first, isSome, orDefault}
 use Rattle.product.specs.declared.literal.Key.{Key}
 use Rattle.product.specs.declared.literal.Key.the-variants.{User, Thread as ThreadKey, Segment as SegmentKey, Defined}
 use Rattle.model.specs.Limits.{mostSegments}
 use Rattle.model.specs.Operations.{deny, shares}
 use Rattle.model.specs.Threads.{KeySet}
-use Rattle.model.specs.Cells.{Row, Table, cell, rowAt, usedRows, productIn, noKey, definedCell}
+use Rattle.model.specs.Cells.{Row, Table, cell, rowAt, usedRows, productIn, noKey, definedCell, literalUnit, literalCounts}
 use Rattle.checking.specs.declared.Checked.{Checked}
 use Rattle.checking.specs.declared.Checked.the-variants.{Granted, Denied, NotGranted}
 use Rattle.checking.specs.Deciding.{keysOf}
@@ -50,10 +51,6 @@ listable (Defined n) = ltb (definedCell n) noKey
 abbrev pub isDeny : Row → Bool
 isDeny w = shares (cell w 0) deny
 
--- a used row from row p on is of a deny lock that stands for n
-abbrev pub deniesFrom : Table → ℕ → ℕ → Bool
-deniesFrom w n p = any (λ v. shares (cell v 0) n && isDeny v) (usedRows (drop p w))
-
 -- ---- the row that decides, for any number n, whose bits are compared with the head's
 
 -- the row is of a lock that stands for n, and opens
@@ -63,12 +60,43 @@ opensRow keys n w = shares (cell w 0) n && opens keys (productIn w .product)
 abbrev pub headOf : Option Row → ℕ
 headOf o = orDefault 0 (λ w. cell w 0) o
 
--- its head, 0 where none opens
+-- how many literals a row with that head has
+abbrev pub literalsIn : ℕ → ℕ
+literalsIn head = head / literalUnit % literalCounts
+
+-- the head of the longer of two grant rows that open, the one found before, 0 for none, and this one; of equal ones of
+-- that found before
+abbrev pub tighter : ℕ → Row → ℕ
+tighter found w = cond (eqb found 0 || ltb (literalsIn found) (literalsIn (cell w 0))) (cell w 0) found
+
+abbrev pub tightestFrom : ℕ → List Row → ℕ
+tightestFrom found [] = found
+tightestFrom found (w ∷ ws) = tightestFrom (tighter found w) ws
+
+-- the head of the row that decides, 0 where none opens: of the first deny row that opens, else of the longest grant row
+-- that does, `found` being the head of the longest before these rows
+unfoldable pub decidedFrom : KeySet → ℕ → ℕ → Table → ℕ
+decidedFrom keys n found w =
+    let d = first (λ v. opensRow keys n v && isDeny v) (usedRows w) in
+    let g = tightestFrom found (keep (λ v. opensRow keys n v && not (isDeny v)) (usedRows w)) in
+    cond (isSome d) (headOf d) g
+
 unfoldable pub openingOf : Table → Table → ℕ → ℕ
-openingOf t w n =
-    let d = first (λ v. opensRow (keysOf t) n v && isDeny v) (usedRows w) in
-    let g = first (λ v. opensRow (keysOf t) n v && not (isDeny v)) (usedRows w) in
-    cond (isSome d) (headOf d) (headOf g)
+openingOf t w n = decidedFrom (keysOf t) n 0 w
+
+pub record Literals (head r : ℕ) : Type 0 where
+  pub count : r ≡ literalsIn head
+  -- follows from it, and is said so that callers find the bound
+  pub few : r < literalCounts
+
+-- the head of a used row of a grant lock
+pub record GrantHead (head : ℕ) : Type 0 where
+  pub used : head ≡ 0 → ⊥
+  pub grants : shares head deny ≡ false
+
+-- a row with that head changes the answer by the grant row with the head `found`, if it opens
+abbrev pub canChange : ℕ → ℕ → Bool
+canChange found head = shares head deny || ltb (literalsIn found) (literalsIn head)
 
 -- what a lock number counts for in a head
 abbrev pub lockUnit : ℕ

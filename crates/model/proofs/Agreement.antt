@@ -18,7 +18,10 @@ pub mod OpenCalls
 pub mod Places
 pub mod ReadLocks
 pub mod Revocation
+pub mod SameGrants
 pub mod Segments
 pub mod StandingLocks
 pub mod StoredLocks
 pub mod TextTests
+pub mod TightestLock
+pub mod TightestProducts

@@ -13,10 +13,10 @@ use Rattle.formula.specs.Compiler.{Compiler}
 use Rattle.call.specs.declared.request.Request.{Request}
 use Rattle.call.specs.declared.request.Request.the-variants as request
 use Rattle.base.specs.Lists.{keep, tailOf}
-use Rattle.model.specs.Operations.{execute, grants}
+use Rattle.model.specs.Operations.{execute}
 use Rattle.model.specs.Threads.{Frame, Thread, sameKey}
 use Rattle.model.specs.State.{freshThread, LockProduct, Segment, Place, State, freshSegment, segmentAt, userOf, issued, isFree, placeFor, placeOf, threadAt, isOfLock, lockSegment, free, taken}
-use Rattle.model.specs.Refusals.{openingProduct, lockOf}
+use Rattle.model.specs.Refusals.{tightestProduct, lockOf}
 
 -- ---- what an accepted call changes
 
@@ -149,6 +149,6 @@ module _ (compile : Compiler) where
   answer d (request.TakeKey a b c) text = length (takeKey c (segmentAt d b) .keys)
   answer d (request.AddLock a b c) text = d .lockNumbers
   answer d (request.DropLock a b) text = length (keep (isOfLock b) (segmentAt d (lockSegment d b) .products))
-  answer d (request.CallSegment a b) text = lockOf (openingProduct d grants a b execute)
+  answer d (request.CallSegment a b) text = lockOf (tightestProduct d a b execute)
   answer d (request.ReturnCall a) text = newest (threadAt d a .frames)
-  answer d (request.Access a b c) text = lockOf (openingProduct d grants a b c)
+  answer d (request.Access a b c) text = lockOf (tightestProduct d a b c)

@@ -1,12 +1,14 @@
 -- Document 01, 'The history': the check of a C or an A, read from the history.
 use mathlib.Core.Path.{_≡_}
 use mathlib.Core.Bool.{Bool, true, false, _&&_, not}
-use mathlib.Core.List.{List·Memᴰ}
+use mathlib.Core.List.{map, List·Memᴰ}
 use mathlib.Core.Option.{Option, none, some}
 use Prim.Native.Nat.{ℕ}
 use lib.Dec.{eqb, ltb}
 use lib.ListN.{length}
+use Rattle.product.specs.Product.{opens}
 use Rattle.formula.specs.Meaning.{Meaning}
+use Rattle.formula.specs.Compiler.{Compiler}
 use Rattle.call.specs.declared.request.Request.{Request}
 use Rattle.call.specs.declared.request.Request.the-variants.{CallSegment, Access}
 use Rattle.call.specs.declared.request.Decoded.the-variants.{WellFormed}
@@ -14,11 +16,12 @@ use Rattle.call.specs.Calls.{Call, decoded}
 use Rattle.model.specs.declared.answer.Refusal.the-variants.{Full, Denied, NotGranted}
 use Rattle.model.specs.declared.answer.Answer.{Answer}
 use Rattle.model.specs.declared.answer.Answer.the-variants.{Accepted, Refused}
-use Rattle.base.specs.Lists.{any, first}
+use Rattle.base.specs.Lists.{any, keep, first, greatest, maximum}
 use Rattle.model.specs.Limits.{mostFrames}
 use Rattle.model.specs.Operations.{execute, denies, grants, takes, isAccess}
-use Rattle.model.specs.Threads.{Thread, keySet}
+use Rattle.model.specs.Threads.{Thread, KeySet, keySet}
 use Rattle.model.specs.History.{History, Entry, Lock}
+use Rattle.model.specs.HistoryLocks.{productsOf}
 
 -- what a C or an A asks for: thread a, segment b, and an A's operation c
 pub data Operation : Type 0 where
@@ -80,16 +83,26 @@ pub record Granted (holds : Meaning) (h : History) (o : Operation) (t : Thread) 
   pub opens : lockOpens holds grants o t lock ≡ true
   pub room : hasRoom o t ≡ true
 
--- a check's answer: 'If a deny lock opens, the lowest one's number goes with refusal 14. Otherwise the lowest opening
--- grant lock is the answer, and 15 if none opens.' Then comes 10.
+-- a check's answer: 'If a deny lock opens, the lowest one's number goes with refusal 14. Otherwise' comes a grant lock's
+-- that opens, 'and 15 if none opens.' Then comes 10.
 abbrev pub checkAnswer : Option Lock → Option Lock → Bool → Answer
 checkAnswer (some l) g room = Refused (Denied (l .number))
 checkAnswer none none room = Refused NotGranted
 checkAnswer none (some l) false = Refused Full
 checkAnswer none (some l) true = Accepted (l .number)
 
--- The standing locks are in the order of their numbers (`Numbering`), so the first that opens is the lowest.
-abbrev pub answerFrom : Meaning → History → Operation → Thread → Answer
-answerFrom holds h o t =
-    checkAnswer (first (lockOpens holds denies o t) (h .locks)) (first (lockOpens holds grants o t) (h .locks))
-    (hasRoom o t)
+module _ (compile : Compiler) where
+  -- the signed keys of a lock's longest product that opens for a key set, 0 where none opens
+  abbrev pub tightness : KeySet → Lock → ℕ
+  tightness keys l = maximum (map length (keep (opens keys) (productsOf compile (l .text))))
+
+  module _ (holds : Meaning) (h : History) (o : Operation) (t : Thread) where
+    -- Request P6: 'The answer becomes the lock whose longest opening product has most signed keys. Equal ones go to
+    -- the lower lock number.' The standing locks are in the order of their numbers (`Numbering`), so the first of
+    -- equal ones is the lowest. In words: `Tightest` of `TightestLock`.
+    abbrev pub tightestLock : Option Lock
+    tightestLock = greatest (tightness (keySet (threadOf o) t)) (keep (lockOpens holds grants o t) (h .locks))
+
+    -- 'Deny locks keep their order.'
+    abbrev pub answerFrom : Answer
+    answerFrom = checkAnswer (first (lockOpens holds denies o t) (h .locks)) tightestLock (hasRoom o t)

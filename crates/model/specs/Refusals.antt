@@ -15,7 +15,7 @@ use Rattle.call.specs.declared.request.Request.the-variants as request
 use Rattle.base.specs.Conditions.{Condition, when}
 use Rattle.model.specs.declared.answer.Refusal.{Refusal}
 use Rattle.model.specs.declared.answer.Refusal.the-variants.{UnknownUser, NoThread, NoSegment, NoKey, NoLock, NotOwner, Unfit, AlreadyPresent, NotPresent, Full, Malformed, TooWide, Unsatisfiable, Denied, NotGranted}
-use Rattle.base.specs.Lists.{first, isSome, orDefault}
+use Rattle.base.specs.Lists.{keep, first, greatest, isSome, orDefault}
 use Rattle.model.specs.Limits.{mostUsers, mostThreads, mostSegments, mostDefined, mostListed, mostStanding, mostFrames, mostNumbers, passes}
 use Rattle.model.specs.Operations.{execute, denies, grants, sheet, takes, isAccess, takesSet}
 use Rattle.model.specs.Threads.{isIn, KeySet, keySet}
@@ -26,10 +26,25 @@ use Rattle.model.specs.State.{LockProduct, State, isUser, isSegment, isK
 abbrev pub opensFor : (ℕ → ℕ → Bool) → ℕ → KeySet → LockProduct → Bool
 opensFor stands n keys r = stands (r .operations) n && opens keys (r .product)
 
+-- the key set of thread a
+abbrev pub threadKeys : State → ℕ → KeySet
+threadKeys d a = keySet a (threadAt d a)
+
 -- The first product that opens for thread a, of the locks on segment b that stand for operation n, as deny locks or as
--- grant locks. It is the lowest such lock's: `answer` of `Granting`, `inOrder` of `Numbering`.
+-- grant locks. It is the lowest such lock's: `answer` of `Granting`, `inOrder` of `Numbering`. Whether a grant lock has
+-- one decides what is granted.
 unfoldable pub openingProduct : State → (ℕ → ℕ → Bool) → ℕ → ℕ → ℕ → Option LockProduct
-openingProduct d stands a b n = first (opensFor stands n (keySet a (threadAt d a))) (segmentAt d b .products)
+openingProduct d stands a b n = first (opensFor stands n (threadKeys d a)) (segmentAt d b .products)
+
+-- a product's signed keys, 'plain or barred'
+abbrev pub literalCount : LockProduct → ℕ
+literalCount r = length (r .product)
+
+-- Request P6: 'The answer becomes the lock whose longest opening product has most signed keys. Equal ones go to the
+-- lower lock number.' Of the products that open for thread a, of the grant locks on segment b that stand for operation
+-- n, the longest, and the first of equal ones.
+unfoldable pub tightestProduct : State → ℕ → ℕ → ℕ → Option LockProduct
+tightestProduct d a b n = greatest literalCount (keep (opensFor grants n (threadKeys d a)) (segmentAt d b .products))
 
 abbrev pub lockOf : Option LockProduct → ℕ
 lockOf o = orDefault 0 (λ r. r .lock) o

@@ -9,7 +9,9 @@ pub mod Numbering
 pub mod Refinement
 pub mod Refusing
 pub mod Revocation
+pub mod SameGrants
 pub mod SideBySide
 pub mod StoredLocks
+pub mod TightestLock
 pub mod Trials
 pub mod Widths

@@ -1,6 +1,6 @@
 -- C and A ask the same questions in the same order: the thread, the segment, the operation, the deny locks and the
 -- grant locks.
-use mathlib.Core.Path.{_≡_, sym}
+use mathlib.Core.Path.{_≡_, sym, _∙_}
 use mathlib.Core.Bool.{Bool, true, false}
 use mathlib.Core.List.{List, _∷_}
 use mathlib.Core.Option.{Option, some}
@@ -14,11 +14,12 @@ use Rattle.model.specs.declared.answer.Answer.the-variants.{Accepted, Refused}
 use Rattle.base.specs.Lists.{isSome}
 use Rattle.model.specs.Operations.{denies, grants}
 use Rattle.model.specs.State.{State, LockProduct, isLive, isSegment}
-use Rattle.model.specs.Refusals.{lockOf, openingProduct, unless, denied, notGranted}
+use Rattle.model.specs.Refusals.{lockOf, openingProduct, tightestProduct, unless, denied, notGranted}
 use Rattle.base.proofs.Lists.{caseBool}
+use Rattle.model.proofs.Agreement.HistoryAnswers.{granted-some}
 use Rattle.checking.specs.Deciding.{decide, answerOf}
 
--- what the check answers, by the first deny product and the first grant product that open
+-- what the check answers, by the first deny product and the longest grant product that open
 abbrev pub checked : Option LockProduct → Option LockProduct → Answer
 checked d g = answerOf (decide d g)
 
@@ -51,7 +52,11 @@ module _ (d : State) (a b n : ℕ) (fit : Bool) (rest : List (Condition Refusal)
         od = openingProduct d denies a b n
 
         abbrev og : Option LockProduct
-        og = openingProduct d grants a b n
+        og = tightestProduct d a b n
+
+        -- there is one where the gates let through
+        some-grant : {x : Bool} → isSome og ≡ x → isSome (openingProduct d grants a b n) ≡ x
+        some-grant k = granted-some d a b n ∙ k
 
         -- what the check refuses, the gates refuse; what it accepts, they let through
         pub as-refused : {r : Refusal} → checked od og ≡ Refused r → firstRefusal gates ≡ some r
@@ -60,12 +65,12 @@ module _ (d : State) (a b n : ℕ) (fit : Bool) (rest : List (Condition Refusal)
             (λ h. let k = refused-is (rw h at e) in rw (live, out, fits, h, k))
             (λ h. caseBool (isSome og)
             (λ k. apart (rw (h, k) at e))
-            (λ k. let l = refused-is (rw (h, k) at e) in rw (live, out, fits, h, k, l)))
+            (λ k. let l = refused-is (rw (h, k) at e) in rw (live, out, fits, h, some-grant k, l)))
 
         pub as-accepted : {lock : ℕ} → checked od og ≡ Accepted lock → (firstRefusal gates ≡ firstRefusal rest) × (lock ≡ lockOf og)
         as-accepted e =
             caseBool (isSome od)
             (λ h. apart (sym (rw h at e)))
             (λ h. caseBool (isSome og)
-            (λ k. (rw (live, out, fits, h, k), sym (accepted-is (rw (h, k) at e))))
+            (λ k. (rw (live, out, fits, h, some-grant k), sym (accepted-is (rw (h, k) at e))))
             (λ k. apart (sym (rw (h, k) at e))))

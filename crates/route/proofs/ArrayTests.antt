@@ -13,16 +13,16 @@ use Rattle.model.specs.declared.answer.Refusal.the-variants.{NoThread, NoSegmen
 use Rattle.model.specs.declared.answer.Answer.{Answer}
 use Rattle.model.specs.declared.answer.Answer.the-variants.{Accepted, Refused}
 use Rattle.model.specs.Limits.{mostThreads}
-use Rattle.model.specs.Operations.{denies, grants, isOperation}
+use Rattle.model.specs.Operations.{denies, isOperation}
 use Rattle.model.specs.State.{isThread, isSegment}
-use Rattle.model.specs.Refusals.{lockOf, openingProduct, conditions}
+use Rattle.model.specs.Refusals.{lockOf, openingProduct, tightestProduct, conditions}
 use Rattle.model.specs.Cells.{Table, Cells, tableAt, stateOf}
 use Rattle.model.specs.Serving.{Serves}
 use Rattle.model.proofs.Refinement.ServedCalls.{segmentsIn, segment-at, is-segment, serves-refused}
 use Rattle.threads.specs.Places.{Placed}
 use Rattle.threads.proofs.FoundThread.{Standing, stands, not-live}
 use Rattle.checking.specs.declared.Checked.{Checked}
-use Rattle.checking.specs.Deciding.{firstOpening, checkOf, answerOf}
+use Rattle.checking.specs.Deciding.{firstOpening, tightestOpening, checkOf, answerOf}
 use Rattle.route.proofs.AccessConditions.{gates, checked, no-thread, no-segment, unfit, as-refused, as-accepted}
 
 -- what the check of the thread's rows by the segment's products answers
@@ -56,20 +56,24 @@ module _ (d : Cells) (q : Request) (text : List ℕ) (a b n i : ℕ) (fit : Bool
       misfit e = refuses (unfit (stateOf d) a b n fit rest (standing .live) out e)
 
       -- the check on the thread's rows and the segment's products is the model's
-      asks : (stands′ : ℕ → ℕ → Bool) → openingProduct (stateOf d) stands′ a b n ≡ firstOpening stands′ (tableAt (d .threads) i) (tableAt (d .locks) b) n
+      first-denying : openingProduct (stateOf d) denies a b n ≡ firstOpening denies (tableAt (d .threads) i) (tableAt (d .locks) b) n
       unfolding openingProduct
-      asks stands′ = rw (standing .thread, standing .number, segment-at d b low)
+      first-denying = rw (standing .thread, standing .number, segment-at d b low)
+
+      tightest-granting : tightestProduct (stateOf d) a b n ≡ tightestOpening (tableAt (d .threads) i) (tableAt (d .locks) b) n
+      unfolding tightestProduct
+      tightest-granting = rw (standing .thread, standing .number, segment-at d b low)
 
       module _ (fits : fit ≡ true) (known : isOperation n ≡ true) where
-        as-checked : checked (openingProduct (stateOf d) denies a b n) (openingProduct (stateOf d) grants a b n) ≡ answeredBy (tableAt (d .threads) i) (tableAt (d .locks) b) n
+        as-checked : checked (openingProduct (stateOf d) denies a b n) (tightestProduct (stateOf d) a b n) ≡ answeredBy (tableAt (d .threads) i) (tableAt (d .locks) b) n
         unfolding checkOf
-        as-checked = rw (asks denies, asks grants, known)
+        as-checked = rw (first-denying, tightest-granting, known)
 
         pub turned-away : {r : Refusal} → Refused r ≡ answeredBy (tableAt (d .threads) i) (tableAt (d .locks) b) n → Serves d q text (Refused r) d
         turned-away e = refuses (as-refused (stateOf d) a b n fit rest (standing .live) out fits (as-checked ∙ sym e))
 
         pub let-through : {lock : ℕ} → Accepted lock ≡ answeredBy (tableAt (d .threads) i) (tableAt (d .locks) b) n
-            → (firstRefusal (conditions outcomeOf (stateOf d) q text) ≡ firstRefusal rest) × (lock ≡ lockOf (openingProduct (stateOf d) grants a b n))
+            → (firstRefusal (conditions outcomeOf (stateOf d) q text) ≡ firstRefusal rest) × (lock ≡ lockOf (tightestProduct (stateOf d) a b n))
         let-through e =
             let (free, lock) = as-accepted (stateOf d) a b n fit rest (standing .live) out fits (as-checked ∙ sym e) in
             (ap firstRefusal same ∙ free, lock)

@@ -1,4 +1,4 @@
--- Worked examples of the check, on the rows of one thread and of three locks, for every kind of number of an operation;
+-- Worked examples of the check, on the rows of one thread and of some locks, for every kind of number of an operation;
 -- the answers, number and value, are worked out by hand from document 01. Proved in `proofs/Examples.antt`, by
 -- computing.
 use mathlib.Core.Path.{_≡_}
@@ -24,10 +24,28 @@ locks =
     ∷ (589841 ∷ 262147 ∷ 0 ∷ 0 ∷ 0 ∷ 0 ∷ 0 ∷ 0 ∷ [])
     ∷ replicate 5 (replicate 8 0)
 
-abbrev pub answered : ℕ → ℕ → ℕ × ℕ
-answered number operation =
-    let k = checkOf (thread number) locks operation in
+-- lock 3 grants reading by `U1`, lock 4 by `S0&D2`, lock 6 by `S0&!S1` and lock 8 by `U1&R3&S0&S1`, which doesn't open;
+-- locks 9 and 10 deny writing by `U1` and by `U1&S0`, and lock 11 grants it by `U1&S0&D2`; lock 12 grants execution by
+-- a product without literals, which no text has
+abbrev pub several : Table
+several =
+    (196626 ∷ 131073 ∷ 0 ∷ 0 ∷ 0 ∷ 0 ∷ 0 ∷ 0 ∷ [])
+    ∷ (262178 ∷ 0 ∷ 66 ∷ 0 ∷ 0 ∷ 0 ∷ 0 ∷ 0 ∷ [])
+    ∷ (393250 ∷ 0 ∷ 32769 ∷ 0 ∷ 0 ∷ 0 ∷ 0 ∷ 0 ∷ [])
+    ∷ (524354 ∷ 131073 ∷ 262147 ∷ 0 ∷ 1 ∷ 0 ∷ 0 ∷ 0 ∷ [])
+    ∷ (589852 ∷ 131073 ∷ 0 ∷ 0 ∷ 0 ∷ 0 ∷ 0 ∷ 0 ∷ [])
+    ∷ (655404 ∷ 131073 ∷ 0 ∷ 0 ∷ 0 ∷ 0 ∷ 0 ∷ 0 ∷ [])
+    ∷ (720948 ∷ 131073 ∷ 0 ∷ 66 ∷ 0 ∷ 0 ∷ 0 ∷ 0 ∷ [])
+    ∷ (786433 ∷ 0 ∷ 0 ∷ 0 ∷ 0 ∷ 0 ∷ 0 ∷ 0 ∷ [])
+    ∷ []
+
+abbrev pub answeredBy : Table → ℕ → ℕ → ℕ × ℕ
+answeredBy products number operation =
+    let k = checkOf (thread number) products operation in
     (checkedNumber k, checkedValue k)
+
+abbrev pub answered : ℕ → ℕ → ℕ × ℕ
+answered = answeredBy locks
 
 pub record Examples : Type 0 where
   pub reads : answered 3 2 ≡ (0, 5)
@@ -41,3 +59,8 @@ pub record Examples : Type 0 where
   pub deny : answered 3 8 ≡ (15, 0)
   pub sixteen : answered 3 16 ≡ (15, 0)
   pub lock-unit : answered 3 65536 ≡ (15, 0)
+  -- of the locks that open the tightest answers, the lower of equal ones; the lowest deny lock is named, whatever is
+  -- longer
+  pub tightest : answeredBy several 3 2 ≡ (0, 4)
+  pub lowest-deny : answeredBy several 3 4 ≡ (14, 9)
+  pub no-literal : answeredBy several 3 1 ≡ (0, 12)

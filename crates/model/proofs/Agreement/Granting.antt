@@ -18,15 +18,16 @@ use Rattle.base.proofs.Truth.{and-left, and-right}
 use Rattle.model.specs.Answers.{isAccepted}
 use Rattle.base.specs.Lists.{any, first, isSome}
 use Rattle.model.specs.Operations.{denies, grants}
-use Rattle.model.specs.Threads.{Thread}
+use Rattle.model.specs.Threads.{Thread, keySet}
 use Rattle.model.specs.State.{State, emptyState}
 use Rattle.model.specs.Refusals.{conditions}
 use Rattle.model.specs.Model.{judged, stepDecoded, step}
 use Rattle.model.specs.History.{History, Lock, Event, history, acceptedOf}
-use Rattle.model.specs.HistoryCheck.{Operation, requestOf, threadOf, Fits, hasRoom, lockOpens, granted, Granted, checkAnswer, answerFrom}
+use Rattle.model.specs.HistoryCheck.{Operation, requestOf, threadOf, Fits, hasRoom, lockOpens, granted, Granted, checkAnswer, tightness, tightestLock, answerFrom}
 use Rattle.model.specs.Theorems.Granting.{Grants, GrantingByLaws, Granting}
 use Rattle.model.specs.Replay.{stateAfter, eventsOf, reached, answerTo}
 use Rattle.base.proofs.Lists.{caseBool, clash, any-passes, any-found, isSome-first}
+use Rattle.base.proofs.Greatest.{isSome-greatest}
 use Rattle.model.proofs.Agreement.Agrees.{Agrees}
 use Rattle.model.proofs.Agreement.EveryCall.{agree, request-letter}
 use Rattle.model.proofs.Agreement.HistoryAnswers.{taken, counted-as, answers-from}
@@ -61,17 +62,19 @@ module _ (holds : Meaning) (h : History) (o : Operation) (t : Thread) where
       (λ q. let (l, m, u) = any-found barring (h .locks) q in clash u (g .undenied l m))
       (λ q. simp (q, any-passes giving (g .lock) (h .locks) (g .standing) (g .opens), g .room))
 
-  -- the answer accepts where the test says so
-  answer-accepts : isAccepted (answerFrom holds h o t) ≡ granted holds h o t
-  answer-accepts =
-      accepts (first barring (h .locks)) (first giving (h .locks)) (hasRoom o t)
-      ∙ rw (isSome-first barring (h .locks), isSome-first giving (h .locks))
+  -- the answer accepts where the test says so, whichever grant lock answers
+  pub answer-accepts : (g : Option Lock) → isSome g ≡ any giving (h .locks)
+      → isAccepted (checkAnswer (first barring (h .locks)) g (hasRoom o t)) ≡ granted holds h o t
+  answer-accepts g e = accepts (first barring (h .locks)) g (hasRoom o t) ∙ rw (isSome-first barring (h .locks), e)
     where
       accepts : (d g : Option Lock) (room : Bool) → isAccepted (checkAnswer d g room) ≡ (not (isSome d) && (isSome g && room))
       accepts (some l) g room = refl
       accepts none none room = refl
       accepts none (some l) true = refl
       accepts none (some l) false = refl
+
+  pub some-tightest : (compile : Compiler) → isSome (tightestLock compile holds h o t) ≡ any giving (h .locks)
+  some-tightest compile = isSome-greatest (tightness compile (keySet (threadOf o) t)) giving (h .locks)
 
 -- ---- on the model
 
@@ -81,7 +84,7 @@ unfolding step
 answer-is compile d x q e = ap (λ (k : Decoded). stepDecoded compile d k (x .text) .answer) e
 
 on-model : (compile : Compiler) (holds : Meaning) → Laws compile holds → (xs : List Call) (next : Call)
-    → Grants holds (eventsOf compile emptyState xs) next (step compile (stateAfter compile emptyState xs) next .answer)
+    → Grants compile holds (eventsOf compile emptyState xs) next (step compile (stateAfter compile emptyState xs) next .answer)
 on-model compile holds l xs next =
     record {
       equation = equation;
@@ -105,13 +108,13 @@ on-model compile holds l xs next =
     c : Agrees compile d h (λ m. acceptedOf m es)
     c = agree compile holds l xs
 
-    whole : (o : Operation) (t : Thread) → Fits h next o → h .threads (threadOf o) ≡ some t → step compile d next .answer ≡ answerFrom holds h o t
+    whole : (o : Operation) (t : Thread) → Fits h next o → h .threads (threadOf o) ≡ some t → step compile d next .answer ≡ answerFrom compile holds h o t
     whole o t fits live =
         answer-is compile d next (requestOf o) (fits .wellFormed)
         ∙ answers-from compile holds l (next .text) _ _ _ c o t live (fits .entry) (fits .handedOut) (fits .known) (fits .taken)
 
     equation : (o : Operation) (t : Thread) → Fits h next o → h .threads (threadOf o) ≡ some t → isAccepted (step compile d next .answer) ≡ granted holds h o t
-    equation o t f live = ap isAccepted (whole o t f live) ∙ answer-accepts holds h o t
+    equation o t f live = ap isAccepted (whole o t f live) ∙ answer-accepts holds h o t (tightestLock compile holds h o t) (some-tightest holds h o t compile)
 
 -- ---- on the arrays
 

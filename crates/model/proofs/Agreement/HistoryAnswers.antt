@@ -1,5 +1,6 @@
 -- What the model answers, read from a history that agrees with it. Of a fitting C or A of a live thread the conditions
--- before the check fail, and the check's two locks are the history's; the numbers handed out are the counts.
+-- before the check fail, and the check's two locks are the history's, the lowest deny lock and the tightest grant lock;
+-- the numbers handed out are the counts.
 use mathlib.Core.Path.{_≡_, refl, sym, ap, _∙_}
 use mathlib.Core.Bool.{Bool, true, false, _||_, not, cond, false≢true}
 use mathlib.Core.List.{List}
@@ -28,14 +29,16 @@ use Rattle.model.specs.Limits.{mostFrames, passes}
 use Rattle.model.specs.Operations.{denies, grants, takes}
 use Rattle.model.specs.Threads.{Thread, keySet}
 use Rattle.model.specs.State.{State, LockProduct, segmentAt, findThread, threadAt, isSegment}
-use Rattle.model.specs.Refusals.{lockOf, openingProduct, conditions}
+use Rattle.model.specs.Refusals.{lockOf, opensFor, literalCount, openingProduct, tightestProduct, conditions}
 use Rattle.model.specs.Effects.{answer, update}
 use Rattle.model.specs.Model.{judged, stepDecoded, step}
 use Rattle.model.specs.History.{History, Entry, Lock, numbering, handsOut}
-use Rattle.model.specs.HistoryCheck.{Operation, calls, accesses, requestOf, threadOf, targetOf, operationOf, isKnown, hasRoom, lockOpens, checkAnswer, answerFrom}
-use Rattle.base.proofs.Lists.{caseBool, some-inj, some≢none}
+use Rattle.model.specs.HistoryCheck.{Operation, calls, accesses, requestOf, threadOf, targetOf, operationOf, isKnown, hasRoom, lockOpens, checkAnswer, tightestLock, answerFrom}
+use Rattle.base.proofs.Lists.{caseBool, isSome-first, some-inj, some≢none}
+use Rattle.base.proofs.Greatest.{isSome-greatest}
 use Rattle.model.proofs.Agreement.Segments.{entry-low, entry-is}
 use Rattle.model.proofs.Agreement.ReadLocks.{check-agrees}
+use Rattle.model.proofs.Agreement.TightestProducts.{tightest-agrees}
 use Rattle.model.proofs.Agreement.Agrees.{Agrees}
 use Rattle.model.proofs.Agreement.EveryCall.{found-as, thread-as}
 use Rattle.call.proofs.EveryRequest.{every-request}
@@ -72,6 +75,13 @@ pub judged-answer : (compile : Compiler) (d : State) (q : Request) (text : List 
     → judged compile d q text o .answer ≡ answered o (answer compile d q text)
 judged-answer compile d q text none = refl
 judged-answer compile d q text (some r) = refl
+
+-- a grant lock opens exactly when there is a tightest
+pub granted-some : (d : State) (a b n : ℕ) → isSome (openingProduct d grants a b n) ≡ isSome (tightestProduct d a b n)
+unfolding openingProduct tightestProduct
+granted-some d a b n =
+    let p = opensFor grants n (keySet a (threadAt d a)) in
+    isSome-first p (segmentAt d b .products) ∙ sym (isSome-greatest literalCount p (segmentAt d b .products))
 
 -- the check's conditions and the limit, by the two locks that open
 check-answers : (od og : Option LockProduct) (ld lg : Option Lock) (room : Bool)
@@ -111,21 +121,27 @@ module _ (compile : Compiler) (holds : Meaning) (laws : Laws compile holds) (tex
         check-agrees compile holds laws (d .segments) (d .lockNumbers) (h .locks) (c .locks) stands (targetOf o) (operationOf o) (keySet (threadOf o) (threadAt d (threadOf o)))
         ∙ rw (thread-as compile d h count c (threadOf o) t live)
 
+    tight : mapOption (λ r. r .lock) (tightestProduct d (threadOf o) (targetOf o) (operationOf o)) ≡ mapOption (λ l. l .number) (tightestLock compile holds h o t)
+    unfolding tightestProduct
+    tight =
+        tightest-agrees compile holds laws (d .segments) (d .lockNumbers) (h .locks) (c .locks) (keySet (threadOf o) (threadAt d (threadOf o))) (targetOf o) (operationOf o)
+        ∙ rw (thread-as compile d h count c (threadOf o) t live)
+
   pub answers-from : (o : Operation) (t : Thread) → h .threads (threadOf o) ≡ some t → (entry : Entry) → h .segments (targetOf o) ≡ some entry
       → isKnown o ≡ true → takes (entry .kind) (operationOf o) ≡ true
-      → judged compile d (requestOf o) text (firstRefusal (conditions compile d (requestOf o) text)) .answer ≡ answerFrom holds h o t
+      → judged compile d (requestOf o) text (firstRefusal (conditions compile d (requestOf o) text)) .answer ≡ answerFrom compile holds h o t
   unfolding conditions answer
   answers-from (calls a b) t live entry out number fits =
       let o = calls a b in
       judged-answer compile d (request.CallSegment a b) text (firstRefusal (conditions compile d (request.CallSegment a b) text))
-      ∙ simp (found o t live entry out, out-test o t live entry out, kind-is o t live entry out, fits, under-limit mostFrames (length (t .frames)))
-      (check-answers (openingProduct d denies a b 1) (openingProduct d grants a b 1) (first (lockOpens holds denies o t) (h .locks)) (first (lockOpens holds grants o t) (h .locks)) (hasRoom o t) (check o t live entry out denies) (check o t live entry out grants))
+      ∙ simp (found o t live entry out, out-test o t live entry out, kind-is o t live entry out, fits, granted-some d a b 1, under-limit mostFrames (length (t .frames)))
+      (check-answers (openingProduct d denies a b 1) (tightestProduct d a b 1) (first (lockOpens holds denies o t) (h .locks)) (tightestLock compile holds h o t) (hasRoom o t) (check o t live entry out denies) (tight o t live entry out))
   answers-from (accesses a b n) t live entry out number fits =
       let o = accesses a b n in
       judged-answer compile d (request.Access a b n) text (firstRefusal (conditions compile d (request.Access a b n) text))
-      ∙ simp (found o t live entry out, out-test o t live entry out, kind-is o t live entry out, fits)
+      ∙ simp (found o t live entry out, out-test o t live entry out, kind-is o t live entry out, fits, granted-some d a b n)
       (simp number
-      (check-answers (openingProduct d denies a b n) (openingProduct d grants a b n) (first (lockOpens holds denies o t) (h .locks)) (first (lockOpens holds grants o t) (h .locks)) true (check o t live entry out denies) (check o t live entry out grants)))
+      (check-answers (openingProduct d denies a b n) (tightestProduct d a b n) (first (lockOpens holds denies o t) (h .locks)) (tightestLock compile holds h o t) true (check o t live entry out denies) (tight o t live entry out)))
 
 -- ---- the numbers that U, S, N, K and L answer
 

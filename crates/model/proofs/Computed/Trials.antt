@@ -12,7 +12,7 @@ use Rattle.model.specs.History.{makersOf}
 use Rattle.model.specs.Replay.{stateAfter, events, eventsOf}
 use Rattle.model.specs.Notation.{Expected, callsOf, got, Happens}
 use Rattle.model.specs.Theorems.Editing.{userIn, ownerIn}
-use Rattle.model.specs.Theorems.Trials.{refusals, identity, editors, inProgress, withdrawal, revoked, handsThen, opened, users, segments, liveThreads, keyRing, keysGiven, listed, frames, Trials}
+use Rattle.model.specs.Theorems.Trials.{refusals, identity, editors, inProgress, withdrawal, revoked, handsThen, opened, users, segments, liveThreads, keyRing, keysGiven, listed, severalLocks, frames, Trials}
 use Rattle.model.proofs.Unfoldings.{computing}
 use Rattle.model.proofs.Refinement.EveryCall.{refinement}
 
@@ -116,6 +116,10 @@ listed-happens : Happens listed
 listed-happens =
     ap (map got) (refinement .list (callsOf listed) .events) ∙ in-two keyRing keysGiven emptyState ringed ring-is ring-happens given-happens
 
+several-happen : Happens severalLocks
+unfolding computing
+several-happen = refl
+
 frames-happen : Happens frames
 unfolding computing
 frames-happen = refl
@@ -136,6 +140,7 @@ trials =
       handedBefore = handed-before;
       handedAfter = handed-after;
       handedLast = handed-last;
+      severalHappen = several-happen;
       usersHappen = users-happen;
       segmentsHappen = segments-happen;
       threadsHappen = threads-happen;

@@ -9,15 +9,17 @@ use native.Mathlib.Omega.{arith}
 use lib.Dec.{eqb, ltb}
 use lib.ListN.{length, length-set, length-map, List·getD-map, List·getD-eq-default}
 use borrow.Author.Tests.{ltb-false}
-use Rattle.base.specs.Lists.{keep, first, mapOption, orDefault}
+use Rattle.base.specs.Lists.{keep, first, greatest, mapOption, orDefault}
 use Rattle.model.specs.Limits.{mostListed, mostStanding, mostFrames}
 use Rattle.model.specs.Threads.{Thread, keySet}
 use Rattle.model.specs.State.{LockProduct, Segment, blankSegment, segmentAt, Place, free, threadIn, blankThread, placeOf, findThread, threadAt, userOf}
-use Rattle.model.specs.Refusals.{opensFor, openingProduct, lockOf}
+use Rattle.model.specs.Operations.{grants}
+use Rattle.model.specs.Refusals.{opensFor, literalCount, openingProduct, tightestProduct, lockOf}
 use Rattle.model.specs.Effects.{newest}
 use Rattle.model.specs.Cells.{Table, Cells, Sized, cell, rowAt, tableAt, userCell, liveCell, keyIn, hasKey, usedRows, framesOf, depthOf, placeIn, productIn, listRow, segmentOf, stateOf}
 use Rattle.model.specs.Theorems.Widths.{word, doubleWord, Fitting}
-use Rattle.base.proofs.Lists.{All, caseBool, length-keep}
+use Rattle.base.proofs.Lists.{All, caseBool, length-keep, All-keep}
+use Rattle.base.proofs.Greatest.{greatest-has}
 use Rattle.model.proofs.Refinement.ProductRows.{length-used}
 use Rattle.model.proofs.Refinement.ThreadTables.{length-frames, live-place}
 use Rattle.model.proofs.Refinement.ServedCalls.{segmentsIn, segment-at}
@@ -65,6 +67,13 @@ lock-low : (p : LockProduct → Bool) (rs : List LockProduct) → All (λ r. r .
 lock-low p [] h = omega arith
 lock-low p (r ∷ rs) h = caseBool (p r) (λ e. simp e (h .0)) (λ e. simp e (lock-low p rs (h .1)))
 
+longest-low : (p : LockProduct → Bool) (rs : List LockProduct) → All (λ r. r .lock < word) rs → lockOf (greatest literalCount (keep p rs)) < word
+longest-low p rs h = of (greatest literalCount (keep p rs)) (greatest-has literalCount (λ r. r .lock < word) (keep p rs) (All-keep (λ r. r .lock < word) p rs h))
+  where
+    of : (o : Option LockProduct) → ((r : LockProduct) → o ≡ some r → r .lock < word) → lockOf o < word
+    of none f = omega arith
+    of (some r) f = f r refl
+
 table-fits : (s : ℕ) (g t : Table) → length (rowAt g 1) ≡ 8 → length t ≡ mostStanding → LowRows doubleWord t → SegmentFits (segmentOf s g t)
 table-fits s g t eight rows h =
     let keys : length (map keyIn (keep hasKey (listRow s g))) ≡ length (keep hasKey (listRow s g)) = length-map (keep hasKey (listRow s g)) keyIn in
@@ -97,13 +106,17 @@ module _ (d : Cells) (c : Sized d) (k : Fitting d) where
       subst SegmentFits (sym (segment-at d s lt))
       (table-fits s (tableAt (d .segments) s) (tableAt (d .locks) s) (c .segments .cells s 1 (omega arith) (omega arith)) (c .locks .rows s (omega arith)) (k .locks s))
 
+  locks-fit : (b : ℕ) → All (λ r. r .lock < word) (segmentAt (stateOf d) b .products)
+  locks-fit b =
+      caseBool (ltb b (length (stateOf d .segments)))
+      (λ e. segment-fits b (handed-out b e) .locks)
+      (λ e. let none-there : segmentAt (stateOf d) b ≡ blankSegment = List·getD-eq-default (stateOf d .segments) blankSegment (ltb-false b (length (stateOf d .segments)) e) in
+      subst (λ (g : Segment). All (λ r. r .lock < word) (g .products)) (sym none-there) tt)
+
   pub opening-low : (stands : ℕ → ℕ → Bool) (a b n : ℕ) → lockOf (openingProduct (stateOf d) stands a b n) < word
   unfolding openingProduct
-  opening-low stands a b n = lock-low (opensFor stands n (keySet a (threadAt (stateOf d) a))) (segmentAt (stateOf d) b .products) low
-    where
-      low : All (λ r. r .lock < word) (segmentAt (stateOf d) b .products)
-      low =
-          caseBool (ltb b (length (stateOf d .segments)))
-          (λ e. segment-fits b (handed-out b e) .locks)
-          (λ e. let none-there : segmentAt (stateOf d) b ≡ blankSegment = List·getD-eq-default (stateOf d .segments) blankSegment (ltb-false b (length (stateOf d .segments)) e) in
-          subst (λ (g : Segment). All (λ r. r .lock < word) (g .products)) (sym none-there) tt)
+  opening-low stands a b n = lock-low (opensFor stands n (keySet a (threadAt (stateOf d) a))) (segmentAt (stateOf d) b .products) (locks-fit b)
+
+  pub tightest-low : (a b n : ℕ) → lockOf (tightestProduct (stateOf d) a b n) < word
+  unfolding tightestProduct
+  tightest-low a b n = longest-low (opensFor grants n (keySet a (threadAt (stateOf d) a))) (segmentAt (stateOf d) b .products) (locks-fit b)

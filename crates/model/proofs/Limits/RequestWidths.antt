@@ -46,7 +46,7 @@ use Rattle.model.proofs.Limits.FittingCells.{LowRows, LowTables, low-se
 use Rattle.model.proofs.Limits.ThreadWidths.{start-low, push-low, pop-low, revoke-low}
 use Rattle.model.proofs.Limits.SegmentWidths.{list-low, new-low, give-low, take-low}
 use Rattle.model.proofs.Limits.LockWidths.{end-low, add-low, drop-low}
-use Rattle.model.proofs.Limits.AnsweredWidths.{thread-fits, user-fits, segment-fits, opening-low}
+use Rattle.model.proofs.Limits.AnsweredWidths.{thread-fits, user-fits, segment-fits, opening-low, tightest-low}
 
 -- a table in its array
 module _ (d : Cells) (k : Fitting d) where
@@ -187,12 +187,12 @@ module _ (compile : Compiler) (holds : Meaning) (law : Laws compile holds) (d : 
       let g : Table = tableAt (d .segments) b in
       record {
         stored = at-thread d k a (pushRow (listRow b g)) (λ t h. push-low (listRow b g) t (list-low b g (l .b) (k .segments b)) h);
-        answered = opening-low d c k grants a b execute;
+        answered = tightest-low d c k a b execute;
       }
   fit-accepted (request.ReturnCall a) l e = record { stored = at-thread d k a popRow pop-low; answered = thread-fits d c k a .last }
   fit-accepted (request.Access a b o) l e =
       let f = all-fail (conditions compile (stateOf d) (request.Access a b o) text) e in
-      record { stored = k; answered = opening-low d c k grants a b o }
+      record { stored = k; answered = tightest-low d c k a b o }
 
 -- ---- a refused request
 

@@ -22,7 +22,7 @@ use Rattle.model.specs.declared.answer.Answer.{Answer}
 use Rattle.model.specs.declared.answer.Answer.the-variants.{Accepted}
 use Rattle.model.specs.Threads.{Thread}
 use Rattle.model.specs.State.{State, freshThread, isFree, isLive, free, taken}
-use Rattle.model.specs.Refusals.{openingProduct, conditions}
+use Rattle.model.specs.Refusals.{openingProduct, tightestProduct, conditions}
 use Rattle.model.specs.Effects.{withPlaces, onSegment, atPlace, onThread, pushFrame, popFrame, takeKey, revokeThread, update, answer}
 use Rattle.model.specs.Model.{judged, stepDecoded, step}
 use Rattle.model.specs.Theorems.Neighbours.{isStruck, endsAnother, withoutNumber}
@@ -51,7 +51,7 @@ module _ (compile : Compiler) (n : ℕ) (text : List ℕ) where
 
   answer-same : (d : State) (q : Request) → isStruck n (callOf q text) ≡ false → endsAnother n (callOf q text) ≡ false
       → answer compile (view n d) q text ≡ answer compile d q text
-  unfolding answer openingProduct
+  unfolding answer tightestProduct
   answer-same d request.NewUser h k = refl
   answer-same d (request.StartThread a) h k = refl
   answer-same d (request.EndThread a) h k = rw (same-thread a k, own-kept n (d .places))

@@ -4,7 +4,8 @@
 -- run's calls are open. .. Opening is judged on the run's two identity keys and what each still open call handed over
 -- when made. Live runs, segments, standing locks, open calls and keys are all read from the history of calls and
 -- answers alone.' Since request P5 'a still open call now hands over its list less what was taken since, and the
--- history reads that way' (`Revocation`). Proved in `proofs/Agreement/Granting.antt`.
+-- history reads that way' (`Revocation`), and since request P6 the tightest lock answers (`TightestLock`). Proved in
+-- `proofs/Agreement/Granting.antt`.
 use mathlib.Core.Path.{_≡_}
 use mathlib.Core.Bool.{true}
 use mathlib.Core.List.{List}
@@ -28,13 +29,13 @@ use Rattle.model.specs.HistoryCheck.{Operation, threadOf, Fits, granted,
 -- What the events before the next call say of its answer r: whether it is granted, as an equation and in words
 -- ('Granted means accepted'), and its whole answer; and 'the number that an accepted U, S, N, K or L answers is the
 -- count of that letter's accepted calls earlier in the list'.
-pub record Grants (holds : Meaning) (es : List Event) (next : Call) (r : Answer) : Type 0 where
+pub record Grants (compile : Compiler) (holds : Meaning) (es : List Event) (next : Call) (r : Answer) : Type 0 where
   pub equation : (o : Operation) (t : Thread) → Fits (history es) next o → history es .threads (threadOf o) ≡ some t
       → isAccepted r ≡ granted holds (history es) o t
   pub exactly : (o : Operation) (t : Thread) → Fits (history es) next o → history es .threads (threadOf o) ≡ some t
       → (isAccepted r ≡ true) ↔ Granted holds (history es) o t
   pub answer : (o : Operation) (t : Thread) → Fits (history es) next o → history es .threads (threadOf o) ≡ some t
-      → r ≡ answerFrom holds (history es) o t
+      → r ≡ answerFrom compile holds (history es) o t
   pub number : (q : Request) (n : ℕ) → decoded next ≡ WellFormed q → handsOut q ≡ true → r ≡ Accepted n
       → n ≡ acceptedOf (next .letter) es
 
@@ -42,8 +43,9 @@ pub record Grants (holds : Meaning) (es : List Event) (next : Call) (r : Answer)
 abbrev pub GrantingByLaws : Type 0
 GrantingByLaws =
     (compile : Compiler) (holds : Meaning) → Laws compile holds → (xs : List Call) (next : Call)
-    → Grants holds (events compile xs) next (answerTo compile xs next)
+    → Grants compile holds (events compile xs) next (answerTo compile xs next)
 
 -- and so for the compiler that there is
 abbrev pub Granting : Type 0
-Granting = (xs : List Call) (next : Call) → Grants textHolds (events outcomeOf xs) next (answerTo outcomeOf xs next)
+Granting =
+    (xs : List Call) (next : Call) → Grants outcomeOf textHolds (events outcomeOf xs) next (answerTo outcomeOf xs next)

@@ -1,7 +1,7 @@
 -- A trial for each number from 1 to 15 of document 01's table with each letter that it can refuse, in the table's order
--- and often with a later one that holds too; calls that are not well formed; who edits; what a T withdraws; the limits
--- from both sides; and places that are freed and used again. Each letter of the table of calls occurs accepted and
--- refused. Proved in `proofs/Computed/Trials.antt`, by computing.
+-- and often with a later one that holds too; calls that are not well formed; who edits; what a T withdraws; which lock
+-- answers; the limits from both sides; and places that are freed and used again. Each letter of the table of calls
+-- occurs accepted and refused. Proved in `proofs/Computed/Trials.antt`, by computing.
 use mathlib.Core.Path.{_≡_}
 use mathlib.Core.Bool.{Bool, true, false, _&&_, _||_, not}
 use mathlib.Core.List.{List, [], _∷_, _++_, map}
@@ -309,6 +309,58 @@ givenAgain =
 abbrev pub revoked : List Expected
 revoked = inProgress ++ withdrawal ++ givenAgain
 
+-- Which lock answers (request P6). Thread 0 of user 0 reads sheet 1 while locks are made and dropped, and holds U0 and
+-- R0 alone. Lock 1 is longer than lock 0; lock 2 is as long as lock 1, and stays behind it; lock 3 is the longest, by
+-- barred keys; the long product of lock 4 doesn't open, so it counts for one key. Lock 5 is for writing. The deny locks
+-- 6 and 7 open both, and 14 names the lower, though 7 is the longer.
+abbrev pub locksOfSheet : List Expected
+locksOfSheet =
+    ok U 0
+    ∷ ok U 1
+    ∷ ok (S 0) 0
+    ∷ ok (N 0 0) 0
+    ∷ ok (N 0 1) 1
+    ∷ ok (K 0) 0
+    ∷ ok (L 0 1 2 (bytes "U0")) 0
+    ∷ ok (A 0 1 2) 0
+    ∷ ok (L 0 1 2 (bytes "U0&R0")) 1
+    ∷ ok (A 0 1 2) 1
+    ∷ ok (L 0 1 2 (bytes "R0&!D0")) 2
+    ∷ ok (A 0 1 2) 1
+    ∷ ok (L 0 1 2 (bytes "!U1&!S1&!D0")) 3
+    ∷ ok (A 0 1 2) 3
+    ∷ ok (L 0 1 2 (bytes "U0|D0&S0&S1&!U1&R0")) 4
+    ∷ ok (A 0 1 2) 3
+    ∷ ok (D 0 3) 1
+    ∷ ok (A 0 1 2) 1
+    ∷ ok (D 0 1) 1
+    ∷ ok (A 0 1 2) 2
+    ∷ no (A 0 1 4) 15 0
+    ∷ ok (L 0 1 4 (bytes "U0&R0&!D0")) 5
+    ∷ ok (A 0 1 2) 2
+    ∷ ok (A 0 1 4) 5
+    ∷ ok (L 0 1 10 (bytes "U0")) 6
+    ∷ ok (L 0 1 10 (bytes "U0&R0")) 7
+    ∷ no (A 0 1 2) 14 6
+    ∷ ok (A 0 1 4) 5
+    ∷ []
+
+-- The same of calls of code segment 0. Lock 9 opens by two keys at first, and by its second product's three once S0 is
+-- held, so lock 10, which is longer than the first product, stays behind it; without lock 9 it answers.
+abbrev pub locksOfCode : List Expected
+locksOfCode =
+    ok (L 0 0 1 (bytes "R0")) 8
+    ∷ ok (L 0 0 1 (bytes "R0&!S0|R0&S0&!U1")) 9
+    ∷ ok (C 0 0) 9
+    ∷ ok (L 0 0 1 (bytes "R0&U0")) 10
+    ∷ ok (C 0 0) 9
+    ∷ ok (D 0 9) 2
+    ∷ ok (C 0 0) 10
+    ∷ []
+
+abbrev pub severalLocks : List Expected
+severalLocks = locksOfSheet ++ locksOfCode
+
 -- what the open calls of a thread then hand over, by the history
 abbrev pub handsThen : List Expected → ℕ → Option (List Frame)
 handsThen xs n = mapOption (λ t. t .frames) (historyOf outcomeOf (callsOf xs) .threads n)
@@ -438,6 +490,7 @@ pub record Trials : Type 0 where
       ∷ none
       ∷ some (opened 0 (Defined 1 ∷ []) ∷ [])
       ∷ []
+  pub severalHappen : Happens severalLocks
   pub usersHappen : Happens users
   pub segmentsHappen : Happens segments
   pub threadsHappen : Happens liveThreads

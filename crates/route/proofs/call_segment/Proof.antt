@@ -16,9 +16,9 @@ use Rattle.model.specs.declared.answer.Refusal.the-variants.{NoThread, NoSegmen
 use Rattle.model.specs.declared.answer.Answer.{Answer}
 use Rattle.model.specs.declared.answer.Answer.the-variants.{Accepted, Refused}
 use Rattle.model.specs.Limits.{mostThreads, mostSegments, mostFrames, passes}
-use Rattle.model.specs.Operations.{execute, grants, takes}
+use Rattle.model.specs.Operations.{execute, takes}
 use Rattle.model.specs.State.{isThread, segmentAt, threadAt}
-use Rattle.model.specs.Refusals.{lockOf, openingProduct, conditions}
+use Rattle.model.specs.Refusals.{lockOf, tightestProduct, conditions}
 use Rattle.model.specs.Effects.{answer}
 use Rattle.model.specs.Cells.{Row, Table, Cells, threadsAre, cell, rowAt, tableAt, segmentCount, kindCell, listRow, depthOf, stateOf}
 use Rattle.model.specs.Stores.{pushRow, onTable, store}
@@ -67,7 +67,7 @@ module _ (d : Cells) (text : List ℕ) (a b i : ℕ) (placed : Placed (d .thread
         refused r e h = rw e (turned-away d (CallSegment a b) text a b execute i fit rest same placed here low (fits refl ∙ taken) refl (sym e ∙ h))
 
         module _ {r : Answer} (lock : ℕ) (is : r ≡ Accepted lock) (passed : r ≡ answeredBy (tableAt (d .threads) i) (tableAt (d .locks) b) execute) where
-          through : (firstRefusal (conditions outcomeOf (stateOf d) (CallSegment a b) text) ≡ firstRefusal rest) × (lock ≡ lockOf (openingProduct (stateOf d) grants a b execute))
+          through : (firstRefusal (conditions outcomeOf (stateOf d) (CallSegment a b) text) ≡ firstRefusal rest) × (lock ≡ lockOf (tightestProduct (stateOf d) a b execute))
           through = let-through d (CallSegment a b) text a b execute i fit rest same placed here low (fits refl ∙ taken) refl (sym is ∙ passed)
 
           frames : length (threadAt (stateOf d) a .frames) ≡ depthOf (tableAt (d .threads) i)

@@ -6,8 +6,8 @@ use borrow.Author.Needs.{needs}
 use borrow.Author.Tests.{lt-ltb, le-ltb}
 use Rattle.checking.specs.declared.Checked.the-variants.{Granted, Denied, NotGranted}
 use Rattle.checking.specs.Internal.{codeChecked}
-use Rattle.checking.proofs.checked_in.Statement.{statement}
-use Rattle.checking.proofs.checked_in.Tie as tie
+use Rattle.checking.proofs.head.checked_in.Statement.{statement}
+use Rattle.checking.proofs.head.checked_in.Tie as tie
 
 module _ (code : ℕ) where
   granted : code < 65536 → Granted code ≡ codeChecked code
