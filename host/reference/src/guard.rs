@@ -12,7 +12,7 @@ mod refusal;
 pub use refusal::Refusal;
 
 use crate::call::Call;
-use crate::formula::{self, Product};
+use crate::formula::{self, Literal, Product};
 use crate::limits::{
     LOCK_NUMBERS, MAX_DEFINED_KEYS, MAX_FRAMES, MAX_LIST_KEYS, MAX_LIVE_THREADS,
     MAX_SEGMENT_PRODUCTS, MAX_SEGMENTS, MAX_USERS, THREAD_NUMBERS,
@@ -105,31 +105,34 @@ impl Lock {
         self.operations & DENY != 0
     }
 
-    fn is_opened_by(&self, thread: &Thread) -> bool {
-        self.products.iter().any(|product| {
-            product
-                .literals()
-                .iter()
-                .all(|literal| thread.holds(literal.key) != literal.barred)
-        })
+    /// How many literals the longest of its products has that the thread opens;
+    /// `None` where it opens none.
+    fn longest_opened_by(&self, thread: &Thread) -> Option<usize> {
+        let opens = |literal: &Literal| thread.holds(literal.key) != literal.barred;
+        let products = self.products.iter().map(Product::literals);
+        let opened = products.filter(|literals| literals.iter().all(opens));
+        opened.map(<[Literal]>::len).max()
     }
 }
 
-/// Judges one operation of a thread on a segment: the lowest grant lock that
-/// opens, unless a deny lock does.
+/// Judges one operation of a thread on a segment: the grant lock whose longest
+/// product that opens has the most literals, the lowest of equal ones, unless a deny
+/// lock opens (document 02, P6).
 pub fn check(thread: &Thread, segment: &Segment, operation: u16) -> Answer {
-    let lowest_open = |denies: bool| {
-        segment.locks.iter().find(|lock| {
-            lock.denies() == denies && lock.operations & operation != 0 && lock.is_opened_by(thread)
-        })
-    };
-    if let Some(lock) = lowest_open(true) {
-        return Err(Refusal::Denied(lock.number));
+    let mut tightest = None;
+    let mut most = 0;
+    let standing = segment.locks.iter();
+    for lock in standing.filter(|lock| lock.operations & operation != 0) {
+        match lock.longest_opened_by(thread) {
+            Some(_) if lock.denies() => return Err(Refusal::Denied(lock.number)),
+            Some(longest) if longest > most => {
+                most = longest;
+                tightest = Some(lock.number);
+            }
+            _ => {}
+        }
     }
-    match lowest_open(false) {
-        Some(lock) => Ok(lock.number),
-        None => Err(Refusal::NotGranted),
-    }
+    tightest.ok_or(Refusal::NotGranted)
 }
 
 /// A protection state. The empty one is [`Guard::new`].

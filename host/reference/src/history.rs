@@ -1,12 +1,13 @@
 //! The history (document 01, 'The history'): what stands after a list of calls,
 //! read from the calls and their answers alone, and what it makes of a next
 //! call. It sees no guard. A lock is its formula here, asked of a whole key set;
-//! no products are made to judge it. An open call is the list that it found, with
-//! what was taken since written beside it.
+//! no products are made to judge whether it opens. An open call is the list that it
+//! found, with what was taken since written beside it.
 
 mod key_search;
 mod listing;
 mod open_call;
+mod tightest;
 
 pub use open_call::OpenCall;
 
@@ -62,7 +63,7 @@ struct Operation {
 /// What the history says of a live thread's fitting C or A.
 #[derive(Clone, Copy, Debug, PartialEq, Eq)]
 pub enum Verdict {
-    /// By the lowest grant lock that opens.
+    /// By the tightest grant lock that opens.
     Granted(u16),
     /// By the lowest deny lock that opens.
     Denied(u16),
@@ -233,20 +234,25 @@ impl History {
         } = self.asked(record)?;
         let keys = self.key_set(thread)?;
         let full = number == EXECUTE && self.live[&thread].open_calls.len() >= MAX_FRAMES;
-        // Locks come by rising number.
-        let opening = |deny: bool| {
-            self.standing.iter().find(|(_, lock)| {
-                lock.stands_for(segment, number)
-                    && lock.denies() == deny
-                    && lock.formula.holds(&keys)
-            })
-        };
-        Some(match (opening(true), opening(false)) {
-            (Some((deny, _)), _) => Verdict::Denied(*deny),
-            (None, None) => Verdict::NotGranted,
-            (None, Some(_)) if full => Verdict::Full,
-            (None, Some((grant, _))) => Verdict::Granted(*grant),
+        Some(match self.judgement(&keys, segment, number) {
+            Verdict::Granted(_) if full => Verdict::Full,
+            verdict => verdict,
         })
+    }
+
+    /// What the standing locks make of an operation with these keys, however many
+    /// calls are open.
+    pub fn judgement(&self, keys: &BTreeSet<Key>, segment: u16, operation: u16) -> Verdict {
+        let standing = self.standing();
+        let opening = standing
+            .filter(|(_, lock)| lock.stands_for(segment, operation) && lock.formula.holds(keys));
+        let (deny, grant): (Vec<_>, Vec<_>) = opening.partition(|(_, lock)| lock.denies());
+        // Locks come by rising number.
+        match (deny.first(), tightest::tightest(&grant, keys)) {
+            (Some((lock, _)), _) => Verdict::Denied(*lock),
+            (None, Some(lock)) => Verdict::Granted(lock),
+            (None, None) => Verdict::NotGranted,
+        }
     }
 
     /// Who edits by a thread: its user. `None` where it isn't live.

@@ -3,7 +3,7 @@
 
 use reference::call::Call;
 use reference::guard::{Answer, Guard, Refusal};
-use reference::history::History;
+use reference::history::{History, Verdict};
 use reference::limits::MAX_FRAMES;
 use reference::{Key, Kind};
 use std::collections::BTreeSet;
@@ -137,17 +137,11 @@ impl Faulty {
 
     /// What the standing locks answer to these keys.
     fn check(&self, keys: &BTreeSet<Key>, segment: u16, operation: u16) -> Answer {
-        let lowest_open = |denies: bool| {
-            self.history.standing().find(|(_, lock)| {
-                lock.stands_for(segment, operation)
-                    && lock.denies() == denies
-                    && lock.formula.holds(keys)
-            })
-        };
-        match (lowest_open(true), lowest_open(false)) {
-            (Some((lock, _)), _) => Err(Refusal::Denied(lock)),
-            (None, Some((lock, _))) => Ok(lock),
-            (None, None) => Err(Refusal::NotGranted),
+        match self.history.judgement(keys, segment, operation) {
+            Verdict::Granted(lock) => Ok(lock),
+            Verdict::Denied(lock) => Err(Refusal::Denied(lock)),
+            Verdict::NotGranted => Err(Refusal::NotGranted),
+            Verdict::Full => unreachable!("open calls aren't counted"),
         }
     }
 }
