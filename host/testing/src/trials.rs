@@ -1,11 +1,12 @@
 //! Worked examples for tests, each with the answers that document 01 gives with
-//! document 02's P4 and P5: its own (document 01: trial desks), the installer's
+//! document 02's P4 to P6: its own (document 01: trial desks), the installer's
 //! checklist, the table of refusals, who edits, what a key that is taken is gone
-//! from, and the limits from both sides. What is expected is written out by hand
-//! from the documents, and every guard must give it.
+//! from, which of several locks answers, and the limits from both sides. What is
+//! expected is written out by hand from the documents, and every guard must give it.
 
 mod editors;
 mod limits;
+mod tightest;
 mod withdrawal;
 
 use reference::guard::Answer;
@@ -22,7 +23,7 @@ pub trait Guard {
 pub type Trial = (&'static str, fn(&mut dyn Guard));
 
 /// All of them, each to be tried on a new guard.
-pub const TRIALS: [Trial; 38] = [
+pub const TRIALS: [Trial; 55] = [
     ("the route over two segments", the_route_over_two_segments),
     (
         "an empty state has no user and no thread",
@@ -122,6 +123,74 @@ pub const TRIALS: [Trial; 38] = [
     (
         "a thread at a freed place has calls of its own",
         withdrawal::a_thread_at_a_freed_place_has_calls_of_its_own,
+    ),
+    (
+        "a longer lock answers though it is later",
+        tightest::a_longer_lock_answers_though_it_is_later,
+    ),
+    (
+        "every length beside every other",
+        tightest::every_length_beside_every_other,
+    ),
+    (
+        "equal ones go to the lower number",
+        tightest::equal_ones_go_to_the_lower_number,
+    ),
+    (
+        "a product that doesnt open counts for nothing",
+        tightest::a_product_that_doesnt_open_counts_for_nothing,
+    ),
+    (
+        "the longest product neednt be the first",
+        tightest::the_longest_product_neednt_be_the_first,
+    ),
+    (
+        "the tightest at every place",
+        tightest::the_tightest_at_every_place,
+    ),
+    (
+        "barred keys count as plain ones",
+        tightest::barred_keys_count_as_plain_ones,
+    ),
+    (
+        "nothing else is simplified",
+        tightest::nothing_else_is_simplified,
+    ),
+    (
+        "a dropped lock gives the next back",
+        tightest::a_dropped_lock_gives_the_next_back,
+    ),
+    (
+        "deny locks keep their order",
+        tightest::deny_locks_keep_their_order,
+    ),
+    (
+        "a deny lock after several grant locks",
+        tightest::a_deny_lock_after_several_grant_locks,
+    ),
+    (
+        "a longer lock of another operation doesnt answer",
+        tightest::a_longer_lock_of_another_operation_doesnt_answer,
+    ),
+    (
+        "calls are answered by the tightest too",
+        tightest::calls_are_answered_by_the_tightest_too,
+    ),
+    (
+        "sixteen open calls are full however many locks open",
+        tightest::sixteen_open_calls_are_full_however_many_locks_open,
+    ),
+    (
+        "a taken key makes another lock answer",
+        tightest::a_taken_key_makes_another_lock_answer,
+    ),
+    (
+        "the lower number isnt the earlier place",
+        tightest::the_lower_number_isnt_the_earlier_place,
+    ),
+    (
+        "lock numbers from the first to the last",
+        tightest::lock_numbers_from_the_first_to_the_last,
     ),
     (
         "identity keys are a threads own",
@@ -331,7 +400,8 @@ fn deny_beats_grant_and_the_lowest_number_is_given(guard: &mut dyn Guard) {
     office.ok(b'D', [0, 6, 0], "", 1);
     office.no(b'A', [0, 2, 4], "", 14, 5);
     office.ok(b'A', [0, 2, 2], "", 3);
-    // With S0 held, the barred key fails, and the lowest grant lock answers.
+    // With S0 held, the barred key fails. The grant locks that open have one key each,
+    // so the lowest answers.
     office.ok(b'C', [0, 0, 0], "", 0);
     office.ok(b'A', [0, 2, 4], "", 3);
     office.ok(b'D', [0, 3, 0], "", 1);
