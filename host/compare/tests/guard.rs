@@ -1,6 +1,6 @@
 //! The proved guard against the reference: the worked examples, lists of
-//! withdrawals and long lists of calls, with the same answer to every call, and
-//! every cell of the arrays compared after each.
+//! withdrawals, lists of locks and long lists of calls, with the same answer to every
+//! call, and every cell of the arrays compared after each.
 //!
 //! `ROTUNDAALOE_CALLS=200000000 cargo test --release --test guard` makes that
 //! many calls in the lists, instead of 20,000,000. With `-- --nocapture` it also
@@ -12,9 +12,11 @@ use guards::pair::Pair;
 use guards::tally::Tally;
 use reference::guard::Refusal;
 use reference::history::{History, Verdict};
+use reference::journal::Record;
 use std::{env, thread};
 use testing::calls::{Caller, WORLDS, World};
 use testing::random::Random;
+use testing::tightness;
 use testing::trials::TRIALS;
 use testing::withdrawals;
 
@@ -23,6 +25,7 @@ const CALLS: u64 = 20_000_000;
 /// The history is asked too in one of this many lists.
 const HISTORY_LISTS: u64 = 16;
 const WITHDRAWAL_LISTS: usize = 1_000;
+const LOCK_LISTS: usize = 1_000;
 
 #[test]
 fn worked_examples() {
@@ -32,23 +35,40 @@ fn worked_examples() {
     }
 }
 
-/// Their every C, R and A is made by its own function too, one in two.
+/// Every C, R and A is made by its own function too, one in two. Answers how many frames
+/// lost a key, and how many checks were compared after the list.
+fn compare_list(list: &[Record]) -> (usize, u64) {
+    let mut pair = Pair::new();
+    let mut history = History::new();
+    for (turn, record) in list.iter().enumerate() {
+        let answer = pair.call(record, turn % 2 == 1);
+        history.feed(record, answer.ok());
+    }
+    let checks = pair.compare_checks(history.segments().count());
+    (pair.withdrawn, checks)
+}
+
 #[test]
 fn lists_of_withdrawals() {
     let mut random = Random::new(97);
     let (mut withdrawn, mut checks) = (0, 0);
     for _ in 0..WITHDRAWAL_LISTS {
-        let mut pair = Pair::new();
-        let mut history = History::new();
-        for (turn, record) in withdrawals::list(&mut random).iter().enumerate() {
-            let answer = pair.call(record, turn % 2 == 1);
-            history.feed(record, answer.ok());
-        }
-        checks += pair.compare_checks(history.segments().count());
-        withdrawn += pair.withdrawn;
+        let (frames, compared) = compare_list(&withdrawals::list(&mut random));
+        withdrawn += frames;
+        checks += compared;
     }
     println!("{withdrawn} frames lost a key, and {checks} checks");
     assert!(withdrawn > 10 * WITHDRAWAL_LISTS, "{withdrawn}");
+}
+
+/// Whichever lock answers, a call leaves the same cells.
+#[test]
+fn lists_of_locks() {
+    let mut random = Random::new(104);
+    let lists = (0..LOCK_LISTS).map(|_| tightness::list(&mut random));
+    let checks: u64 = lists.map(|list| compare_list(&list).1).sum();
+    println!("{checks} checks");
+    assert!(checks > 10 * LOCK_LISTS as u64, "{checks}");
 }
 
 /// Names the list, if it fails.

@@ -6,7 +6,7 @@ use compare::typed::{key, literal};
 use reference::history::History;
 use rotundaaloe::formula::{Key, Literal, Product};
 use rotundaaloe::raw::Cells;
-use rotundaaloe::view::{Frame, Segment, Thread};
+use rotundaaloe::view::{Frame, Lock, Segment, Thread};
 use rotundaaloe::{Access, Guard, Kind, Operations, Recorder, Refusal, User, refusal};
 use std::collections::BTreeSet;
 use testing::calls::{Caller, WORLDS};
@@ -185,21 +185,29 @@ fn drawn(random: &mut Random) -> Guard {
     Guard::from_cells(cells)
 }
 
-/// What the locks answer, from what the library tells of them.
+/// What the locks answer, from what the library tells of them. Of equal ones it is the
+/// first.
 fn checked(thread: &Thread, segment: &Segment, operation: u16) -> Result<u16, Refusal> {
     let keys: BTreeSet<Key> = thread.keys();
     let agrees = |literal: &Literal| match literal {
         Literal::Plain(key) => keys.contains(key),
         Literal::Barred(key) => !keys.contains(key),
     };
-    let opens = |product: &Product| product.literals().iter().all(agrees);
+    let opens = |product: &&Product| product.literals().iter().all(agrees);
+    let longest = |lock: &Lock| {
+        let opening = lock.products.iter().filter(opens);
+        opening.map(|product| product.literals().len()).max()
+    };
     let opening = |deny: u16| {
-        segment.locks.iter().find(|lock| {
+        let locks = segment.locks.iter();
+        locks.filter(move |lock| {
             let Operations(set) = lock.operations;
-            set & operation != 0 && set & 8 == deny && lock.products.iter().any(opens)
+            set & operation != 0 && set & 8 == deny && longest(lock).is_some()
         })
     };
-    match (opening(8), opening(0)) {
+    let most = opening(0).map(longest).max();
+    let tightest = opening(0).find(|lock| Some(longest(lock)) == most);
+    match (opening(8).next(), tightest) {
         (Some(lock), _) => Err(Refusal::Denied(lock.number)),
         (None, Some(lock)) => Ok(lock.number.0),
         (None, None) => Err(Refusal::NotGranted),

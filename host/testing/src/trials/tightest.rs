@@ -369,6 +369,14 @@ pub(super) fn a_longer_lock_of_another_operation_doesnt_answer(guard: &mut dyn G
     office.no(b'A', [0, 1, 4], "", 14, 5);
     office.drop_lock(5, 1);
     office.no(b'A', [0, 1, 4], "", 15, 0);
+    // The tightest for both answers both, and then each has its own.
+    office.ok(b'L', [0, 1, 4], "R0", 6);
+    office.ok(b'L', [0, 1, 6], "R0&S0&D0", 7);
+    office.reads(0, 7);
+    office.ok(b'A', [0, 1, 4], "", 7);
+    office.drop_lock(7, 1);
+    office.reads(0, 1);
+    office.ok(b'A', [0, 1, 4], "", 6);
 }
 
 /// A call is judged by what is held before it. Lock 0 is the first of all numbers.

@@ -1,0 +1,296 @@
+//! Which lock answers (document 02, P6), told a third time: from the products of a
+//! segment's locks that open, and their lengths. The reference guard and the history are
+//! asked the same, in lists of locks of every tightness. Then the reference is given
+//! faults in its choice, and the lists and the worked examples must tell each from it.
+//!
+//! `cargo test --release -- --nocapture` also prints how often each sort of question came,
+//! and in how many lists each fault shows.
+
+use reference::guard::{Answer, Guard, Refusal};
+use reference::history::{History, Verdict};
+use reference::journal::Record;
+use reference::limits::MAX_LITERALS;
+use reference::operations::EXECUTE;
+use std::collections::BTreeMap;
+use testing::calls::{Caller, WORLDS, call, told};
+use testing::choice::{Asked, FAULTS, Fault, Lock};
+use testing::random::Random;
+use testing::tightness;
+use testing::trials::{self, TRIALS};
+
+/// Lists of locks.
+const LISTS: usize = 1_000;
+/// Each sort of question must come this often, of calls and of accesses.
+const OFTEN: usize = LISTS / 8;
+/// Lists on which each fault is tried. It must show in one of `SHARE`.
+const FAULTY_LISTS: usize = 300;
+const SHARE: usize = 20;
+/// Lists of each kind, without a fault.
+const OTHER_LISTS: usize = 40;
+
+/// What a question finds.
+#[derive(Clone, Copy, Debug, PartialEq, Eq, PartialOrd, Ord)]
+enum Sort {
+    /// Several grant locks open, and no deny lock.
+    Several,
+    /// And the lowest of them isn't the tightest.
+    NotTheLowest,
+    /// And the tightest isn't alone.
+    Equal,
+    /// And the tightest has a longer product that doesn't open, or another lock that
+    /// opens has one that is longer than the tightest.
+    LongerClosed,
+    /// And in the tightest a shorter product opens before the longest.
+    NotTheFirst,
+    /// And it is the tightest by its barred keys, or by its plain ones.
+    ByBarred,
+    ByPlain,
+    /// And it has the most keys that fit.
+    OfSix,
+    /// A lock of another operation opens, which is tighter.
+    OtherOperation,
+    /// A deny lock opens, and so does a tighter grant lock.
+    DeniedByAShorter,
+    /// Several deny locks open, and the lowest isn't the longest.
+    DeniedByTheLowest,
+    /// A deny lock opens after a grant lock.
+    DeniedAfter,
+}
+
+use Sort::*;
+
+const SORTS: [Sort; 12] = [
+    Several,
+    NotTheLowest,
+    Equal,
+    LongerClosed,
+    NotTheFirst,
+    ByBarred,
+    ByPlain,
+    OfSix,
+    OtherOperation,
+    DeniedByAShorter,
+    DeniedByTheLowest,
+    DeniedAfter,
+];
+
+/// The sorts that a question is of.
+fn sorts(asked: &Asked) -> Vec<Sort> {
+    let (deny, grant) = (asked.opening(true), asked.opening(false));
+    let longest = |locks: &[&Lock]| locks.iter().filter_map(|lock| lock.longest()).max();
+    let most = longest(&grant);
+    let tightest = grant.iter().find(|lock| lock.longest() == most);
+    let (Some(tightest), Some(most)) = (tightest, most) else {
+        return Vec::new();
+    };
+    if let Some(first) = deny.first() {
+        let sorts = [
+            (DeniedByAShorter, longest(&deny) < Some(most)),
+            (DeniedByTheLowest, first.longest() < longest(&deny)),
+            (DeniedAfter, first.number > grant[0].number),
+        ];
+        return came(&sorts);
+    }
+    let measured = |lock: &Lock| {
+        let opening = lock.products.iter().filter(|product| product.opens);
+        let plain = opening.clone().map(|product| product.plain).max();
+        (plain, opening.map(|product| product.barred).max())
+    };
+    let others: Vec<_> = grant
+        .iter()
+        .filter(|lock| lock.number != tightest.number)
+        .map(|lock| measured(lock))
+        .collect();
+    let (plain, barred) = measured(tightest);
+    let has_longer = |lock: &&Lock| lock.products.iter().any(|product| product.length() > most);
+    let is_tighter = |lock: &Lock| !lock.denies() && lock.longest() > Some(most);
+    let several = grant.len() > 1;
+    came(&[
+        (Several, several),
+        (NotTheLowest, tightest.number != grant[0].number),
+        (
+            Equal,
+            several
+                && grant
+                    .iter()
+                    .filter(|lock| lock.longest() == Some(most))
+                    .count()
+                    > 1,
+        ),
+        (LongerClosed, several && grant.iter().any(has_longer)),
+        (
+            NotTheFirst,
+            several && tightest.lengths().next() < Some(most),
+        ),
+        (ByBarred, others.iter().any(|(other, _)| *other >= plain)),
+        (ByPlain, others.iter().any(|(_, other)| *other >= barred)),
+        (OfSix, several && most == MAX_LITERALS),
+        (OtherOperation, asked.locks.iter().any(is_tighter)),
+    ])
+}
+
+fn came(sorts: &[(Sort, bool)]) -> Vec<Sort> {
+    let came = sorts.iter().filter(|(_, came)| *came);
+    came.map(|(sort, _)| *sort).collect()
+}
+
+/// How often each sort came, of calls and of accesses.
+type Tally = BTreeMap<(bool, Sort), usize>;
+
+fn answer_of(verdict: Verdict) -> Answer {
+    match verdict {
+        Verdict::Granted(lock) => Ok(lock),
+        Verdict::Denied(lock) => Err(Refusal::Denied(lock)),
+        Verdict::NotGranted => Err(Refusal::NotGranted),
+        Verdict::Full => Err(Refusal::Full),
+    }
+}
+
+fn lists(seed: u64, count: usize) -> impl Iterator<Item = Vec<Record>> {
+    let mut random = Random::new(seed);
+    (0..count).map(move |_| tightness::list(&mut random))
+}
+
+#[test]
+fn lists_of_locks() {
+    let mut tally = Tally::new();
+    let (mut full, mut with_several) = (0, 0);
+    for list in lists(98, LISTS) {
+        let (mut guard, mut history) = (Guard::new(), History::new());
+        let mut has_several = false;
+        for record in list {
+            let asked = Asked::of(&history, &record);
+            let by_history = history.verdict(&record);
+            let answer = told(&mut guard, &mut history, &record);
+            let Some(asked) = asked else {
+                continue;
+            };
+            assert_eq!(by_history.map(answer_of), Some(answer), "{record:?}");
+            assert_eq!(asked.answer(None), answer, "{record:?} {asked:?}");
+            full += usize::from(answer == Err(Refusal::Full));
+            let sorts = sorts(&asked);
+            has_several |= sorts.contains(&Several);
+            for sort in sorts {
+                let is_call = asked.operation == EXECUTE;
+                *tally.entry((is_call, sort)).or_default() += 1;
+            }
+        }
+        with_several += usize::from(has_several);
+    }
+    println!("{with_several} of {LISTS} lists with several locks, {full} full: {tally:?}");
+    assert!(with_several > LISTS * 9 / 10, "{with_several} lists");
+    assert!(full > OFTEN, "{full}");
+    for sort in SORTS {
+        for is_call in [true, false] {
+            let count = tally.get(&(is_call, sort)).copied().unwrap_or(0);
+            // A code segment's locks are for one operation.
+            let can_be = !(is_call && sort == OtherOperation);
+            let right = if can_be { count >= OFTEN } else { count == 0 };
+            assert!(right, "{sort:?} of calls {is_call} came {count} times");
+        }
+    }
+}
+
+/// The reference with a fault in its choice, or with none.
+struct Faulty {
+    guard: Guard,
+    history: History,
+    fault: Option<Fault>,
+    /// Whether an answer has differed from the reference's.
+    differs: bool,
+}
+
+impl Faulty {
+    fn new(fault: Option<Fault>) -> Faulty {
+        Faulty {
+            guard: Guard::new(),
+            history: History::new(),
+            fault,
+            differs: false,
+        }
+    }
+
+    /// The right answer. The faulty one is compared with it.
+    fn call(&mut self, record: &Record) -> Answer {
+        let asked = Asked::of(&self.history, record);
+        let answer = told(&mut self.guard, &mut self.history, record);
+        if let Some(asked) = asked {
+            self.differs |= asked.answer(self.fault) != answer;
+        }
+        answer
+    }
+}
+
+impl trials::Guard for Faulty {
+    fn call(&mut self, letter: u8, [a, b, c]: [u16; 3], text: &[u8]) -> Answer {
+        let text = text.to_vec();
+        Faulty::call(
+            self,
+            &Record {
+                text,
+                ..call(letter, a, b, c)
+            },
+        )
+    }
+}
+
+fn shows(fault: Option<Fault>, list: &[Record]) -> bool {
+    let mut faulty = Faulty::new(fault);
+    list.iter().any(|record| {
+        let _ = faulty.call(record);
+        faulty.differs
+    })
+}
+
+#[test]
+fn a_faulty_choice_is_told() {
+    let mut told = FAULTS.map(|_| 0);
+    for list in lists(99, FAULTY_LISTS) {
+        assert!(!shows(None, &list));
+        for (fault, told) in FAULTS.into_iter().zip(&mut told) {
+            *told += usize::from(shows(Some(fault), &list));
+        }
+    }
+    for (fault, told) in FAULTS.into_iter().zip(told) {
+        println!("{fault:?}: in {told} of {FAULTY_LISTS} lists");
+        assert!(told > FAULTY_LISTS / SHARE, "{fault:?}: in {told} lists");
+    }
+}
+
+#[test]
+fn a_faulty_choice_fails_a_worked_example() {
+    for fault in FAULTS {
+        let failed = TRIALS.iter().filter(|(_, trial)| {
+            let mut faulty = Faulty::new(Some(fault));
+            trial(&mut faulty);
+            faulty.differs
+        });
+        let failed: Vec<&str> = failed.map(|(name, _)| *name).collect();
+        println!("{fault:?}: {failed:?}");
+        assert!(!failed.is_empty(), "{fault:?}");
+    }
+}
+
+/// So it is the faults that are told.
+#[test]
+fn the_right_choice_is_the_references() {
+    for (_, trial) in TRIALS {
+        let mut right = Faulty::new(None);
+        trial(&mut right);
+        assert!(!right.differs);
+    }
+    let mut random = Random::new(100);
+    for world in &WORLDS {
+        for _ in 0..OTHER_LISTS {
+            let mut right = Faulty::new(None);
+            let mut caller = Caller::new(&mut random, world);
+            for _ in 0..caller.length() {
+                let record = caller.next_call();
+                if let Ok(answer) = right.call(&record) {
+                    caller.learn(&record, answer);
+                }
+            }
+            assert!(!right.differs);
+        }
+    }
+}
