@@ -21,6 +21,7 @@ use std::collections::{BTreeMap, BTreeSet};
 use testing::calls::{Caller, WORLDS, World, call, outcomes};
 use testing::neighbours::{crowd, is_struck, strike};
 use testing::random::Random;
+use testing::tightness;
 use testing::trials::{self, TRIALS};
 use testing::withdrawals;
 
@@ -170,8 +171,8 @@ impl Neighbours {
     }
 }
 
-/// Neighbours of every kind, so many of each, and as many among whom keys are taken
-/// from open calls.
+/// Neighbours of every kind, so many of each, as many among whom keys are taken from
+/// open calls, and as many for whom several locks open at once.
 fn try_neighbours(lists: usize, mut attempt: impl FnMut(&Neighbours)) {
     for (world, seed) in WORLDS.iter().zip(60..) {
         let mut random = Random::new(seed);
@@ -180,11 +181,14 @@ fn try_neighbours(lists: usize, mut attempt: impl FnMut(&Neighbours)) {
             attempt(&Neighbours::draw(&mut random, world));
         }
     }
-    let mut random = Random::new(65);
-    for _ in 0..lists {
-        let list = withdrawals::list(&mut random);
-        let list = answered(&mut Both::default(), &list);
-        attempt(&Neighbours::of(&mut random, &WORLDS[0], list));
+    let draws: [fn(&mut Random) -> Vec<Record>; 2] = [withdrawals::list, tightness::list];
+    for (draw, seed) in draws.into_iter().zip(65..) {
+        let mut random = Random::new(seed);
+        for _ in 0..lists {
+            let list = draw(&mut random);
+            let list = answered(&mut Both::default(), &list);
+            attempt(&Neighbours::of(&mut random, &WORLDS[0], list));
+        }
     }
 }
 

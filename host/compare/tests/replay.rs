@@ -13,6 +13,7 @@ use std::thread;
 use testing::calls::{Caller, WORLDS};
 use testing::journals;
 use testing::random::Random;
+use testing::tightness;
 use testing::withdrawals;
 
 /// What the program prints for a file that comes in these pieces.
@@ -144,7 +145,8 @@ fn generated_files() {
         let file = match turn % 20 {
             0..7 => list_file(&mut random),
             7 => journal::write(&withdrawals::list(&mut random)),
-            8..11 => journals::whole(&mut random),
+            8 => journal::write(&tightness::list(&mut random)),
+            9..11 => journals::whole(&mut random),
             11..17 => journals::damaged(&mut random),
             17 => {
                 let mut file = list_file(&mut random);

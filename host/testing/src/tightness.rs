@@ -80,7 +80,7 @@ impl<'a> Office<'a> {
         };
         for _ in 0..code + threads {
             office.give_or_take();
-            office.call_segment(1);
+            office.call_segment();
             office.add_lock();
             office.add_lock();
         }
@@ -92,8 +92,8 @@ impl<'a> Office<'a> {
             0..9 => self.add_lock(),
             9..12 => self.drop_lock(),
             12..14 => self.give_or_take(),
-            14..16 if deep => self.call_segment(MOST_CALLS),
-            14..16 => self.call_segment(1),
+            14..16 if deep => self.descend(),
+            14..16 => self.call_segment(),
             16..18 if !deep => self.return_call(),
             18 => self.come_or_go(),
             _ => {}
@@ -157,7 +157,7 @@ impl<'a> Office<'a> {
             Some(Verdict::Granted(lock) | Verdict::Denied(lock))
                 if !self.draft.random.one_in(3) =>
             {
-                self.drop(segment, lock);
+                self.drop_one(segment, lock);
             }
             _ => self.drop_from(segment),
         }
@@ -167,11 +167,11 @@ impl<'a> Office<'a> {
         let locks = self.locks_on(segment);
         if !locks.is_empty() {
             let lock = self.draft.random.pick(&locks);
-            self.drop(segment, lock);
+            self.drop_one(segment, lock);
         }
     }
 
-    fn drop(&mut self, segment: u16, lock: u16) {
+    fn drop_one(&mut self, segment: u16, lock: u16) {
         let editor = self.draft.editor_of(segment);
         let _ = self.draft.call(call(Letter::DropLock, editor, lock, 0));
     }
@@ -180,12 +180,8 @@ impl<'a> Office<'a> {
         let segment = self.draft.random.pick(&self.code);
         let number = self.draft.random.below(usize::from(self.keys)) as u16;
         let kind = Kind::Defined;
-        let letter = match self
-            .draft
-            .told_of(segment)
-            .list
-            .contains(&Key { kind, number })
-        {
+        let list = &self.draft.told_of(segment).list;
+        let letter = match list.contains(&Key { kind, number }) {
             true => Letter::TakeKey,
             false => Letter::GiveKey,
         };
@@ -193,17 +189,23 @@ impl<'a> Office<'a> {
         let _ = self.draft.call(call(letter, editor, segment, number));
     }
 
-    /// So many times at most.
-    fn call_segment(&mut self, most: usize) {
-        let thread = match most {
-            1 => self.draft.thread(),
-            _ => self.draft.live()[0],
-        };
-        for _ in 0..self.draft.random.between(1, most) {
-            let segment = self.draft.random.pick(&self.code);
-            let _ = self
-                .draft
-                .call(call(Letter::CallSegment, thread, segment, 0));
+    fn call_segment(&mut self) {
+        let thread = self.draft.thread();
+        self.call_by(thread);
+    }
+
+    fn call_by(&mut self, thread: u16) {
+        let segment = self.draft.random.pick(&self.code);
+        let _ = self
+            .draft
+            .call(call(Letter::CallSegment, thread, segment, 0));
+    }
+
+    /// The oldest thread calls on and on.
+    fn descend(&mut self) {
+        let oldest = self.draft.live()[0];
+        for _ in 0..self.draft.random.between(1, MOST_CALLS) {
+            self.call_by(oldest);
         }
     }
 
@@ -213,18 +215,12 @@ impl<'a> Office<'a> {
     }
 
     fn come_or_go(&mut self) {
-        let thread = self.draft.thread();
-        let record = match self.draft.live().len() < MOST_THREADS {
-            true => {
-                let users = self.draft.history.issued().users as usize;
-                call(
-                    Letter::StartThread,
-                    self.draft.random.below(users) as u16,
-                    0,
-                    0,
-                )
-            }
-            false => call(Letter::EndThread, thread, 0, 0),
+        let record = if self.draft.live().len() < MOST_THREADS {
+            let users = self.draft.history.issued().users as usize;
+            let user = self.draft.random.below(users) as u16;
+            call(Letter::StartThread, user, 0, 0)
+        } else {
+            call(Letter::EndThread, self.draft.thread(), 0, 0)
         };
         let _ = self.draft.call(record);
     }
