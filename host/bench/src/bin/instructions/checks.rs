@@ -3,6 +3,7 @@
 
 use crate::scenes::{Check, Counted, Scene};
 use bench::route::{self, DEPTHS, FIRST_LOCK, SHEET, THREAD};
+use reference::journal::Record;
 use reference::limits::{MAX_LITERALS, MAX_SEGMENT_PRODUCTS};
 use reference::operations::WRITE;
 use std::ops::RangeInclusive;
@@ -107,20 +108,27 @@ pub fn name(case: Case, literals: u16, products: u16, depth: u16) -> String {
     format!("check, {case}, {literals} literals, {products} products, depth {depth}")
 }
 
-/// A check of the operation write: of the proved guard, inside an access.
 pub fn scene(case: Case, literals: u16, products: u16, depth: u16) -> Scene {
     let opening = case.opening(products);
     let texts: Vec<String> = (0..products)
         .map(|product| case.product(product == opening, literals))
         .collect();
+    let name = name(case, literals, products, depth);
+    let before = route::calls(depth, case.holder(depth), &texts);
+    of_sheet(name, before, opening)
+}
+
+/// A check of the operation write on the route's sheet: of the proved guard, inside
+/// an access. The lock at this place, 0 for the first, answers.
+pub fn of_sheet(name: String, before: Vec<Record>, answering: u16) -> Scene {
     Scene {
-        name: name(case, literals, products, depth),
-        before: route::calls(depth, case.holder(depth), &texts),
+        name,
+        before,
         counted: Counted::Check(Check {
             thread: THREAD,
             segment: SHEET,
             operation: WRITE,
         }),
-        expected: FIRST_LOCK + opening,
+        expected: FIRST_LOCK + answering,
     }
 }

@@ -1,6 +1,7 @@
 //! The most instructions that the proved guard may take, in one table.
 
 use crate::checks::{self, Case};
+use crate::grants::Grants;
 use crate::scenes::{HOME, PAIRS, Pair, call_name, twelve_name};
 use crate::takes::Take;
 use reference::letter::Letter;
@@ -10,6 +11,8 @@ use reference::letter::Letter;
 pub enum Limited {
     /// The check of so many literals a product and products, at depth 1.
     Check(Case, u16, u16),
+    /// The check where several grant locks open, at depth 1.
+    Grants(Grants),
     /// C, by its own function, of a segment with this pair of products.
     Call(Pair),
     /// R, by its own function.
@@ -23,13 +26,15 @@ pub enum Limited {
 /// Each limit, and the most that is within it. The second pair of products has
 /// a barred key. The limit on T where all open calls lose the key was chosen after
 /// the measurement.
-pub const LIMITS: [(Limited, u64); 14] = [
+pub const LIMITS: [(Limited, u64); 16] = [
     (Limited::Check(Case::FirstFails, 2, 1), 98),
     (Limited::Check(Case::FirstFails, 2, 2), 150),
     (Limited::Check(Case::FirstFails, 6, 8), 1_000),
     (Limited::Check(Case::Barred, 2, 1), 100),
     (Limited::Check(Case::Barred, 2, 2), 165),
     (Limited::Check(Case::Barred, 6, 8), 1_080),
+    (Limited::Grants(Grants::Equal), 300),
+    (Limited::Grants(Grants::Rising), 700),
     (Limited::Call(PAIRS[0]), 230),
     (Limited::Call(PAIRS[1]), 245),
     (Limited::Call(PAIRS[2]), 230),
@@ -50,6 +55,10 @@ impl Limited {
                     _ => "plain keys",
                 };
                 format!("the check at depth 1, m = {m}, n = {n}, {keys}")
+            }
+            Limited::Grants(grants) => {
+                let locks = grants.name();
+                format!("the check at depth 1, grant locks that open: {locks}")
             }
             Limited::Call(pair) => {
                 let [first, second] = pair.texts;
@@ -72,6 +81,7 @@ impl Limited {
         };
         match self {
             Limited::Check(case, m, n) => vec![checks::name(case, m, n, 1)],
+            Limited::Grants(grants) => vec![grants.scene_name(1)],
             Limited::Call(pair) => at_home(Letter::CallSegment, pair),
             Limited::Return => at_home(Letter::ReturnCall, PAIRS[0]),
             Limited::Access => vec![twelve_name(Letter::Access, false)],

@@ -15,6 +15,8 @@ mod checks;
 #[cfg(target_arch = "x86_64")]
 mod counting;
 #[cfg(target_arch = "x86_64")]
+mod grants;
+#[cfg(target_arch = "x86_64")]
 mod limits;
 #[cfg(target_arch = "x86_64")]
 mod listings;
@@ -29,6 +31,8 @@ mod takes;
 
 #[cfg(target_arch = "x86_64")]
 use callgrind::Run;
+#[cfg(target_arch = "x86_64")]
+use grants::Grants;
 #[cfg(target_arch = "x86_64")]
 use listings::{LISTINGS, Listing};
 #[cfg(target_arch = "x86_64")]
@@ -58,6 +62,7 @@ fn main() -> ExitCode {
     LISTINGS.into_iter().for_each(Listing::tried);
     searches.into_iter().for_each(Search::tried);
     TAKES.into_iter().for_each(Take::tried);
+    Grants::ALL.into_iter().for_each(Grants::tried);
     match reported() {
         Ok(0) => ExitCode::SUCCESS,
         Ok(_) => ExitCode::FAILURE,

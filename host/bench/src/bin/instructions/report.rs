@@ -3,6 +3,7 @@
 use crate::callgrind::CHECK;
 use crate::checks::{self, Case, LITERALS, PRODUCTS};
 use crate::counting::{EMPTY, PROVED, REFERENCE, count_name};
+use crate::grants::Grants;
 use crate::limits::LIMITS;
 use crate::listings::LISTINGS;
 use crate::scenes::{AWAY, HOME, PAIRS, Pair, call_name, the_twelve, twelve_name};
@@ -137,6 +138,7 @@ impl Report {
     pub fn print(mut self) -> usize {
         self.print_limits();
         self.print_checks();
+        self.print_grants();
         self.print_calls();
         self.print_the_twelve();
         self.print_takes();
@@ -315,6 +317,27 @@ impl Report {
         for case in Case::ALL {
             for depth in case.depths() {
                 print_ratio_row(case.name(), *depth, |m, n| self.check(case, m, n, *depth));
+            }
+        }
+    }
+
+    /// Only eight equal and eight rising locks have a limit, at depth 1.
+    fn print_grants(&self) {
+        println!("\n### Several grant locks that open\n");
+        println!(
+            "Counted as in the tables of the check. Each lock is one product of keys that the \
+             oldest open call has handed over, and all of them open. The one with the most \
+             literals answers, the first of equal ones.\n"
+        );
+        println!("| Locks | Literals | Depth | Lock that answers | Proved | Reference | Ratio |");
+        println!("|---|---|---:|---:|---:|---:|---:|");
+        for grants in Grants::ALL {
+            let literals: Vec<String> = grants.literals().iter().map(usize::to_string).collect();
+            let (name, literals) = (grants.name(), literals.join(", "));
+            let answers = grants.answering() + 1;
+            for depth in grants.depths() {
+                let counts = self.counts(&grants.scene_name(*depth)).columns();
+                println!("| {name} | {literals} | {depth} | {answers} | {counts} |");
             }
         }
     }

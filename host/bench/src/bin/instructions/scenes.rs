@@ -2,6 +2,7 @@
 //! and one call on it or one check.
 
 use crate::checks::{self, Case, LITERALS, PRODUCTS};
+use crate::grants::Grants;
 use crate::takes::{TAKES, Take};
 use compare::guard::Own;
 use reference::call::Call;
@@ -179,6 +180,7 @@ pub fn all() -> Vec<Scene> {
             }
         }
     }
+    scenes.extend(Grants::ALL.into_iter().flat_map(Grants::scenes));
     for pair in PAIRS {
         for thread in HOME.into_iter().chain([AWAY]) {
             let scene = |entry| call_and_return(entry, pair, thread);
