@@ -18,3 +18,10 @@ pub fn counted(number: usize, noun: &str) -> String {
     let s = if number == 1 { "" } else { "s" };
     format!("{} {noun}{s}", grouped(number))
 }
+
+/// A small number as a word, for sentences: `two`.
+pub fn spelt(number: usize) -> String {
+    let words = ["no", "one", "two", "three", "four", "five", "six"];
+    let word = words.get(number).map(ToString::to_string);
+    word.unwrap_or_else(|| grouped(number))
+}

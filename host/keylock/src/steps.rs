@@ -5,6 +5,7 @@
 
 mod accepted;
 mod check;
+mod choice;
 mod judgement;
 mod kept;
 mod lack;

@@ -136,14 +136,17 @@ Usage: keylock trace [--html] [FILE] [-o OUT]
 
 Explains a journal or a text journal step by step: what each call asks for, the
 guard's answer and why, the thread's open calls and keys after it and, for a C
-or an A, each lock with the key that opened it or kept it shut. A segment stands
-there with its locks and with its lock list, as its owner and as a colleague
-sees it; on a page that list is at a C or an A too, where a click opens it. A T
-takes its key from the segment's open calls too: the threads that lose it stand
-there, and while such a call is open, the key stands in it with the step that
-took it, struck out on a page. The text's comments and expected answers stand
-beside the steps. A comment that begins with what its call makes gives it a
-name, of up to 40 characters:
+or an A, each lock with the key that opened it or kept it shut. Where several
+grant locks open, the tightest answers: the one whose longest product that opens
+has the most keys, barred ones counted, and of equally tight ones the lowest.
+Then each stands there with its number of keys. A segment stands there with its
+locks and with its lock list, as its owner and as a colleague sees it; on a page
+that list is at a C or an A too, where a click opens it. A T takes its key from
+the segment's open calls too: the threads that lose it stand there, and while
+such a call is open, the key stands in it with the step that took it, struck out
+on a page. The text's comments and expected answers stand beside the steps. A
+comment that begins with what its call makes gives it a name, of up to 40
+characters:
 
   S 0    # thread 0, the May closing
   N 0 1  # segment 2, the totals sheet

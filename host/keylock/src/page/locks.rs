@@ -19,7 +19,7 @@ pub fn tried_on(judgement: &Judgement, pieces: &mut Pieces) -> String {
     let others = others.into_iter().map(|lock| (lock, part));
     let locks = deciding.chain(others);
     let locks: String = locks
-        .map(|(lock, part)| tried(lock, part, pieces))
+        .map(|(lock, part)| tried(lock, part, judgement.rank(lock), pieces))
         .collect();
     let none = match judgement.locks.is_empty() {
         true => "<p class=\"lock\">There is none.</p>\n",
@@ -52,7 +52,8 @@ enum Part {
     Lacks,
 }
 
-fn tried(tried: &Tried, part: Part, pieces: &mut Pieces) -> String {
+/// With its rank among several grant locks that open.
+fn tried(tried: &Tried, part: Part, rank: Option<String>, pieces: &mut Pieces) -> String {
     let number = tried.lock.number;
     let decides = part == Part::Decides;
     let verb = words::verb(tried.lock.denies());
@@ -72,14 +73,16 @@ fn tried(tried: &Tried, part: Part, pieces: &mut Pieces) -> String {
             class += &format!(" {name}");
         }
     }
-    let first = tried.products.iter().position(|product| product.opens);
+    let longest = tried.longest();
     let products = tried.products.iter().enumerate();
     let products: String = products
-        .map(|(place, tried)| product(tried, decides && first == Some(place), pieces))
+        .map(|(place, tried)| product(tried, decides && longest == Some(place), pieces))
         .collect();
     let line = lock_line(&tried.lock, &state);
+    let rank = rank.map(|rank| format!("<p class=\"rank\">{}</p>", said(&rank)));
+    let rank = rank.unwrap_or_default();
     pieces.share(format!(
-        "<div class=\"{class}\">{line}<ul>{products}</ul></div>\n"
+        "<div class=\"{class}\">{line}{rank}<ul>{products}</ul></div>\n"
     ))
 }
 

@@ -1,6 +1,6 @@
 //! What an accepted call means for those after it, in a sentence or two.
 
-use super::judgement::Judgement;
+use super::judgement::{Judgement, PAST, PRESENT};
 use super::product::wanted;
 use super::state::{Loss, State, key};
 use crate::words;
@@ -118,7 +118,7 @@ fn locked(state: &State, operations: Operations, text: &[u8]) -> String {
     let products = formula::compile(text, state.issued()).unwrap_or_default();
     let wanted = products
         .iter()
-        .map(|product| wanted(product, "holds", "doesn't hold"));
+        .map(|product| wanted(product, PRESENT.holds, PRESENT.lacks));
     let wanted: Vec<String> = wanted.collect();
     let verb = match operations.0 & 8 {
         8 => "It denies",
@@ -171,9 +171,9 @@ fn listed(keys: &[&reference::Key]) -> String {
 
 fn granted(judgement: &Judgement) -> String {
     // A call hands over keys, so what it was tried with is past.
-    let opening = match judgement.operation {
-        1 => judgement.opening("opened", "held", "didn't hold"),
-        _ => judgement.opening("opens", "holds", "doesn't hold"),
+    let verbs = match judgement.operation {
+        1 => PAST,
+        _ => PRESENT,
     };
-    opening + &judgement.withdrawn()
+    judgement.opening(&verbs) + &judgement.withdrawn()
 }

@@ -1,6 +1,7 @@
 //! Whether an explanation leads to the proved guard's answer. It always does,
 //! unless this library is wrong.
 
+use super::choice;
 use super::judgement::Judgement;
 use super::product::Literal;
 use super::shown_keys;
@@ -72,21 +73,19 @@ fn found_elsewhere(
     (found != read).then(differs)
 }
 
-/// The answer that follows from the locks.
+/// The answer that follows from the locks: the lowest deny lock that opens, else the
+/// tightest grant lock.
 fn drawn(state: &State, judgement: &Judgement) -> Result<u16, Refusal> {
-    let opening = |denies: bool| {
-        let mut locks = judgement.locks.iter();
-        let lock = locks.find(|tried| tried.lock.denies() == denies && tried.opens());
-        lock.map(|tried| tried.lock.number)
-    };
+    let mut locks = judgement.locks.iter();
+    let denying = locks.find(|tried| tried.lock.denies() && tried.opens());
     let open_calls = state.open_calls(judgement.thread).len();
-    match (opening(true), opening(false)) {
-        (Some(lock), _) => Err(Refusal::Denied(Lock(lock))),
+    match (denying, choice::tightest(judgement)) {
+        (Some(tried), _) => Err(Refusal::Denied(Lock(tried.lock.number))),
         (None, None) => Err(Refusal::NotGranted),
         (None, Some(_)) if judgement.operation == 1 && open_calls >= MOST_OPEN_CALLS => {
             Err(Refusal::Full)
         }
-        (None, Some(lock)) => Ok(lock),
+        (None, Some(tried)) => Ok(tried.lock.number),
     }
 }
 
@@ -167,6 +166,31 @@ mod tests {
             let wrong = wrong(&mut teller, access).expect("lists that differ");
             assert!(wrong.starts_with("the locks say [LockRow "), "{wrong}");
             assert!(wrong.contains(", the guard lists "), "{wrong}");
+        }
+    }
+
+    /// A guard that answers the looser lock, or of equally tight ones the higher: its
+    /// locks ask for other keys than those of the history.
+    #[test]
+    fn another_lock_than_the_tightest_is_told() {
+        let locked = |locks: &str| told(&format!("U\nS 0\nN 0 1\n{locks}"));
+        for (read, asked, differs) in [
+            (
+                "L 0 0 2 U0\nL 0 0 2 U0&R0\n",
+                "L 0 0 2 U0&R0\nL 0 0 2 U0\n",
+                "the locks say Ok(1), the guard says Ok(0)",
+            ),
+            (
+                "L 0 0 2 U0\nL 0 0 2 R0\n",
+                "L 0 0 2 U0\nL 0 0 2 U0&R0\n",
+                "the locks say Ok(0), the guard says Ok(1)",
+            ),
+        ] {
+            let mut teller = locked(read);
+            assert_eq!(wrong(&mut teller, "A 0 0 2"), None, "{read}");
+            teller.guard = locked(asked).guard;
+            let wrong = wrong(&mut teller, "A 0 0 2");
+            assert_eq!(wrong.as_deref(), Some(differs), "{read}");
         }
     }
 

@@ -1,11 +1,15 @@
 //! How the locks decide a C or an A: each standing lock for the operation, and
 //! what the thread's keys do to each of its products.
 
+use super::choice;
 use super::product::{Product, Tester, wanted};
 use super::state::{State, for_history};
 use super::view::{self, Lock};
+use crate::figures::spelt;
+use crate::words::capital;
 use rotundaaloe::formula::Key;
 use rotundaaloe::{Call, Guard, Record, Refusal, Segment, Thread};
+use std::cmp::Reverse;
 
 /// A C or an A of a live thread that its segment takes.
 #[derive(Clone, Debug)]
@@ -33,6 +37,29 @@ pub struct Tried {
     pub products: Vec<Product>,
 }
 
+/// The verbs of a lock and of a thread that is tried on it.
+pub struct Verbs {
+    pub opens: &'static str,
+    /// Of several locks.
+    pub open: &'static str,
+    pub holds: &'static str,
+    pub lacks: &'static str,
+}
+
+pub const PRESENT: Verbs = Verbs {
+    opens: "opens",
+    open: "open",
+    holds: "holds",
+    lacks: "doesn't hold",
+};
+
+pub const PAST: Verbs = Verbs {
+    opens: "opened",
+    open: "opened",
+    holds: "held",
+    lacks: "didn't hold",
+};
+
 impl Judgement {
     /// With the lock in the answer.
     pub fn answered(self, answer: Result<u16, Refusal>) -> Judgement {
@@ -58,15 +85,25 @@ impl Judgement {
         products.min_by_key(|(_, product)| product.disagreeing().count())
     }
 
-    /// How the lock that decided opened: `Lock 2 opens: thread 0 holds S0`. The
-    /// three verbs give the tense.
-    pub fn opening(&self, opens: &str, holds: &str, lacks: &str) -> String {
+    /// How the lock that decided opened: `Lock 2 opens: thread 0 holds S0.` Where it
+    /// is one of several grant locks, why it answers: `Lock 3 opens with two keys, lock
+    /// 1 with one: the tighter one answers. Thread 0 holds S0 and S1.`
+    pub fn opening(&self, verbs: &Verbs) -> String {
         let Some((tried, place)) = self.deciding() else {
             return String::new();
         };
-        let wanted = wanted(&tried.lock.products[place], holds, lacks);
+        let wanted = wanted(&tried.lock.products[place], verbs.holds, verbs.lacks);
         let (number, thread) = (tried.lock.number, &self.thread_said);
-        format!("Lock {number} {opens}: {thread} {wanted}.")
+        match choice::why(self, verbs) {
+            Some(why) => format!("{why} {} {wanted}.", capital(thread)),
+            None => format!("Lock {number} {}: {thread} {wanted}.", verbs.opens),
+        }
+    }
+
+    /// Of several grant locks that open, why this one answers or doesn't: `With one key
+    /// it is looser than lock 3`. None where no grant lock answers, or only one opens.
+    pub fn rank(&self, tried: &Tried) -> Option<String> {
+        choice::rank(self, tried)
     }
 
     /// Which keys that its product bars were taken, a sentence each with a blank
@@ -77,18 +114,39 @@ impl Judgement {
         sentences.iter().map(|said| format!(" {said}")).collect()
     }
 
-    /// The lock that decided, and the place of its first product that opens.
+    /// The lock that decided, and the place of its longest product that opens.
     fn deciding(&self) -> Option<(&Tried, usize)> {
         let mut locks = self.locks.iter();
         let tried = locks.find(|tried| self.decided == Some(tried.lock.number))?;
-        let place = tried.products.iter().position(|product| product.opens)?;
-        Some((tried, place))
+        Some((tried, tried.longest()?))
     }
 }
 
 impl Tried {
     pub fn opens(&self) -> bool {
         self.products.iter().any(|product| product.opens)
+    }
+
+    /// How many keys its longest product has that opens, barred ones counted. 0 where
+    /// it stays shut.
+    pub fn tightness(&self) -> usize {
+        let longest = self.longest().map(|place| &self.products[place]);
+        longest.map_or(0, |product| product.literals.len())
+    }
+
+    /// The same in words: `two keys`.
+    pub fn keys_in_words(&self) -> String {
+        let count = self.tightness();
+        let noun = if count == 1 { "key" } else { "keys" };
+        format!("{} {noun}", spelt(count))
+    }
+
+    /// The place of that product, the first of equally long ones.
+    pub fn longest(&self) -> Option<usize> {
+        let products = self.products.iter().enumerate();
+        let open = products.filter(|(_, product)| product.opens);
+        let longest = open.min_by_key(|(_, product)| Reverse(product.literals.len()));
+        longest.map(|(place, _)| place)
     }
 }
 

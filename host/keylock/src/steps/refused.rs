@@ -1,6 +1,6 @@
 //! Why a call is refused, in a sentence or two about what stands.
 
-use super::judgement::Judgement;
+use super::judgement::{Judgement, PRESENT};
 use super::shown_keys;
 use super::state::State;
 use crate::edits;
@@ -289,7 +289,7 @@ fn first_unknown(text: &[u8], issued: formula::Issued) -> Option<String> {
 }
 
 fn denied(judgement: &Judgement) -> String {
-    let opening = judgement.opening("opens", "holds", "doesn't hold");
+    let opening = judgement.opening(&PRESENT);
     let withdrawn = judgement.withdrawn();
     format!("{opening} It denies, and a deny beats every grant.{withdrawn}")
 }

@@ -57,15 +57,19 @@ impl Details {
         }
         for tried in &judgement.locks {
             let decides = judgement.decided == Some(tried.lock.number);
-            self.tried(tried, decides);
+            let opens = match judgement.rank(tried) {
+                Some(_) => format!("opens with {}", tried.keys_in_words()),
+                None => "opens".to_string(),
+            };
+            self.tried(tried, &opens, decides);
         }
     }
 
-    fn tried(&mut self, tried: &Tried, decides: bool) {
+    fn tried(&mut self, tried: &Tried, opens: &str, decides: bool) {
         let state = match (tried.opens(), decides) {
-            (_, true) => "opens and decides",
-            (true, false) => "opens",
-            (false, false) => "stays shut",
+            (_, true) => format!("{opens} and decides"),
+            (true, false) => opens.to_string(),
+            (false, false) => "stays shut".to_string(),
         };
         let look = match (tried.opens(), tried.lock.denies()) {
             (true, false) => Look::Good,
