@@ -3,8 +3,9 @@
 //! lesson and by no other, and each of four more by its own trap. In another four
 //! one thread disturbs another, which lesson 8 shows, and which is seen too where
 //! the lines of the other are struck. Three mistake who edits, which lesson 9 shows
-//! and no other. A last five mistake from which open calls a key is withdrawn, which
-//! lesson 10 shows and no other.
+//! and no other. Five mistake from which open calls a key is withdrawn, which lesson
+//! 10 shows and no other. A last five name another lock where several open, which
+//! lesson 11 shows and no other.
 
 mod faults;
 
@@ -29,6 +30,7 @@ const TRAPS: &str = "7-traps.txt";
 const NEIGHBOURS: &str = "8-neighbours.txt";
 const WINDOWS: &str = "9-two-windows.txt";
 const WITHDRAWN: &str = "10-withdrawn.txt";
+const TIGHTEST: &str = "11-tightest.txt";
 const ROUTE: &str = "route.txt";
 
 fn path(name: &str) -> PathBuf {
@@ -104,7 +106,8 @@ fn small(guard: &mut Guard, record: &Record) -> Answer {
 fn names() -> Vec<&'static str> {
     let names: Vec<&str> = LESSONS
         .into_iter()
-        .chain([ALL_FIVE, TRAPS, NEIGHBOURS, WINDOWS, WITHDRAWN, ROUTE])
+        .chain([ALL_FIVE, TRAPS, NEIGHBOURS, WINDOWS, WITHDRAWN])
+        .chain([TIGHTEST, ROUTE])
         .collect();
     let folder = fs::read_dir(path("")).expect("the lessons");
     let texts = folder.filter(|entry| {
@@ -320,6 +323,7 @@ fn each_of_the_four_lets_a_neighbour_disturb() {
 fn no_other_guard_lets_a_neighbour_disturb() {
     let others = Fault::FIVE.into_iter().chain(Fault::TRAPS);
     let others = others.chain(Fault::WINDOWS).chain(Fault::WITHDRAWALS);
+    let others = others.chain(Fault::CHOICES);
     for fault in others.map(Some).chain([None]) {
         for one in [JANUARY, FEBRUARY] {
             assert!(!is_disturbed(one, fault), "{fault:?}: thread {one}");
@@ -375,6 +379,48 @@ fn all_five_are_caught_while_calls_are_open_in_the_tenth() {
 fn none_of_these_five_shows_elsewhere() {
     for name in names().into_iter().filter(|name| *name != WITHDRAWN) {
         for fault in Fault::WITHDRAWALS {
+            assert_eq!(faulty(&lesson(name), Some(fault)), [], "{name}: {fault:?}");
+        }
+    }
+}
+
+#[test]
+fn all_five_are_caught_where_several_locks_open_in_the_eleventh() {
+    let words = |number: usize| format!("a guard with fault {number} answers ");
+    let faults = Fault::CHOICES.into_iter().zip(1..);
+    for (fault, number) in faults.skip(1) {
+        gives_itself_away(TIGHTEST, fault, &words(number));
+    }
+    // The first names the lowest at a call and at an access.
+    let text = lesson(TIGHTEST);
+    let lines = announced(&text, &words(1));
+    assert_eq!(caught(TIGHTEST, Fault::NamesTheLowestGrant), lines);
+    let letters = lines.iter().map(|(place, _)| {
+        let (_, record) = text.calls().nth(*place).expect("its call");
+        record.letter
+    });
+    assert!(letters.eq(*b"CA"), "{lines:?}");
+}
+
+/// A guard with one of them names another lock, and refuses nothing else.
+#[test]
+fn none_of_these_five_grants_otherwise() {
+    let text = lesson(TIGHTEST);
+    for fault in Fault::CHOICES {
+        let mut guards = [None, Some(fault)].map(Guard::with);
+        for (_, record) in text.calls() {
+            let [right, faulty] = guards.each_mut().map(|guard| guard.call(&record));
+            let refusal = |answer: faults::Answer| answer.err().map(|(refusal, _)| refusal);
+            assert_eq!(refusal(right), refusal(faulty), "{fault:?}");
+        }
+    }
+}
+
+/// In the other lessons at most one grant lock opens at a time, and one deny lock.
+#[test]
+fn no_choice_is_made_elsewhere() {
+    for name in names().into_iter().filter(|name| *name != TIGHTEST) {
+        for fault in Fault::CHOICES {
             assert_eq!(faulty(&lesson(name), Some(fault)), [], "{name}: {fault:?}");
         }
     }

@@ -1,5 +1,5 @@
 //! Guards for the lessons: a small one that does what documents 01 and 02 say of
-//! the calls that the lessons make, and the same with one of 21 faults. Of the
+//! the calls that the lessons make, and the same with one of 26 faults. Of the
 //! limits it judges only that of a thread's open calls.
 
 use reference::formula::{Literal, Product, compile};
@@ -57,6 +57,16 @@ pub enum Fault {
     /// Lesson 10: a key that is taken from one segment is lost by the open calls of
     /// all.
     WithdrawsFromEverySegment,
+    /// Lesson 11: of several grant locks that open the lowest answers.
+    NamesTheLowestGrant,
+    /// Lesson 11: of equally tight grant locks the highest answers.
+    GivesTiesToTheHigher,
+    /// Lesson 11: a lock is as tight as its longest product, whether or not that opens.
+    CountsShutProducts,
+    /// Lesson 11: a lock is as tight as its product has plain keys.
+    CountsPlainKeysOnly,
+    /// Lesson 11: of several deny locks that open the tightest is named.
+    NamesTheTightestDeny,
 }
 
 impl Fault {
@@ -100,6 +110,15 @@ impl Fault {
         Fault::WithdrawsFromTheNewest,
         Fault::WithdrawsFromEverySegment,
     ];
+
+    /// Those of lesson 11, in its order.
+    pub const CHOICES: [Fault; 5] = [
+        Fault::NamesTheLowestGrant,
+        Fault::GivesTiesToTheHigher,
+        Fault::CountsShutProducts,
+        Fault::CountsPlainKeysOnly,
+        Fault::NamesTheTightestDeny,
+    ];
 }
 
 /// An accepted answer, or a refusal's two numbers.
@@ -122,6 +141,14 @@ impl Standing {
     fn denies(&self) -> bool {
         self.operations & 8 != 0
     }
+}
+
+/// A lock that a check finds open.
+#[derive(Clone, Copy)]
+struct Open {
+    number: u16,
+    denies: bool,
+    tightness: usize,
 }
 
 struct OpenCall {
@@ -402,18 +429,57 @@ impl Guard {
             let stands = lock.segment == segment && lock.operations & operation != 0;
             stands && lock.products.iter().any(|p| self.opens(thread, p))
         });
-        let mut opening: Vec<(u16, bool)> = opening
-            .map(|(number, lock)| (*number, lock.denies()))
-            .collect();
+        let opening = opening.map(|(number, lock)| Open {
+            number: *number,
+            denies: lock.denies(),
+            tightness: self.tightness(thread, lock),
+        });
+        let mut opening: Vec<Open> = opening.collect();
         if self.fault == Some(Fault::LetsAGrantOutvote)
-            && opening.last().is_some_and(|last| !last.1)
+            && opening.last().is_some_and(|last| !last.denies)
         {
-            opening.retain(|(_, denies)| !denies);
+            opening.retain(|open| !open.denies);
         }
-        match opening.iter().find(|(_, denies)| *denies) {
-            Some((number, _)) => Err((14, *number)),
-            None => opening.first().map(|(number, _)| *number).ok_or((15, 0)),
+        let (denying, granting): (Vec<Open>, Vec<Open>) =
+            opening.into_iter().partition(|open| open.denies);
+        match (self.denying(&denying), self.answering(&granting)) {
+            (Some(open), _) => Err((14, open.number)),
+            (None, Some(open)) => Ok(open.number),
+            (None, None) => Err((15, 0)),
         }
+    }
+
+    /// Of the deny locks that open, by rising number, the one that is named.
+    fn denying(&self, open: &[Open]) -> Option<Open> {
+        match self.fault {
+            Some(Fault::NamesTheTightestDeny) => tightest(open),
+            _ => open.first().copied(),
+        }
+    }
+
+    /// Of the grant locks that open, by rising number, the one that answers.
+    fn answering(&self, open: &[Open]) -> Option<Open> {
+        match self.fault {
+            Some(Fault::NamesTheLowestGrant) => open.first().copied(),
+            // Of several greatest the last is taken.
+            Some(Fault::GivesTiesToTheHigher) => {
+                open.iter().copied().max_by_key(|open| open.tightness)
+            }
+            _ => tightest(open),
+        }
+    }
+
+    /// How many keys the longest product of an open lock has that opens.
+    fn tightness(&self, thread: Thread, lock: &Standing) -> usize {
+        let counts_all = self.fault == Some(Fault::CountsShutProducts);
+        let counts_barred = self.fault != Some(Fault::CountsPlainKeysOnly);
+        let products = lock.products.iter();
+        let counted = products.filter(|product| counts_all || self.opens(thread, product));
+        let lengths = counted.map(|product| {
+            let keys = product.literals().iter();
+            keys.filter(|key| counts_barred || !key.barred).count()
+        });
+        lengths.max().unwrap_or(0)
     }
 
     /// The thread that a check of this one looks at.
@@ -483,6 +549,13 @@ impl Guard {
             .filter_map(|literal| handed_over.iter().position(|key| *key == literal.key))
             .is_sorted()
     }
+}
+
+/// Of locks by rising number the tightest, the lowest of equal ones.
+fn tightest(open: &[Open]) -> Option<Open> {
+    let falling = open.iter().rev().copied();
+    // Of several greatest the last is taken.
+    falling.max_by_key(|open| open.tightness)
 }
 
 /// Hands out the next number.
