@@ -416,7 +416,7 @@ fn none_of_these_five_grants_otherwise() {
     }
 }
 
-/// In the other lessons at most one grant lock opens at a time, and one deny lock.
+/// In the other lessons no two grant locks open at once, nor two deny locks.
 #[test]
 fn no_choice_is_made_elsewhere() {
     for name in names().into_iter().filter(|name| *name != TIGHTEST) {
