@@ -79,7 +79,7 @@ fn tried(tried: &Tried, part: Part, rank: Option<String>, pieces: &mut Pieces) -
         .map(|(place, tried)| product(tried, decides && longest == Some(place), pieces))
         .collect();
     let line = lock_line(&tried.lock, &state);
-    let rank = rank.map(|rank| format!("<p class=\"rank\">{}</p>", said(&rank)));
+    let rank = rank.map(|rank| pieces.share(format!("<p class=\"rank\">{rank}</p>")));
     let rank = rank.unwrap_or_default();
     pieces.share(format!(
         "<div class=\"{class}\">{line}{rank}<ul>{products}</ul></div>\n"

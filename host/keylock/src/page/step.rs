@@ -15,7 +15,8 @@ pub fn section(step: &Step, pieces: &mut Pieces) -> String {
     let call = pieces.share(sentence(&step.call_in_words)) + &formula(step);
     let written = html::formula(&step.written());
     let (chapter, note) = (chapter(step), note(step));
-    let (answer, alarms) = (pieces.share(answer(step)), alarms(step));
+    let answer = answer(step, pieces);
+    let (answer, alarms) = (pieces.share(answer), alarms(step));
     let columns = columns(step, pieces);
     format!(
         "<section class=\"step {class}\" id=\"step-{place}\" aria-labelledby=\"call-{place}\" \
@@ -78,17 +79,17 @@ fn note(step: &Step) -> String {
         .collect()
 }
 
-fn answer(step: &Step) -> String {
+fn answer(step: &Step, pieces: &mut Pieces) -> String {
+    let why = pieces.share(html::said(&step.reason));
     let met = match step.as_expected() {
         Some(true) => "<span class=\"met\">as expected</span>",
         _ => "",
     };
     format!(
         "<div class=\"answer\"><p class=\"word\">{}<code>{}</code>{met}</p>\
-         <p class=\"why\">{}</p></div>\n",
+         <p class=\"why\">{why}</p></div>\n",
         sentence(&step.answer_in_words),
         step.given(),
-        html::said(&step.reason),
     )
 }
 

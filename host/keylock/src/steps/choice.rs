@@ -6,6 +6,9 @@ use crate::figures::spelt;
 use crate::words::{self, capital};
 use std::cmp::Reverse;
 
+/// So many equally tight locks are named; more are counted.
+const MOST_NAMED: usize = 4;
+
 /// The grant lock that answers, if no deny lock opens.
 pub fn tightest(judgement: &Judgement) -> Option<&Tried> {
     ranked(judgement).first().copied()
@@ -59,41 +62,35 @@ pub fn why(judgement: &Judgement, verbs: &Verbs) -> Option<String> {
 }
 
 /// Of several grant locks that open, why this one answers or doesn't, in a sentence
-/// without its full stop: `With one key it is looser than lock 3`.
+/// without its full stop: `With one key it is looser`. It names no other lock, so that
+/// a page with many steps says it of a lock once.
 pub fn rank(judgement: &Judgement, tried: &Tried) -> Option<String> {
     let rivals = rivals(judgement);
-    let number = tried.lock.number;
     let (first, others) = rivals.split_first()?;
-    let equal = others.iter().copied();
-    let equal = equal.filter(|other| other.tightness() == first.tightness());
-    let equal: Vec<&Tried> = equal.collect();
-    let rank = match rivals
+    let ties = others
         .iter()
-        .position(|rival| rival.lock.number == number)?
-    {
-        0 if equal.is_empty() => "the tightest: it answers".to_string(),
-        0 => {
-            let others = said(&equal);
-            format!("as tight as {others}, and its number is lower: it answers")
-        }
-        place if place <= equal.len() => {
-            let first = said(&[first]);
-            format!("as tight as {first}, but its number is higher")
-        }
-        _ => format!("looser than {}", said(&[first])),
+        .filter(|other| other.tightness() == first.tightness());
+    let place = rivals
+        .iter()
+        .position(|rival| rival.lock.number == tried.lock.number)?;
+    let rank = match (place, ties.count()) {
+        (0, 0) => "the tightest: it answers",
+        (0, _) => "one of the tightest, and the lowest of them: it answers",
+        (place, ties) if place <= ties => "as tight, but its number is higher",
+        _ => "looser",
     };
     Some(format!("With {} it is {rank}", tried.keys_in_words()))
 }
 
-/// `lock 3`, `locks 1 and 3`
+/// `lock 3`, `locks 1 and 3`, `6 locks`
 fn said(locks: &[&Tried]) -> String {
     let numbers = locks.iter().map(|tried| tried.lock.number.to_string());
     let numbers: Vec<String> = numbers.collect();
-    let noun = match locks.len() {
-        1 => "lock",
-        _ => "locks",
-    };
-    format!("{noun} {}", words::listed(&numbers, "and"))
+    match locks.len() {
+        1 => format!("lock {}", numbers[0]),
+        ..=MOST_NAMED => format!("locks {}", words::listed(&numbers, "and")),
+        count => format!("{count} locks"),
+    }
 }
 
 fn each(locks: &[&Tried]) -> &'static str {

@@ -101,7 +101,7 @@ impl Judgement {
     }
 
     /// Of several grant locks that open, why this one answers or doesn't: `With one key
-    /// it is looser than lock 3`. None where no grant lock answers, or only one opens.
+    /// it is looser`. None where no grant lock answers, or only one opens.
     pub fn rank(&self, tried: &Tried) -> Option<String> {
         choice::rank(self, tried)
     }
