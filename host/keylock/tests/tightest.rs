@@ -336,6 +336,19 @@ fn the_lowest_deny_lock_is_named() {
     );
 }
 
+/// Of a deny lock, too, the longest product that opens is told.
+#[test]
+fn which_product_of_a_deny_lock_is_told() {
+    let calls = office(
+        &["U0"],
+        &format!("L 0 2 12 R0|U1&S0&S1|S0&S1|U0&S0; {CALLS}; A 0 2 4"),
+    );
+    assert_eq!(
+        reason(&calls, "no 14 3"),
+        "Lock 3 opens: thread 0 holds S0 and S1. It denies, and a deny beats every grant."
+    );
+}
+
 #[test]
 fn other_refusals_compare_nothing() {
     let calls = office(&["S0", "S0&S1"], "A 0 2 4");

@@ -88,7 +88,7 @@ impl Judgement {
     /// How the lock that decided opened: `Lock 2 opens: thread 0 holds S0.` Where it
     /// is one of several grant locks, why it answers: `Lock 3 opens with two keys, lock
     /// 1 with one: the tighter one answers. Thread 0 holds S0 and S1.`
-    pub fn opening(&self, verbs: &Verbs) -> String {
+    pub(super) fn opening(&self, verbs: &Verbs) -> String {
         let Some((tried, place)) = self.deciding() else {
             return String::new();
         };
