@@ -83,8 +83,8 @@ pub record Granted (holds : Meaning) (h : History) (o : Operation) (t : Thread) 
   pub opens : lockOpens holds grants o t lock ≡ true
   pub room : hasRoom o t ≡ true
 
--- a check's answer: 'If a deny lock opens, the lowest one's number goes with refusal 14. Otherwise' comes a grant lock's
--- that opens, 'and 15 if none opens.' Then comes 10.
+-- a check's answer: 'If a deny lock opens, the lowest one's number goes with refusal 14. Otherwise' comes a grant
+-- lock's that opens, 'and 15 if none opens.' Then comes 10.
 abbrev pub checkAnswer : Option Lock → Option Lock → Bool → Answer
 checkAnswer (some l) g room = Refused (Denied (l .number))
 checkAnswer none none room = Refused NotGranted

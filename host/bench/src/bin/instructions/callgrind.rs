@@ -166,7 +166,11 @@ impl Run {
 
 /// The counts of the check, if there is one in each scene.
 fn all_counted(dumps: &str, counts: HashMap<String, u64>) -> Result<HashMap<String, u64>, String> {
-    let named = |line: &str| line.starts_with("fn=") && line.ends_with(CHECK);
+    // A name stands where it comes first, of a function (fn) or of one that is called (cfn).
+    let named = |line: &str| {
+        let line = line.strip_prefix('c').unwrap_or(line);
+        line.starts_with("fn=") && line.ends_with(CHECK)
+    };
     if !dumps.lines().any(named) {
         return Err(format!(
             "the check can't be counted: callgrind finds no function `{CHECK}` in this program. \
