@@ -387,7 +387,7 @@ ROTUNDAALOE_CHECKED unsigned rotundaaloe_drop_lock(struct rotundaaloe_state *sta
 }
 
 /*
- * C: the thread calls the segment. lock: the one that opened; denying: the lowest deny lock that
+ * C: the thread calls the segment. lock: the tightest that opened; denying: the lowest deny lock that
  * opened, written with 14 alone. Refused: 2, 3, 7, 10, 14, 15.
  */
 ROTUNDAALOE_CHECKED unsigned rotundaaloe_call_segment(struct rotundaaloe_state *state,

@@ -86,7 +86,7 @@ uint32_t rotundaaloe_raw_call(
 /*
  * C (call), without the entry: thread a calls segment b.
  *
- * Answer: the lock that opened, or a refusal, as above.
+ * Answer: the tightest lock that opened, or a refusal, as above.
  */
 uint32_t rotundaaloe_raw_call_segment(
     const uint32_t registry[ROTUNDAALOE_ROW],
@@ -107,7 +107,7 @@ uint32_t rotundaaloe_raw_return_call(
 /*
  * A (access), without the entry: thread a reads (c = 2) or writes to (c = 4) segment b.
  *
- * Answer: the lock that opened, or a refusal, as above.
+ * Answer: the tightest lock that opened, or a refusal, as above.
  */
 uint32_t rotundaaloe_raw_access(
     const uint32_t registry[ROTUNDAALOE_ROW],

@@ -315,7 +315,7 @@ impl Guard {
         Ok(dropped.products.len() as u16)
     }
 
-    /// C. Answers the lock that opened.
+    /// C. Answers the tightest lock that opened.
     pub fn call_segment(&mut self, thread: u16, segment: u16) -> Answer {
         let place = self.place_of_thread(thread)?;
         let called = self.known_segment(segment)?;
@@ -336,7 +336,7 @@ impl Guard {
         Ok(newest.ok_or(Refusal::NotPresent)?.segment)
     }
 
-    /// A. Answers the lock that opened.
+    /// A. Answers the tightest lock that opened.
     pub fn access(&self, thread: u16, segment: u16, operation: u16) -> Answer {
         let thread = self.thread(thread)?;
         let segment = self.known_segment(segment)?;

@@ -156,7 +156,7 @@ impl Guard {
         answer.map_err(refusal::DropLock::of)
     }
 
-    /// C: the thread calls the segment. Answers the lock that opened.
+    /// C: the thread calls the segment. Answers the tightest lock that opened.
     #[inline]
     pub fn call_segment(
         &mut self,
@@ -175,7 +175,7 @@ impl Guard {
         answer.map(Segment).map_err(refusal::ReturnCall::of)
     }
 
-    /// A: the thread reads or writes the segment. Answers the lock that opened.
+    /// A: the thread reads or writes the segment. Answers the tightest lock that opened.
     #[inline]
     pub fn access(
         &self,
