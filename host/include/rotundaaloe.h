@@ -387,8 +387,8 @@ ROTUNDAALOE_CHECKED unsigned rotundaaloe_drop_lock(struct rotundaaloe_state *sta
 }
 
 /*
- * C: the thread calls the segment. lock: the tightest that opened; denying: the lowest deny lock that
- * opened, written with 14 alone. Refused: 2, 3, 7, 10, 14, 15.
+ * C: the thread calls the segment. lock: the tightest that opened; denying: the lowest deny lock
+ * that opened, written with 14 alone. Refused: 2, 3, 7, 10, 14, 15.
  */
 ROTUNDAALOE_CHECKED unsigned rotundaaloe_call_segment(struct rotundaaloe_state *state,
                                                       uint16_t thread, uint16_t segment,

@@ -24,8 +24,9 @@ pub enum Limited {
 }
 
 /// Each limit, and the most that is within it. The second pair of products has
-/// a barred key. The limit on T where all open calls lose the key was chosen after
-/// the measurement.
+/// a barred key. The limits where several grant locks open are a trial's counts,
+/// rounded up; that on T where all open calls lose the key was chosen after the
+/// measurement.
 pub const LIMITS: [(Limited, u64); 16] = [
     (Limited::Check(Case::FirstFails, 2, 1), 98),
     (Limited::Check(Case::FirstFails, 2, 2), 150),
@@ -33,8 +34,8 @@ pub const LIMITS: [(Limited, u64); 16] = [
     (Limited::Check(Case::Barred, 2, 1), 100),
     (Limited::Check(Case::Barred, 2, 2), 165),
     (Limited::Check(Case::Barred, 6, 8), 1_080),
-    (Limited::Grants(Grants::Equal), 300),
-    (Limited::Grants(Grants::Rising), 700),
+    (Limited::Grants(Grants::Equal), 240),
+    (Limited::Grants(Grants::Rising), 600),
     (Limited::Call(PAIRS[0]), 230),
     (Limited::Call(PAIRS[1]), 245),
     (Limited::Call(PAIRS[2]), 230),
