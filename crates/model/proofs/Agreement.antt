@@ -7,6 +7,7 @@ pub mod EditsAlike
 pub mod EditsRefused
 pub mod EditsWritten
 pub mod EveryCall
+pub mod Fitting
 pub mod Granting
 pub mod HistoryAnswers
 pub mod KeptAgreement

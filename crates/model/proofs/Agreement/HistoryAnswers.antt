@@ -67,7 +67,7 @@ taken compile d next q n e a = by (firstRefusal (conditions compile d q (next .t
         let z : _≡_ {A = ℕ} 0 1 = cc in absurd (omega arith)
 
 -- an answer, by the first refusal
-abbrev answered : Option Refusal → ℕ → Answer
+abbrev pub answered : Option Refusal → ℕ → Answer
 answered none n = Accepted n
 answered (some r) n = Refused r
 
@@ -127,21 +127,45 @@ module _ (compile : Compiler) (holds : Meaning) (laws : Laws compile holds) (tex
         tightest-agrees compile holds laws (d .segments) (d .lockNumbers) (h .locks) (c .locks) (keySet (threadOf o) (threadAt d (threadOf o))) (targetOf o) (operationOf o)
         ∙ rw (thread-as compile d h count c (threadOf o) t live)
 
+  -- with the grant product and the grant lock that the answer goes by, which are there exactly where a grant lock opens
+  checked-from : (o : Operation) (t : Thread) → h .threads (threadOf o) ≡ some t → (entry : Entry) → h .segments (targetOf o) ≡ some entry
+      → isKnown o ≡ true → takes (entry .kind) (operationOf o) ≡ true → (og : Option LockProduct) (lg : Option Lock)
+      → isSome (openingProduct d grants (threadOf o) (targetOf o) (operationOf o)) ≡ isSome og → mapOption (λ r. r .lock) og ≡ mapOption (λ l. l .number) lg
+      → answered (firstRefusal (conditions compile d (requestOf o) text)) (lockOf og) ≡ checkAnswer (first (lockOpens holds denies o t) (h .locks)) lg (hasRoom o t)
+  unfolding conditions
+  checked-from (calls a b) t live entry out number fits og lg some-grant same =
+      let o = calls a b in
+      simp (found o t live entry out, out-test o t live entry out, kind-is o t live entry out, fits, some-grant, under-limit mostFrames (length (t .frames)))
+      (check-answers (openingProduct d denies a b 1) og (first (lockOpens holds denies o t) (h .locks)) lg (hasRoom o t) (check o t live entry out denies) same)
+  checked-from (accesses a b n) t live entry out number fits og lg some-grant same =
+      let o = accesses a b n in
+      simp (found o t live entry out, out-test o t live entry out, kind-is o t live entry out, fits, some-grant)
+      (simp number
+      (check-answers (openingProduct d denies a b n) og (first (lockOpens holds denies o t) (h .locks)) lg true (check o t live entry out denies) same))
+
+  checks-answer : (o : Operation) → answer compile d (requestOf o) text ≡ lockOf (tightestProduct d (threadOf o) (targetOf o) (operationOf o))
+  unfolding answer
+  checks-answer (calls a b) = refl
+  checks-answer (accesses a b n) = refl
+
   pub answers-from : (o : Operation) (t : Thread) → h .threads (threadOf o) ≡ some t → (entry : Entry) → h .segments (targetOf o) ≡ some entry
       → isKnown o ≡ true → takes (entry .kind) (operationOf o) ≡ true
       → judged compile d (requestOf o) text (firstRefusal (conditions compile d (requestOf o) text)) .answer ≡ answerFrom compile holds h o t
-  unfolding conditions answer
-  answers-from (calls a b) t live entry out number fits =
-      let o = calls a b in
-      judged-answer compile d (request.CallSegment a b) text (firstRefusal (conditions compile d (request.CallSegment a b) text))
-      ∙ simp (found o t live entry out, out-test o t live entry out, kind-is o t live entry out, fits, granted-some d a b 1, under-limit mostFrames (length (t .frames)))
-      (check-answers (openingProduct d denies a b 1) (tightestProduct d a b 1) (first (lockOpens holds denies o t) (h .locks)) (tightestLock compile holds h o t) (hasRoom o t) (check o t live entry out denies) (tight o t live entry out))
-  answers-from (accesses a b n) t live entry out number fits =
-      let o = accesses a b n in
-      judged-answer compile d (request.Access a b n) text (firstRefusal (conditions compile d (request.Access a b n) text))
-      ∙ simp (found o t live entry out, out-test o t live entry out, kind-is o t live entry out, fits, granted-some d a b n)
-      (simp number
-      (check-answers (openingProduct d denies a b n) (tightestProduct d a b n) (first (lockOpens holds denies o t) (h .locks)) (tightestLock compile holds h o t) true (check o t live entry out denies) (tight o t live entry out)))
+  answers-from o t live entry out number fits =
+      let refusal = firstRefusal (conditions compile d (requestOf o) text) in
+      judged-answer compile d (requestOf o) text refusal
+      ∙ ap (answered refusal) (checks-answer o)
+      ∙ checked-from o t live entry out number fits (tightestProduct d (threadOf o) (targetOf o) (operationOf o)) (tightestLock compile holds h o t)
+      (granted-some d (threadOf o) (targetOf o) (operationOf o)) (tight o t live entry out)
+
+  -- and as it was before request P6, with the first grant product
+  pub lowest-from : (o : Operation) (t : Thread) → h .threads (threadOf o) ≡ some t → (entry : Entry) → h .segments (targetOf o) ≡ some entry
+      → isKnown o ≡ true → takes (entry .kind) (operationOf o) ≡ true
+      → answered (firstRefusal (conditions compile d (requestOf o) text)) (lockOf (openingProduct d grants (threadOf o) (targetOf o) (operationOf o)))
+      ≡ checkAnswer (first (lockOpens holds denies o t) (h .locks)) (first (lockOpens holds grants o t) (h .locks)) (hasRoom o t)
+  lowest-from o t live entry out number fits =
+      checked-from o t live entry out number fits (openingProduct d grants (threadOf o) (targetOf o) (operationOf o)) (first (lockOpens holds grants o t) (h .locks))
+      refl (check o t live entry out grants)
 
 -- ---- the numbers that U, S, N, K and L answer
 

@@ -26,13 +26,15 @@ use Rattle.model.specs.Answers.{isAccepted}
 use Rattle.model.specs.Operations.{denies, grants}
 use Rattle.model.specs.Threads.{Thread}
 use Rattle.model.specs.State.{State, emptyState}
-use Rattle.model.specs.Refusals.{conditions}
+use Rattle.model.specs.Refusals.{openingProduct, lockOf, conditions}
 use Rattle.model.specs.Effects.{answer}
 use Rattle.model.specs.Model.{judged, stepDecoded, step}
 use Rattle.model.specs.History.{History, Lock, history}
-use Rattle.model.specs.HistoryCheck.{Operation, lockOpens, hasRoom, checkAnswer, tightestLock, answerFrom}
+use Rattle.model.specs.HistoryCheck.{Operation, calls, accesses, requestOf, threadOf, targetOf, operationOf, lockOpens, hasRoom, checkAnswer, tightestLock, answerFrom}
 use Rattle.model.specs.Replay.{stateAfter, reached, events, answerTo}
-use Rattle.model.specs.Theorems.SameGrants.{Alike, lowestAnswer, SameChecks, isChecked, answerBefore, judgedBefore, decodedBefore, stepBefore, stateBefore, SameAfter, SameGrants}
+use Rattle.model.specs.Theorems.SameGrants.{Alike, lowestAnswer, SameChecks, isChecked, answerBefore, judgedBefore, decodedBefore, stepBefore, stateBefore, SameAfter, SameBefore, SameGrants}
+use Rattle.model.proofs.Agreement.EveryCall.{agree}
+use Rattle.model.proofs.Agreement.HistoryAnswers.{answered, lowest-from}
 use Rattle.model.proofs.Agreement.Granting.{granting-by-laws, some-tightest}
 use Rattle.model.proofs.Refinement.EveryCall.{refinement-by-laws, follows}
 
@@ -131,5 +133,35 @@ module _ (compile : Compiler) where
         others = λ q w e. last ∙ other-step after next q w e ∙ ap (λ (d : State). stepBefore compile d next .answer) (sym before);
       }
 
+-- ---- the answers as they were
+
+module _ (compile : Compiler) (d : State) where
+  checked-before : (text : List ℕ) (o : Operation)
+      → answerBefore compile d (requestOf o) text ≡ lockOf (openingProduct d grants (threadOf o) (targetOf o) (operationOf o))
+  unfolding answerBefore
+  checked-before text (calls a b) = refl
+  checked-before text (accesses a b c) = refl
+
+  judged-before : (q : Request) (text : List ℕ) (o : Option Refusal) → judgedBefore compile d q text o .answer ≡ answered o (answerBefore compile d q text)
+  judged-before q text none = refl
+  judged-before q text (some r) = refl
+
+  step-before : (x : Call) (q : Request) → decoded x ≡ WellFormed q
+      → stepBefore compile d x .answer ≡ answered (firstRefusal (conditions compile d q (x .text))) (answerBefore compile d q (x .text))
+  unfolding stepBefore
+  step-before x q e =
+      ap (λ (k : Decoded). decodedBefore compile d k (x .text) .answer) e
+      ∙ judged-before q (x .text) (firstRefusal (conditions compile d q (x .text)))
+
+same-before : (compile : Compiler) (holds : Meaning) → Laws compile holds → (xs : List Call) (next : Call) → SameBefore compile holds xs next
+same-before compile holds law xs next =
+    rw (same-states compile emptyState xs, follows compile holds law xs .events)
+    (λ o t fits live.
+    let d = stateAfter compile emptyState xs in
+    step-before compile d next (requestOf o) (fits .wellFormed)
+    ∙ ap (answered (firstRefusal (conditions compile d (requestOf o) (next .text)))) (checked-before compile d (next .text) o)
+    ∙ lowest-from compile holds law (next .text) _ _ _ (agree compile holds law xs) o t live (fits .entry) (fits .handedOut) (fits .known) (fits .taken))
+
 pub same-grants : SameGrants
-same-grants = record { checks = same-checks outcomeOf textHolds laws; lists = same-after outcomeOf textHolds laws }
+same-grants =
+    record { checks = same-checks outcomeOf textHolds laws; lists = same-after outcomeOf textHolds laws; before = same-before outcomeOf textHolds laws }

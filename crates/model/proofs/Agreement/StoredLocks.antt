@@ -81,6 +81,7 @@ formula-as es d s l m =
     record {
       tree = o .tree;
       text = o .text;
+      list = o .list;
       stored = s .lock l m ∙ ap (λ (ps : Sum). map (lockProduct (l .number) (l .operations)) ps) (o .list);
       opening = λ keys. s .opening l m keys ∙ holds-spelt everything (l .text) (o .tree) (o .text) keys;
       spelt = λ i t h keys. s .opening l m keys ∙ holds-spelt i (l .text) t h keys;

@@ -32,11 +32,12 @@ use Rattle.model.specs.History.{Event, History, Lock, history}
 use Rattle.model.specs.HistoryLocks.{productsOf}
 use Rattle.model.specs.HistoryCheck.{Operation, threadOf, targetOf, operationOf, Fits, hasRoom, lockOpens, checkAnswer, tightness, tightestLock, answerFrom}
 use Rattle.model.specs.Replay.{events, answerTo}
-use Rattle.model.specs.Theorems.TightestLock.{OpensBy, Tightest, LowestDeny, AnswersTightest, TightestLockByLaws, TightestLock}
+use Rattle.model.specs.Theorems.TightestLock.{OpensBy, Tightest, LowestDeny, AnswersTightest, AnswersBy, TightestLockByLaws, TightestLock}
 use Rattle.model.proofs.Agreement.TightestProducts.{Spelt, spelt-by-laws, product-short, product-long}
 use Rattle.model.proofs.Agreement.StoredLocks.{stored-locks-by-laws}
 use Rattle.model.proofs.Agreement.Numbering.{numbering-by-laws}
 use Rattle.model.proofs.Agreement.Granting.{granting-by-laws}
+use Rattle.model.proofs.Agreement.Fitting.{fitting-by-laws}
 
 -- ---- an answer's lock
 
@@ -181,13 +182,23 @@ module _ (compile : Compiler) (holds : Meaning) (h : History) (o : Operation) (t
 
 -- ---- on the arrays
 
-pub tightest-lock-by-laws : TightestLockByLaws
-tightest-lock-by-laws compile holds law xs next o t fits live =
+answers-by : (compile : Compiler) (holds : Meaning) → Laws compile holds → (xs : List Call) (next : Call)
+    → AnswersBy compile holds (events compile xs) next (answerTo compile xs next)
+answers-by compile holds law xs next o t fits live =
     let es = events compile xs in
     let stored = stored-locks-by-laws compile holds law xs in
     subst (AnswersTightest compile holds (history es) o t) (sym (granting-by-laws compile holds law xs next .answer o t fits live))
     (answers compile holds (history es) o t (numbering-by-laws compile holds law xs next .inOrder)
     (λ l m. spelt-by-laws compile holds law (keySet (threadOf o) t) l (stored .text l m)))
+
+pub tightest-lock-by-laws : TightestLockByLaws
+tightest-lock-by-laws compile holds law xs next =
+    record {
+      fitting = answers-by compile holds law xs next;
+      accepted = λ o n e a.
+          let j = fitting-by-laws compile holds law xs next .accepted o n e a in
+          record { thread = j .thread; live = j .live; tightest = answers-by compile holds law xs next o (j .thread) (j .fits) (j .live) .tightest n a };
+    }
 
 pub tightest-lock : TightestLock
 tightest-lock = tightest-lock-by-laws outcomeOf textHolds laws

@@ -12,7 +12,8 @@ use Rattle.model.specs.History.{makersOf}
 use Rattle.model.specs.Replay.{stateAfter, events, eventsOf}
 use Rattle.model.specs.Notation.{Expected, callsOf, got, Happens}
 use Rattle.model.specs.Theorems.Editing.{userIn, ownerIn}
-use Rattle.model.specs.Theorems.Trials.{refusals, identity, editors, inProgress, withdrawal, revoked, handsThen, opened, users, segments, liveThreads, keyRing, keysGiven, listed, severalLocks, frames, Trials}
+use Rattle.model.specs.Theorems.SameGrants.{answerBefore, stepBefore}
+use Rattle.model.specs.Theorems.Trials.{refusals, identity, editors, inProgress, withdrawal, revoked, handsThen, opened, users, segments, liveThreads, keyRing, keysGiven, listed, severalLocks, locksOfProducts, checkedBefore, frames, Trials}
 use Rattle.model.proofs.Unfoldings.{computing}
 use Rattle.model.proofs.Refinement.EveryCall.{refinement}
 
@@ -120,6 +121,16 @@ several-happen : Happens severalLocks
 unfolding computing
 several-happen = refl
 
+products-happen : Happens locksOfProducts
+unfolding computing
+products-happen = refl
+
+several-before : checkedBefore severalLocks
+    ≡ (0, 0) ∷ (0, 0) ∷ (0, 0) ∷ (0, 0) ∷ (0, 0) ∷ (0, 0) ∷ (0, 0)
+    ∷ (15, 0) ∷ (0, 0) ∷ (0, 5) ∷ (14, 6) ∷ (0, 5) ∷ (0, 8) ∷ (0, 8) ∷ (0, 8) ∷ []
+unfolding computing answerBefore stepBefore
+several-before = refl
+
 frames-happen : Happens frames
 unfolding computing
 frames-happen = refl
@@ -141,6 +152,8 @@ trials =
       handedAfter = handed-after;
       handedLast = handed-last;
       severalHappen = several-happen;
+      productsHappen = products-happen;
+      severalBefore = several-before;
       usersHappen = users-happen;
       segmentsHappen = segments-happen;
       threadsHappen = threads-happen;

@@ -1,7 +1,8 @@
 -- Request P6: 'Grants themselves are the same set as before.' A theorem between the answer as it was, 'the lowest
 -- opening grant lock is the answer', and the answer as it is: they are accepted together and refused alike, 14's number
 -- included. It is said twice: of the next check, both answers read from the history of calls and answers; and of every
--- list of calls, beside the model with the answers as they were. Proved in `proofs/Agreement/SameGrants.antt`.
+-- list of calls, beside the model with the answers as they were, which are the history's. Proved in
+-- `proofs/Agreement/SameGrants.antt`.
 use mathlib.Core.Path.{_≡_}
 use mathlib.Core.Bool.{Bool, false, _||_, cond}
 use mathlib.Core.List.{List, [], _∷_}
@@ -31,7 +32,7 @@ use Rattle.model.specs.State.{State, emptyState}
 use Rattle.model.specs.Refusals.{openingProduct, lockOf, conditions}
 use Rattle.model.specs.Effects.{update, answer}
 use Rattle.model.specs.Cells.{stateOf}
-use Rattle.model.specs.History.{Event, History, history}
+use Rattle.model.specs.History.{Event, event, History, history}
 use Rattle.model.specs.HistoryCheck.{Operation, threadOf, Fits, lockOpens, hasRoom, checkAnswer}
 use Rattle.model.specs.Replay.{reached, events, answerTo}
 
@@ -84,6 +85,10 @@ module _ (compile : Compiler) where
   stateBefore d [] = d
   stateBefore d (x ∷ xs) = stateBefore (stepBefore d x .state) xs
 
+  abbrev pub eventsBefore : State → List Call → List Event
+  eventsBefore d [] = []
+  eventsBefore d (x ∷ xs) = event x (stepBefore d x .answer) ∷ eventsBefore (stepBefore d x .state) xs
+
   -- after a list of calls from the empty state, and of the next call
   pub record SameAfter (xs : List Call) (next : Call) : Type 0 where
     pub state : stateOf (reached compile xs) ≡ stateBefore emptyState xs
@@ -92,7 +97,15 @@ module _ (compile : Compiler) where
     pub others : (q : Request) → decoded next ≡ WellFormed q → isChecked q ≡ false
         → answerTo compile xs next ≡ stepBefore (stateBefore emptyState xs) next .answer
 
+-- the two answers as they were are one: the model's is the lowest grant lock's that opens, as the history tells it
+abbrev pub SameBefore : Compiler → Meaning → List Call → Call → Type 0
+SameBefore compile holds xs next =
+    let h = history (events compile xs) in
+    (o : Operation) (t : Thread) → Fits h next o → h .threads (threadOf o) ≡ some t
+    → stepBefore compile (stateBefore compile emptyState xs) next .answer ≡ lowestAnswer holds h o t
+
 pub record SameGrants : Type 0 where
   pub checks : (xs : List Call) (next : Call)
       → SameChecks textHolds (events outcomeOf xs) next (answerTo outcomeOf xs next)
   pub lists : (xs : List Call) (next : Call) → SameAfter outcomeOf xs next
+  pub before : (xs : List Call) (next : Call) → SameBefore outcomeOf textHolds xs next

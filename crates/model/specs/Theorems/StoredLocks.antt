@@ -51,6 +51,7 @@ StoredLocksByLaws =
 pub record StoredFormula (d : State) (l : Lock) : Type 0 where
   pub tree : Tree ors
   pub text : Text everything (l .text) tree
+  pub list : productsOf outcomeOf (l .text) ≡ products false tree
   pub stored : storedFor d (l .number) ≡ map (lockProduct (l .number) (l .operations)) (products false tree)
   pub opening : (keys : KeySet) → storedOpens d (l .number) keys ≡ holds keys tree
   pub spelt : (i : Issued) (t : Tree ors) → Text i (l .text) t → (keys : KeySet)

@@ -1,8 +1,8 @@
 -- Request P6: 'When several grant locks open .. the answer becomes the lock whose longest opening product has most
 -- signed keys. Equal ones go to the lower lock number. The check now looks past the first grant lock that opens. Deny
--- locks keep their order.' From the list of calls and answers before a live thread's fitting C or A, and in words: none
--- of what the answer is worked out by stands here. That the grants are the same set as before is `SameGrants`. Proved
--- in `proofs/Agreement/TightestLock.antt`.
+-- locks keep their order.' From the list of calls and answers before a live thread's fitting C or A, and in words:
+-- `greatest` and `tightness`, by which the answer is worked out, don't stand here. Which C and A fit is `Fitting`, and
+-- that the grants are the same set as before is `SameGrants`. Proved in `proofs/Agreement/TightestLock.antt`.
 use mathlib.Core.Path.{_≡_}
 use mathlib.Core.Bool.{true}
 use mathlib.Core.List.{List, List·Memᴰ}
@@ -14,7 +14,8 @@ use Rattle.product.specs.Product.{Product, opens}
 use Rattle.formula.specs.Outcome.{outcomeOf}
 use Rattle.formula.specs.Meaning.{textHolds, Meaning}
 use Rattle.formula.specs.Compiler.{Compiler, Laws}
-use Rattle.call.specs.Calls.{Call}
+use Rattle.call.specs.declared.request.Decoded.the-variants.{WellFormed}
+use Rattle.call.specs.Calls.{Call, decoded}
 use Rattle.model.specs.declared.answer.Refusal.the-variants.{Denied}
 use Rattle.model.specs.declared.answer.Answer.{Answer}
 use Rattle.model.specs.declared.answer.Answer.the-variants.{Accepted, Refused}
@@ -23,7 +24,7 @@ use Rattle.model.specs.Operations.{denies, grants}
 use Rattle.model.specs.Threads.{Thread, keySet}
 use Rattle.model.specs.History.{Event, History, Lock, history}
 use Rattle.model.specs.HistoryLocks.{productsOf}
-use Rattle.model.specs.HistoryCheck.{Operation, threadOf, Fits, lockOpens}
+use Rattle.model.specs.HistoryCheck.{Operation, requestOf, threadOf, Fits, lockOpens}
 use Rattle.model.specs.Replay.{events, answerTo}
 
 module _ (compile : Compiler) (holds : Meaning) (h : History) (o : Operation) (t : Thread) where
@@ -53,8 +54,8 @@ module _ (compile : Compiler) (holds : Meaning) (h : History) (o : Operation) (t
     pub opens : lockOpens holds denies o t lock ≡ true
     pub lowest : (l : Lock) → List·Memᴰ l (h .locks) → lockOpens holds denies o t l ≡ true → n ≤ l .number
 
-  -- The answer r. An accepted one is the tightest lock's number, and no other number is one: so it is where one is told
-  -- to be the tightest. 14 comes with the lowest deny lock's, exactly where one opens.
+  -- The answer r. An accepted one is the tightest lock's number, and whatever number is the tightest lock's is the one
+  -- answered. 14 comes with the lowest deny lock's, exactly where one opens.
   pub record AnswersTightest (r : Answer) : Type 0 where
     pub tightest : (n : ℕ) → r ≡ Accepted n → Tightest n
     pub only : (n : ℕ) → isAccepted r ≡ true → Tightest n → r ≡ Accepted n
@@ -66,15 +67,24 @@ AnswersBy compile holds es next r =
     (o : Operation) (t : Thread) → Fits (history es) next o → history es .threads (threadOf o) ≡ some t
     → AnswersTightest compile holds (history es) o t r
 
+-- an accepted C or A, of whatever thread and segment: its answer is the tightest lock's number
+pub record AcceptedTightest (compile : Compiler) (holds : Meaning) (h : History) (o : Operation) (n : ℕ) : Type 0 where
+  pub thread : Thread
+  pub live : h .threads (threadOf o) ≡ some thread
+  pub tightest : Tightest compile holds h o thread n
+
+pub record AnswersAfter (compile : Compiler) (holds : Meaning) (xs : List Call) (next : Call) : Type 0 where
+  pub fitting : AnswersBy compile holds (events compile xs) next (answerTo compile xs next)
+  pub accepted : (o : Operation) (n : ℕ) → decoded next ≡ WellFormed (requestOf o) → answerTo compile xs next ≡ Accepted n
+      → AcceptedTightest compile holds (history (events compile xs)) o n
+
 -- for whatever compiler keeps the laws
 abbrev pub TightestLockByLaws : Type 0
 TightestLockByLaws =
     (compile : Compiler) (holds : Meaning) → Laws compile holds → (xs : List Call) (next : Call)
-    → AnswersBy compile holds (events compile xs) next (answerTo compile xs next)
+    → AnswersAfter compile holds xs next
 
--- and so for the compiler that there is, whose products are those of the formula that the text spells: `formula` of
--- `StoredLocks`
+-- and so for the compiler that there is, whose products are those of the formula that the text spells: `list` of
+-- `StoredFormula`
 abbrev pub TightestLock : Type 0
-TightestLock =
-    (xs : List Call) (next : Call)
-    → AnswersBy outcomeOf textHolds (events outcomeOf xs) next (answerTo outcomeOf xs next)
+TightestLock = (xs : List Call) (next : Call) → AnswersAfter outcomeOf textHolds xs next

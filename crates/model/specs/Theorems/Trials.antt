@@ -13,6 +13,7 @@ use Rattle.product.specs.declared.literal.Key.{Key}
 use Rattle.product.specs.declared.literal.Key.the-variants.{Segment as SegmentKey, Defined}
 use Rattle.formula.specs.Outcome.{outcomeOf}
 use Rattle.base.specs.Bytes.{bytes}
+use Rattle.call.specs.Letters as letters
 use Rattle.call.specs.Calls.{Call, callWith, TableRow, table}
 use Rattle.model.specs.Answers.{answerNumber, answerValue}
 use Rattle.base.specs.Lists.{any, keep, each, mapOption}
@@ -24,6 +25,7 @@ use Rattle.model.specs.History.{handsOut, makersOf}
 use Rattle.model.specs.Replay.{events, historyOf}
 use Rattle.model.specs.Notation.{Expected, U, S, E, N, K, G, T, L, D, C, R, A, ok, no, callsOf, Happens}
 use Rattle.model.specs.Theorems.Editing.{userIn, ownerIn}
+use Rattle.model.specs.Theorems.SameGrants.{eventsBefore}
 
 -- users 0 and 1; thread 0 of user 1, threads 1 and 2 of user 0, and thread 3 of user 0, which has ended; there is no
 -- thread 4, and no thread 65, whose place would be thread 1's. Segments 0 (code) and 1 (sheet) of user 0, 2 (sheet) of
@@ -361,6 +363,41 @@ locksOfCode =
 abbrev pub severalLocks : List Expected
 severalLocks = locksOfSheet ++ locksOfCode
 
+-- Locks of several products that open at once, for a thread that isn't the first. Lock 0 opens by one key, by one key
+-- and by three, so for thread 1 it is tighter than lock 1; lock 2, for writing, has four keys, and lock 0 none more for
+-- having three products. For thread 0 lock 0 opens by one key, and no other does. Of lock 3 the longer product comes
+-- first. Locks 1 and 4 have two keys each.
+abbrev pub locksOfProducts : List Expected
+locksOfProducts =
+    ok U 0
+    ∷ ok (S 0) 0
+    ∷ ok (S 0) 1
+    ∷ ok (N 0 0) 0
+    ∷ ok (N 0 1) 1
+    ∷ ok (K 0) 0
+    ∷ ok (L 0 1 6 (bytes "U0|R1|U0&R1&!D0")) 0
+    ∷ ok (L 0 1 6 (bytes "U0&R1")) 1
+    ∷ ok (A 1 1 4) 0
+    ∷ ok (A 1 1 2) 0
+    ∷ ok (L 0 1 4 (bytes "U0&R1&!D0&!S0")) 2
+    ∷ ok (A 1 1 4) 2
+    ∷ ok (A 1 1 2) 0
+    ∷ ok (A 0 1 4) 0
+    ∷ ok (D 0 0) 3
+    ∷ ok (L 0 1 6 (bytes "U0&R1&!D0|U0")) 3
+    ∷ ok (A 1 1 2) 3
+    ∷ ok (D 0 3) 2
+    ∷ ok (L 0 1 2 (bytes "U0&!S0")) 4
+    ∷ ok (A 1 1 2) 1
+    ∷ []
+
+-- what the Cs and As of a list answered before request P6, number and answer or second number
+abbrev pub checkedBefore : List Expected → List (ℕ × ℕ)
+checkedBefore expected =
+    map (λ e. (answerNumber (e .answer), answerValue (e .answer)))
+    (keep (λ e. eqb (e .call .letter) letters.C || eqb (e .call .letter) letters.A)
+    (eventsBefore outcomeOf emptyState (callsOf expected)))
+
 -- what the open calls of a thread then hand over, by the history
 abbrev pub handsThen : List Expected → ℕ → Option (List Frame)
 handsThen xs n = mapOption (λ t. t .frames) (historyOf outcomeOf (callsOf xs) .threads n)
@@ -491,6 +528,11 @@ pub record Trials : Type 0 where
       ∷ some (opened 0 (Defined 1 ∷ []) ∷ [])
       ∷ []
   pub severalHappen : Happens severalLocks
+  pub productsHappen : Happens locksOfProducts
+  -- and before: reads by lock 0 while it stands, and calls by lock 8
+  pub severalBefore : checkedBefore severalLocks
+      ≡ (0, 0) ∷ (0, 0) ∷ (0, 0) ∷ (0, 0) ∷ (0, 0) ∷ (0, 0) ∷ (0, 0)
+      ∷ (15, 0) ∷ (0, 0) ∷ (0, 5) ∷ (14, 6) ∷ (0, 5) ∷ (0, 8) ∷ (0, 8) ∷ (0, 8) ∷ []
   pub usersHappen : Happens users
   pub segmentsHappen : Happens segments
   pub threadsHappen : Happens liveThreads
