@@ -12,15 +12,14 @@ mod faulty_chooser;
 
 use compare::guard::{self, Own, coded};
 use faulty_chooser::Faulty;
-use reference::guard::{Answer, Guard, Refusal};
-use reference::history::{History, Verdict};
+use reference::guard::Guard;
+use reference::history::History;
 use reference::journal::Record;
 use reference::operations::EXECUTE;
-use testing::calls::{Caller, WORLDS, told};
-use testing::choice::{Asked, FAULTS, Fault};
-use testing::random::Random;
+use testing::calls::told;
+use testing::choice::{Asked, FAULTS, Fault, answer_of};
+use testing::faults;
 use testing::tightness;
-use testing::trials::{self, TRIALS};
 
 /// Lists of locks.
 const LISTS: usize = 1_000;
@@ -29,20 +28,6 @@ const FAULTY_LISTS: usize = 300;
 const SHARE: usize = 20;
 /// Lists of each kind, on a guard without a fault.
 const OTHER_LISTS: usize = 10;
-
-fn lists(seed: u64, count: usize) -> impl Iterator<Item = Vec<Record>> {
-    let mut random = Random::new(seed);
-    (0..count).map(move |_| tightness::list(&mut random))
-}
-
-fn answer_of(verdict: Verdict) -> Answer {
-    match verdict {
-        Verdict::Granted(lock) => Ok(lock),
-        Verdict::Denied(lock) => Err(Refusal::Denied(lock)),
-        Verdict::NotGranted => Err(Refusal::NotGranted),
-        Verdict::Full => Err(Refusal::Full),
-    }
-}
 
 /// Both guards and the history, which must give the same answer.
 #[derive(Default)]
@@ -84,7 +69,7 @@ struct Tally {
 #[test]
 fn lists_of_locks() {
     let mut tally = Tally::default();
-    for list in lists(101, LISTS) {
+    for list in tightness::lists(101, LISTS) {
         let mut three = Three::default();
         let before = tally.calls + tally.accesses;
         for (turn, record) in list.iter().enumerate() {
@@ -108,96 +93,24 @@ fn lists_of_locks() {
     assert!(counts.iter().all(|count| *count > 5 * LISTS), "{tally:?}");
 }
 
-/// The reference beside a faulty guard.
-struct Beside {
-    reference: Guard,
-    faulty: Faulty,
-    /// Whether an answer of theirs has differed.
-    differs: bool,
-}
-
-impl Beside {
-    fn new(fault: Option<Fault>) -> Beside {
-        Beside {
-            reference: Guard::new(),
-            faulty: Faulty::new(fault),
-            differs: false,
-        }
-    }
-}
-
-impl trials::Guard for Beside {
-    fn call(&mut self, letter: u8, [a, b, c]: [u16; 3], text: &[u8]) -> Answer {
-        let answer = self.reference.call(letter, a, b, c, text);
-        let given = self.faulty.call(letter, [a, b, c], text);
-        self.differs |= given != coded(answer);
-        answer
-    }
-}
-
-/// Whether a fault shows in a list.
-fn shows(fault: Option<Fault>, list: &[Record]) -> bool {
-    let mut guards = Beside::new(fault);
-    list.iter().any(|record| {
-        let fields = [record.a, record.b, record.c];
-        let _ = trials::Guard::call(&mut guards, record.letter, fields, &record.text);
-        guards.differs
-    })
-}
-
 #[test]
 fn a_faulty_chooser_is_found() {
-    let mut found = FAULTS.map(|_| 0);
-    for list in lists(102, FAULTY_LISTS) {
-        for (fault, found) in FAULTS.into_iter().zip(&mut found) {
-            *found += usize::from(shows(Some(fault), &list));
-        }
-    }
-    for (fault, found) in FAULTS.into_iter().zip(found) {
-        println!("{fault:?}: in {found} of {FAULTY_LISTS} lists");
-        assert!(found > FAULTY_LISTS / SHARE, "{fault:?}: in {found} lists");
-    }
+    let lists = tightness::lists(102, FAULTY_LISTS);
+    faults::assert_found::<Faulty>(&FAULTS, lists, SHARE);
 }
 
 #[test]
 fn a_faulty_chooser_fails_a_worked_example() {
-    for fault in FAULTS {
-        let failed = TRIALS.iter().filter(|(_, trial)| {
-            let mut guards = Beside::new(Some(fault));
-            trial(&mut guards);
-            guards.differs
-        });
-        let failed: Vec<&str> = failed.map(|(name, _)| *name).collect();
-        println!("{fault:?}: {failed:?}");
-        assert!(!failed.is_empty(), "{fault:?}");
-    }
+    faults::assert_fail_an_example::<Faulty>(&FAULTS);
 }
 
 /// So it is the faults that are found.
 #[test]
 fn one_without_a_fault_is_never_found() {
-    for list in lists(102, FAULTY_LISTS) {
-        assert!(!shows(None, &list));
+    for list in tightness::lists(102, FAULTY_LISTS) {
+        assert!(!faults::shows::<Faulty>(None, &list));
     }
-    for (name, trial) in TRIALS {
-        let mut guards = Beside::new(None);
-        trial(&mut guards);
-        assert!(!guards.differs, "{name}");
-    }
-    let mut random = Random::new(103);
-    for world in &WORLDS {
-        for _ in 0..OTHER_LISTS {
-            let mut guards = Beside::new(None);
-            let mut caller = Caller::new(&mut random, world);
-            for _ in 0..caller.length() {
-                let record = caller.next_call();
-                let fields = [record.a, record.b, record.c];
-                let answer = trials::Guard::call(&mut guards, record.letter, fields, &record.text);
-                if let Ok(answer) = answer {
-                    caller.learn(&record, answer);
-                }
-            }
-            assert!(!guards.differs);
-        }
-    }
+    let failed = faults::failed::<Faulty>(None);
+    assert!(failed.is_empty(), "{failed:?}");
+    faults::assert_right_in_every_world::<Faulty>(103, OTHER_LISTS);
 }

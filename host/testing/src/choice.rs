@@ -4,7 +4,7 @@
 
 use reference::formula::Literal;
 use reference::guard::{Answer, Refusal};
-use reference::history::History;
+use reference::history::{History, Verdict};
 use reference::journal::Record;
 use reference::limits::MAX_FRAMES;
 use reference::operations::{DENY, EXECUTE, READ, WRITE};
@@ -160,6 +160,16 @@ pub const FAULTS: [Fault; 25] = [
     Fault::DenyFirst,
     Fault::DenyBeforeTheTightest,
 ];
+
+/// The answer that a verdict comes to.
+pub fn answer_of(verdict: Verdict) -> Answer {
+    match verdict {
+        Verdict::Granted(lock) => Ok(lock),
+        Verdict::Denied(lock) => Err(Refusal::Denied(lock)),
+        Verdict::NotGranted => Err(Refusal::NotGranted),
+        Verdict::Full => Err(Refusal::Full),
+    }
+}
 
 /// What a live thread's fitting C or A asks for.
 #[derive(Clone, Debug)]

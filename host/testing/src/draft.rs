@@ -8,6 +8,9 @@ use reference::history::{History, Segment};
 use reference::journal::Record;
 use reference::letter::Letter;
 
+/// The most calls that a thread makes at once.
+const MOST_CALLS: usize = 6;
+
 pub(crate) struct Draft<'a> {
     pub random: &'a mut Random,
     pub history: History,
@@ -78,5 +81,42 @@ impl<'a> Draft<'a> {
     pub fn told_of(&self, segment: u16) -> &Segment {
         let segment = self.history.segment(segment);
         segment.expect("it is handed out")
+    }
+
+    /// A thread calls one of these segments.
+    pub fn call_segment(&mut self, code: &[u16]) {
+        let thread = self.thread();
+        self.call_by(thread, code);
+    }
+
+    fn call_by(&mut self, thread: u16, code: &[u16]) {
+        let segment = self.random.pick(code);
+        let _ = self.call(call(Letter::CallSegment, thread, segment, 0));
+    }
+
+    /// The oldest thread calls on and on.
+    pub fn descend(&mut self, code: &[u16]) {
+        let oldest = self.live()[0];
+        for _ in 0..self.random.between(1, MOST_CALLS) {
+            self.call_by(oldest, code);
+        }
+    }
+
+    pub fn return_call(&mut self) {
+        let thread = self.thread();
+        let _ = self.call(call(Letter::ReturnCall, thread, 0, 0));
+    }
+
+    /// A thread starts, or one ends where so many are live. Answers which has ended.
+    pub fn come_or_go(&mut self, most: usize) -> Option<u16> {
+        if self.live().len() < most {
+            let users = self.history.issued().users as usize;
+            let user = self.random.below(users) as u16;
+            let _ = self.call(call(Letter::StartThread, user, 0, 0));
+            return None;
+        }
+        let thread = self.thread();
+        let _ = self.call(call(Letter::EndThread, thread, 0, 0));
+        Some(thread)
     }
 }

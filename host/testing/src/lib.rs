@@ -3,11 +3,13 @@
 //! lists of [`withdrawals`] and of locks of every [`tightness`], formula [`texts`],
 //! [`journals`], and [`rows`] for a listing to fill. By hand from documents 01 and 02
 //! are [`trials`], calls with their answers, and [`written`], records with their bytes.
-//! [`shapes`] are formula texts of each shape. A [`choice`] of a lock may be wrong.
+//! [`shapes`] are formula texts of each shape. A [`choice`] of a lock may be wrong, and
+//! the [`faults`] of guards must be found.
 
 pub mod calls;
 pub mod choice;
 mod draft;
+pub mod faults;
 pub mod journals;
 pub mod neighbours;
 pub mod random;

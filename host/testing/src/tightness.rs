@@ -17,10 +17,9 @@ use reference::{Key, Kind};
 const TURNS: (usize, usize) = (30, 80);
 /// The least and the most questions after a turn.
 const QUESTIONS: (usize, usize) = (2, 4);
-/// One list in this many has a deep stack: nobody returns, and one thread calls so
-/// often at once, at most.
+/// One list in this many has a deep stack: nobody returns, and one thread calls often
+/// at once.
 const DEEP_SHARE: usize = 5;
-const MOST_CALLS: usize = 6;
 /// The most threads that are live before one ends.
 const MOST_THREADS: usize = 4;
 /// With so many products a segment has hardly room for a lock more.
@@ -40,6 +39,12 @@ pub fn list(random: &mut Random) -> Vec<Record> {
         office.ask(deep);
     }
     office.draft.into_list()
+}
+
+/// So many lists, each from the empty state.
+pub fn lists(seed: u64, count: usize) -> impl ExactSizeIterator<Item = Vec<Record>> {
+    let mut random = Random::new(seed);
+    (0..count).map(move |_| list(&mut random))
 }
 
 /// A list as far as it is made, and what there is to name. User 0 owns all of it.
@@ -80,7 +85,7 @@ impl<'a> Office<'a> {
         };
         for _ in 0..code + threads {
             office.give_or_take();
-            office.call_segment();
+            office.draft.call_segment(&office.code);
             office.add_lock();
             office.add_lock();
         }
@@ -92,10 +97,10 @@ impl<'a> Office<'a> {
             0..9 => self.add_lock(),
             9..12 => self.drop_lock(),
             12..14 => self.give_or_take(),
-            14..16 if deep => self.descend(),
-            14..16 => self.call_segment(),
-            16..18 if !deep => self.return_call(),
-            18 => self.come_or_go(),
+            14..16 if deep => self.draft.descend(&self.code),
+            14..16 => self.draft.call_segment(&self.code),
+            16..18 if !deep => self.draft.return_call(),
+            18 => _ = self.draft.come_or_go(MOST_THREADS),
             _ => {}
         }
     }
@@ -187,42 +192,6 @@ impl<'a> Office<'a> {
         };
         let editor = self.draft.editor_of(segment);
         let _ = self.draft.call(call(letter, editor, segment, number));
-    }
-
-    fn call_segment(&mut self) {
-        let thread = self.draft.thread();
-        self.call_by(thread);
-    }
-
-    fn call_by(&mut self, thread: u16) {
-        let segment = self.draft.random.pick(&self.code);
-        let _ = self
-            .draft
-            .call(call(Letter::CallSegment, thread, segment, 0));
-    }
-
-    /// The oldest thread calls on and on.
-    fn descend(&mut self) {
-        let oldest = self.draft.live()[0];
-        for _ in 0..self.draft.random.between(1, MOST_CALLS) {
-            self.call_by(oldest);
-        }
-    }
-
-    fn return_call(&mut self) {
-        let thread = self.draft.thread();
-        let _ = self.draft.call(call(Letter::ReturnCall, thread, 0, 0));
-    }
-
-    fn come_or_go(&mut self) {
-        let record = if self.draft.live().len() < MOST_THREADS {
-            let users = self.draft.history.issued().users as usize;
-            let user = self.draft.random.below(users) as u16;
-            call(Letter::StartThread, user, 0, 0)
-        } else {
-            call(Letter::EndThread, self.draft.thread(), 0, 0)
-        };
-        let _ = self.draft.call(record);
     }
 
     /// A C or an A on the segment.

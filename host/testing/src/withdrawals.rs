@@ -15,10 +15,9 @@ use reference::{Key, Kind};
 const ALL: &str = "U0|!U0";
 /// The least and the most turns of a list, each of one call or of a few.
 const TURNS: (usize, usize) = (40, 120);
-/// One list in this many has a deep stack: nobody returns, and one thread calls so
-/// often at once, at most.
+/// One list in this many has a deep stack: nobody returns, and one thread calls often
+/// at once.
 const DEEP_SHARE: usize = 3;
-const MOST_CALLS: usize = 6;
 /// The most threads that are live before one ends.
 const MOST_THREADS: usize = 7;
 /// Added to a number that is handed out, it is none.
@@ -125,10 +124,10 @@ impl<'a> Office<'a> {
             0..4 => self.give(),
             4..8 => self.take(),
             8..10 => self.take_in_vain(),
-            10..14 => self.call_segment(),
-            14..16 if deep => self.descend(),
-            14..16 => self.return_call(),
-            16 => self.come_or_go(),
+            10..14 => self.draft.call_segment(&self.code),
+            14..16 if deep => self.draft.descend(&self.code),
+            14..16 => self.draft.return_call(),
+            16 => self.ended.extend(self.draft.come_or_go(MOST_THREADS)),
             _ => self.access(),
         }
     }
@@ -221,47 +220,6 @@ impl<'a> Office<'a> {
         match self.ended.as_slice() {
             [] => BEYOND,
             ended => self.draft.random.pick(ended),
-        }
-    }
-
-    fn call_segment(&mut self) {
-        let thread = self.draft.thread();
-        self.call_by(thread);
-    }
-
-    fn call_by(&mut self, thread: u16) {
-        let segment = self.draft.random.pick(&self.code);
-        let _ = self
-            .draft
-            .call(call(Letter::CallSegment, thread, segment, 0));
-    }
-
-    /// The oldest thread calls on and on.
-    fn descend(&mut self) {
-        let oldest = self.draft.live()[0];
-        for _ in 0..self.draft.random.between(1, MOST_CALLS) {
-            self.call_by(oldest);
-        }
-    }
-
-    fn return_call(&mut self) {
-        let thread = self.draft.thread();
-        let _ = self.draft.call(call(Letter::ReturnCall, thread, 0, 0));
-    }
-
-    fn come_or_go(&mut self) {
-        if self.draft.live().len() < MOST_THREADS {
-            let user = self
-                .draft
-                .random
-                .below(self.draft.history.issued().users as usize);
-            let _ = self
-                .draft
-                .call(call(Letter::StartThread, user as u16, 0, 0));
-        } else {
-            let thread = self.draft.thread();
-            let _ = self.draft.call(call(Letter::EndThread, thread, 0, 0));
-            self.ended.push(thread);
         }
     }
 

@@ -7,16 +7,15 @@
 //! and in how many lists each fault shows.
 
 use reference::guard::{Answer, Guard, Refusal};
-use reference::history::{History, Verdict};
+use reference::history::History;
 use reference::journal::Record;
 use reference::limits::MAX_LITERALS;
 use reference::operations::EXECUTE;
 use std::collections::BTreeMap;
-use testing::calls::{Caller, WORLDS, call, told};
-use testing::choice::{Asked, FAULTS, Fault, Lock};
-use testing::random::Random;
+use testing::calls::told;
+use testing::choice::{Asked, FAULTS, Fault, Lock, answer_of};
+use testing::faults::{self, Suspect};
 use testing::tightness;
-use testing::trials::{self, TRIALS};
 
 /// Lists of locks.
 const LISTS: usize = 1_000;
@@ -59,20 +58,8 @@ enum Sort {
 
 use Sort::*;
 
-const SORTS: [Sort; 12] = [
-    Several,
-    NotTheLowest,
-    Equal,
-    LongerClosed,
-    NotTheFirst,
-    ByBarred,
-    ByPlain,
-    OfSix,
-    OtherOperation,
-    DeniedByAShorter,
-    DeniedByTheLowest,
-    DeniedAfter,
-];
+/// How many sorts there are.
+const SORTS: usize = 12;
 
 /// The sorts that a question is of.
 fn sorts(asked: &Asked) -> Vec<Sort> {
@@ -137,25 +124,11 @@ fn came(sorts: &[(Sort, bool)]) -> Vec<Sort> {
 /// How often each sort came, of calls and of accesses.
 type Tally = BTreeMap<(bool, Sort), usize>;
 
-fn answer_of(verdict: Verdict) -> Answer {
-    match verdict {
-        Verdict::Granted(lock) => Ok(lock),
-        Verdict::Denied(lock) => Err(Refusal::Denied(lock)),
-        Verdict::NotGranted => Err(Refusal::NotGranted),
-        Verdict::Full => Err(Refusal::Full),
-    }
-}
-
-fn lists(seed: u64, count: usize) -> impl Iterator<Item = Vec<Record>> {
-    let mut random = Random::new(seed);
-    (0..count).map(move |_| tightness::list(&mut random))
-}
-
 #[test]
 fn lists_of_locks() {
     let mut tally = Tally::new();
     let (mut full, mut with_several) = (0, 0);
-    for list in lists(98, LISTS) {
+    for list in tightness::lists(98, LISTS) {
         let (mut guard, mut history) = (Guard::new(), History::new());
         let mut has_several = false;
         for record in list {
@@ -180,117 +153,54 @@ fn lists_of_locks() {
     println!("{with_several} of {LISTS} lists with several locks, {full} full: {tally:?}");
     assert!(with_several > LISTS * 9 / 10, "{with_several} lists");
     assert!(full > OFTEN, "{full}");
-    for sort in SORTS {
-        for is_call in [true, false] {
-            let count = tally.get(&(is_call, sort)).copied().unwrap_or(0);
-            // A code segment's locks are for one operation.
-            let can_be = !(is_call && sort == OtherOperation);
-            let right = if can_be { count >= OFTEN } else { count == 0 };
-            assert!(right, "{sort:?} of calls {is_call} came {count} times");
-        }
+    // A code segment's locks are for one operation. All else must come.
+    assert_eq!(tally.get(&(true, OtherOperation)), None);
+    assert_eq!(tally.len(), 2 * SORTS - 1, "{tally:?}");
+    for ((is_call, sort), count) in tally {
+        let often = count >= OFTEN;
+        assert!(often, "{sort:?} of calls {is_call} came {count} times");
     }
 }
 
-/// The reference with a fault in its choice, or with none.
+/// A guard with a fault in its choice, or with none. To other calls its answers are right.
 struct Faulty {
-    guard: Guard,
     history: History,
     fault: Option<Fault>,
-    /// Whether an answer has differed from the reference's.
-    differs: bool,
 }
 
-impl Faulty {
+impl Suspect for Faulty {
+    type Fault = Fault;
+
     fn new(fault: Option<Fault>) -> Faulty {
-        Faulty {
-            guard: Guard::new(),
-            history: History::new(),
-            fault,
-            differs: false,
-        }
+        let history = History::new();
+        Faulty { history, fault }
     }
 
-    /// The right answer. The faulty one is compared with it.
-    fn call(&mut self, record: &Record) -> Answer {
+    fn agrees(&mut self, record: &Record, right: Answer) -> bool {
         let asked = Asked::of(&self.history, record);
-        let answer = told(&mut self.guard, &mut self.history, record);
-        if let Some(asked) = asked {
-            self.differs |= asked.answer(self.fault) != answer;
-        }
-        answer
+        self.history.feed(record, right.ok());
+        asked.is_none_or(|asked| asked.answer(self.fault) == right)
     }
-}
-
-impl trials::Guard for Faulty {
-    fn call(&mut self, letter: u8, [a, b, c]: [u16; 3], text: &[u8]) -> Answer {
-        let text = text.to_vec();
-        Faulty::call(
-            self,
-            &Record {
-                text,
-                ..call(letter, a, b, c)
-            },
-        )
-    }
-}
-
-fn shows(fault: Option<Fault>, list: &[Record]) -> bool {
-    let mut faulty = Faulty::new(fault);
-    list.iter().any(|record| {
-        let _ = faulty.call(record);
-        faulty.differs
-    })
 }
 
 #[test]
 fn a_faulty_choice_is_told() {
-    let mut told = FAULTS.map(|_| 0);
-    for list in lists(99, FAULTY_LISTS) {
-        assert!(!shows(None, &list));
-        for (fault, told) in FAULTS.into_iter().zip(&mut told) {
-            *told += usize::from(shows(Some(fault), &list));
-        }
+    for list in tightness::lists(99, FAULTY_LISTS) {
+        assert!(!faults::shows::<Faulty>(None, &list));
     }
-    for (fault, told) in FAULTS.into_iter().zip(told) {
-        println!("{fault:?}: in {told} of {FAULTY_LISTS} lists");
-        assert!(told > FAULTY_LISTS / SHARE, "{fault:?}: in {told} lists");
-    }
+    let lists = tightness::lists(99, FAULTY_LISTS);
+    faults::assert_found::<Faulty>(&FAULTS, lists, SHARE);
 }
 
 #[test]
 fn a_faulty_choice_fails_a_worked_example() {
-    for fault in FAULTS {
-        let failed = TRIALS.iter().filter(|(_, trial)| {
-            let mut faulty = Faulty::new(Some(fault));
-            trial(&mut faulty);
-            faulty.differs
-        });
-        let failed: Vec<&str> = failed.map(|(name, _)| *name).collect();
-        println!("{fault:?}: {failed:?}");
-        assert!(!failed.is_empty(), "{fault:?}");
-    }
+    faults::assert_fail_an_example::<Faulty>(&FAULTS);
 }
 
 /// So it is the faults that are told.
 #[test]
 fn the_right_choice_is_the_references() {
-    for (_, trial) in TRIALS {
-        let mut right = Faulty::new(None);
-        trial(&mut right);
-        assert!(!right.differs);
-    }
-    let mut random = Random::new(100);
-    for world in &WORLDS {
-        for _ in 0..OTHER_LISTS {
-            let mut right = Faulty::new(None);
-            let mut caller = Caller::new(&mut random, world);
-            for _ in 0..caller.length() {
-                let record = caller.next_call();
-                if let Ok(answer) = right.call(&record) {
-                    caller.learn(&record, answer);
-                }
-            }
-            assert!(!right.differs);
-        }
-    }
+    let failed = faults::failed::<Faulty>(None);
+    assert!(failed.is_empty(), "{failed:?}");
+    faults::assert_right_in_every_world::<Faulty>(100, OTHER_LISTS);
 }

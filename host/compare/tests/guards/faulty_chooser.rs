@@ -4,9 +4,12 @@
 
 use compare::guard::{Cells, Guard, Own, coded, outcome};
 use reference::call::Call;
+use reference::guard::Answer;
+use reference::journal::Record;
 use reference::operations::EXECUTE;
 use rotundaaloe::raw::{self, Locks};
 use testing::choice::{Asked, Fault, Lock};
+use testing::faults::Suspect;
 
 /// What the proved guard knows of a segment's locks: a row for each product, with the
 /// lock, the number of literals and the operations in one cell, then the literals.
@@ -42,17 +45,27 @@ pub struct Faulty {
     fault: Option<Fault>,
 }
 
-impl Faulty {
-    pub fn new(fault: Option<Fault>) -> Faulty {
+impl Suspect for Faulty {
+    type Fault = Fault;
+
+    fn new(fault: Option<Fault>) -> Faulty {
         let cells = Box::new(Guard::new().cells().clone());
         Faulty { cells, fault }
     }
 
-    pub fn call(&mut self, letter: u8, [a, b, c]: [u16; 3], text: &[u8]) -> u32 {
-        let call = Call::of_parts(letter, [a, b, c], text);
+    fn agrees(&mut self, record: &Record, right: Answer) -> bool {
+        self.call(record) == coded(right)
+    }
+}
+
+impl Faulty {
+    fn call(&mut self, record: &Record) -> u32 {
+        let Record {
+            letter, a, b, c, ..
+        } = *record;
         // A call adds to what is held, so it is asked before.
-        let asked = call.and_then(|call| self.asked(call));
-        let answer = raw::call(&mut self.cells, letter, a, b, c, text);
+        let asked = Call::of(record).and_then(|call| self.asked(call));
+        let answer = raw::call(&mut self.cells, letter, a, b, c, &record.text);
         match (outcome(answer), asked) {
             (ACCEPTED | FULL | DENIED | NOT_GRANTED, Some(asked)) => {
                 coded(asked.answer(self.fault))

@@ -2,10 +2,13 @@
 //! arrays. What its T made of them is put back first, so a fault is all there is.
 
 use super::frames::{Frame, LIVE, NO_KEY, Table, code, depth, frames, strike, withdraw};
-use compare::guard::{Cells, Guard, outcome};
+use compare::guard::{Cells, Guard, coded, outcome};
 use reference::call::Call;
+use reference::guard::Answer;
+use reference::journal::Record;
 use reference::limits::MAX_FRAMES;
 use rotundaaloe::raw::{self, Threads};
+use testing::faults::Suspect;
 
 // Cells of row 0 of a thread.
 const NUMBER: usize = 0;
@@ -80,8 +83,10 @@ pub struct Faulty {
     found: Box<Threads>,
 }
 
-impl Faulty {
-    pub fn new(fault: Option<Fault>) -> Faulty {
+impl Suspect for Faulty {
+    type Fault = Fault;
+
+    fn new(fault: Option<Fault>) -> Faulty {
         let cells = Box::new(Guard::new().cells().clone());
         let found = Box::new(cells.threads);
         Faulty {
@@ -91,10 +96,19 @@ impl Faulty {
         }
     }
 
-    pub fn call(&mut self, letter: u8, [a, b, c]: [u16; 3], text: &[u8]) -> u32 {
-        let call = Call::of_parts(letter, [a, b, c], text);
+    fn agrees(&mut self, record: &Record, right: Answer) -> bool {
+        self.call(record) == coded(right)
+    }
+}
+
+impl Faulty {
+    fn call(&mut self, record: &Record) -> u32 {
+        let Record {
+            letter, a, b, c, ..
+        } = *record;
+        let call = Call::of(record);
         let threads = self.cells.threads;
-        let answer = raw::call(&mut self.cells, letter, a, b, c, text);
+        let answer = raw::call(&mut self.cells, letter, a, b, c, &record.text);
         if matches!(call, Some(Call::TakeKey { .. })) {
             self.cells.threads = threads;
         }
