@@ -31,8 +31,8 @@ abbrev pub threadKeys : State → ℕ → KeySet
 threadKeys d a = keySet a (threadAt d a)
 
 -- The first product that opens for thread a, of the locks on segment b that stand for operation n, as deny locks or as
--- grant locks. It is the lowest such lock's: of deny locks that is `denied` of `TightestLock`, of grant locks `before` of
--- `SameGrants`. Whether a grant lock has one decides what is granted.
+-- grant locks. It is the lowest such lock's: of deny locks that is `denied` of `TightestLock`, of grant locks `before`
+-- of `SameGrants`. Whether a grant lock has one decides what is granted.
 unfoldable pub openingProduct : State → (ℕ → ℕ → Bool) → ℕ → ℕ → ℕ → Option LockProduct
 openingProduct d stands a b n = first (opensFor stands n (threadKeys d a)) (segmentAt d b .products)
 

@@ -75,8 +75,8 @@ pub record AcceptedTightest (compile : Compiler) (holds : Meaning) (h : History)
 
 pub record AnswersAfter (compile : Compiler) (holds : Meaning) (xs : List Call) (next : Call) : Type 0 where
   pub fitting : AnswersBy compile holds (events compile xs) next (answerTo compile xs next)
-  pub accepted : (o : Operation) (n : ℕ) → decoded next ≡ WellFormed (requestOf o) → answerTo compile xs next ≡ Accepted n
-      → AcceptedTightest compile holds (history (events compile xs)) o n
+  pub accepted : (o : Operation) (n : ℕ) → decoded next ≡ WellFormed (requestOf o)
+      → answerTo compile xs next ≡ Accepted n → AcceptedTightest compile holds (history (events compile xs)) o n
 
 -- for whatever compiler keeps the laws
 abbrev pub TightestLockByLaws : Type 0
