@@ -3,7 +3,7 @@
 use mathlib.Core.Path.{_≡_, refl, sym, ap, subst, _∙_}
 use mathlib.Core.Bool.{Bool, true, false, _&&_, _||_, not, cond}
 use mathlib.Core.List.{[], _∷_, _++_}
-use Prim.Native.Nat.{ℕ, suc, _+_, _-_, _/_, _%_, _≤_, _<_, min}
+use Prim.Native.Nat.{ℕ, suc, _+_, _-_, _≤_, _<_, min}
 use native.Mathlib.Omega.{arith}
 use lib.Dec.{eqb, ltb}
 use lib.ListN.{length, drop}
@@ -11,11 +11,11 @@ use borrow.Author.Tests.{eq-eqb, ne-eqb}
 use Rattle.product.specs.declared.literal.Literal.{Literal}
 use Rattle.product.specs.Atom.{agrees, atomOf}
 use Rattle.product.specs.Product.{Product, opens}
-use Rattle.base.specs.Lists.{keep, first, isSome, each}
+use Rattle.base.specs.Lists.{first, each}
 use Rattle.model.specs.Limits.{mostFrames}
 use Rattle.model.specs.Threads.{KeySet}
 use Rattle.model.specs.Operations.{shares, deny}
-use Rattle.model.specs.Cells.{Row, Table, cell, rowAt, frameCount, literalIn, usedRows, productIn}
+use Rattle.model.specs.Cells.{Row, Table, cell, rowAt, frameCount, literalIn, productIn}
 use Rattle.base.proofs.Truth.{neither}
 use Rattle.base.proofs.Lists.{caseBool, clash, each-snoc}
 use Rattle.base.proofs.Scans.{Rest, rest-end, rest-next}

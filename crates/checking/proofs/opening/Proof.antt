@@ -7,7 +7,6 @@ use borrow.Author.Needs.{needs}
 use borrow.Author.Tests.{not-true, not-false}
 use lib.ListN.{length}
 use Rattle.model.specs.Cells.{rowAt}
-use Rattle.checking.specs.declared.Checked.{Checked}
 use Rattle.checking.specs.Deciding.{keysAt}
 use Rattle.checking.specs.Internal.{openingOf, headChecked, codeChecked}
 use Rattle.checking.proofs.LoopSteps.{Left, left-start, left-listable, left-hit, left-miss, left-end, Deciding, deciding-start, rest-past, rest-stop, rest-idle, rest-shut, rest-denied, rest-first, grant-head}

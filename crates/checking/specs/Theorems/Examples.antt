@@ -2,11 +2,10 @@
 -- the answers, number and value, are worked out by hand from document 01. Proved in `proofs/Examples.antt`, by
 -- computing.
 use mathlib.Core.Path.{_≡_}
-use mathlib.Core.List.{List, [], _∷_, _++_}
+use mathlib.Core.List.{[], _∷_}
 use Prim.Native.Nat.{ℕ}
 use lib.ListN.{replicate}
-use Rattle.model.specs.Cells.{Row, Table}
-use Rattle.checking.specs.declared.Checked.{Checked}
+use Rattle.model.specs.Cells.{Table}
 use Rattle.checking.specs.Deciding.{checkOf, checkedNumber, checkedValue}
 
 -- a thread of user 1 with that number and one open call, of segment 0, which handed over S0 and D2

@@ -1,7 +1,7 @@
 -- The first three conditions of a C or an A are a live thread, a segment handed out, and an operation that the segment
 -- takes; `Mirror` says that the history tells them.
-use mathlib.Core.Path.{_≡_, refl, sym, ap, _∙_}
-use mathlib.Core.Bool.{Bool, true, false, _&&_, not}
+use mathlib.Core.Path.{_≡_, sym, ap, _∙_}
+use mathlib.Core.Bool.{Bool, true, false, _&&_}
 use mathlib.Core.List.{List}
 use mathlib.Core.Option.{Option, none, some}
 use Prim.Native.Nat.{ℕ}
@@ -21,16 +21,16 @@ use Rattle.base.proofs.Lists.{caseBool, isSome-some}
 use Rattle.model.specs.declared.answer.Refusal.{Refusal}
 use Rattle.model.specs.declared.answer.Refusal.the-variants.{NoSegment, Unfit}
 use Rattle.model.specs.declared.answer.Answer.the-variants.{Accepted, Refused}
-use Rattle.model.specs.Operations.{takes, isAccess}
+use Rattle.model.specs.Operations.{takes}
 use Rattle.model.specs.Threads.{Thread}
 use Rattle.model.specs.State.{State, segmentAt, isLive, isSegment}
 use Rattle.model.specs.Refusals.{conditions}
 use Rattle.model.specs.Model.{judged, step}
 use Rattle.model.specs.Cells.{stateOf}
-use Rattle.model.specs.History.{History, Entry, history}
+use Rattle.model.specs.History.{History, history}
 use Rattle.model.specs.HistoryCheck.{Operation, calls, accesses, requestOf, threadOf, targetOf, operationOf, isKnown, Fits}
 use Rattle.model.specs.Replay.{reached, events, answerTo}
-use Rattle.model.specs.Theorems.Fitting.{Judged, FitsBy, FittingByLaws, Fitting}
+use Rattle.model.specs.Theorems.Fitting.{Judged, FittingByLaws, Fitting}
 use Rattle.model.proofs.Agreement.HistoryAnswers.{taken}
 use Rattle.model.proofs.Agreement.Granting.{answer-is}
 use Rattle.model.proofs.Agreement.Mirror.{mirror-by-laws}

@@ -1,9 +1,8 @@
 -- Which number an accepted call answers decides nothing: the conditions and the changes are the same, and so is the
 -- state after every list of calls. Of the history: a grant lock opens exactly where there is a tightest.
 use mathlib.Core.Path.{_≡_, refl, sym, ap, subst, _∙_}
-use mathlib.Core.Bool.{Bool, true, false, true≢false, false≢true}
+use mathlib.Core.Bool.{Bool, true, false, cond, true≢false, false≢true}
 use mathlib.Core.List.{List, [], _∷_}
-use mathlib.Core.Logic.{_↔_}
 use mathlib.Core.Option.{Option, none, some}
 use Prim.Native.Nat.{ℕ}
 use native.Mathlib.Omega.{arith}
@@ -12,25 +11,23 @@ use Rattle.formula.specs.Meaning.{textHolds, Meaning}
 use Rattle.formula.specs.Compiler.{Compiler, Laws}
 use Rattle.formula.proofs.Opening.{laws}
 use Rattle.call.specs.declared.request.Request.{Request}
-use Rattle.call.specs.declared.request.Request.the-variants as request
 use Rattle.call.specs.declared.request.Decoded.{Decoded}
 use Rattle.call.specs.declared.request.Decoded.the-variants.{WellFormed, Corrupt as NotWellFormed}
 use Rattle.call.specs.Calls.{Call, decoded}
+use Rattle.call.proofs.EveryRequest.{every-request}
 use Rattle.base.specs.Conditions.{firstRefusal}
 use Rattle.base.specs.Lists.{first, isSome}
 use Rattle.base.proofs.Lists.{isSome-first}
 use Rattle.model.specs.declared.answer.Refusal.{Refusal}
 use Rattle.model.specs.declared.answer.Answer.{Answer}
 use Rattle.model.specs.declared.answer.Answer.the-variants.{Accepted, Refused}
-use Rattle.model.specs.Answers.{isAccepted}
 use Rattle.model.specs.Operations.{denies, grants}
-use Rattle.model.specs.Threads.{Thread}
 use Rattle.model.specs.State.{State, emptyState}
 use Rattle.model.specs.Refusals.{openingProduct, lockOf, conditions}
 use Rattle.model.specs.Effects.{answer}
 use Rattle.model.specs.Model.{judged, stepDecoded, step}
-use Rattle.model.specs.History.{History, Lock, history}
-use Rattle.model.specs.HistoryCheck.{Operation, calls, accesses, requestOf, threadOf, targetOf, operationOf, lockOpens, hasRoom, checkAnswer, tightestLock, answerFrom}
+use Rattle.model.specs.History.{Lock, history}
+use Rattle.model.specs.HistoryCheck.{Operation, calls, accesses, requestOf, threadOf, targetOf, operationOf, lockOpens, hasRoom, checkAnswer, tightestLock}
 use Rattle.model.specs.Replay.{stateAfter, reached, events, answerTo}
 use Rattle.model.specs.Theorems.SameGrants.{Alike, lowestAnswer, SameChecks, isChecked, answerBefore, judgedBefore, decodedBefore, stepBefore, stateBefore, SameAfter, SameBefore, SameGrants}
 use Rattle.model.proofs.Agreement.EveryCall.{agree}
@@ -95,18 +92,10 @@ module _ (compile : Compiler) where
   -- what isn't checked answers as before
   other-answer : (d : State) (q : Request) (text : List ℕ) → isChecked q ≡ false → answer compile d q text ≡ answerBefore compile d q text
   unfolding answerBefore
-  other-answer d request.NewUser text e = refl
-  other-answer d (request.StartThread a) text e = refl
-  other-answer d (request.EndThread a) text e = refl
-  other-answer d (request.NewSegment a b) text e = refl
-  other-answer d (request.NewKey a) text e = refl
-  other-answer d (request.GiveKey a b c) text e = refl
-  other-answer d (request.TakeKey a b c) text e = refl
-  other-answer d (request.AddLock a b c) text e = refl
-  other-answer d (request.DropLock a b) text e = refl
-  other-answer d (request.CallSegment a b) text e = absurd (true≢false e)
-  other-answer d (request.ReturnCall a) text e = refl
-  other-answer d (request.Access a b c) text e = absurd (true≢false e)
+  other-answer d q text e =
+      ap (λ (b : Bool). cond b 0 (answer compile d q text)) (sym e)
+      ∙ every-request (λ r. cond (isChecked r) 0 (answer compile d r text)) (λ r. cond (isChecked r) 0 (answerBefore compile d r text)) (λ a b c. refl) q
+      ∙ ap (λ (b : Bool). cond b 0 (answerBefore compile d q text)) e
 
   other-judged : (d : State) (q : Request) (text : List ℕ) → isChecked q ≡ false → (o : Option Refusal)
       → judged compile d q text o .answer ≡ judgedBefore compile d q text o .answer

@@ -2,22 +2,21 @@
 -- all, its tightness is the length of one of its products, and no opening product is longer than its lock is tight. Of
 -- the deny locks the first of rising numbers is the lowest.
 use mathlib.Core.Path.{_≡_, refl, sym, ap, subst, _∙_}
-use mathlib.Core.Bool.{Bool, true, false, _&&_, true≢false, false≢true}
+use mathlib.Core.Bool.{Bool, true, false, false≢true}
 use mathlib.Core.List.{List, [], _∷_, map, List·Memᴰ, List·Memᴰ·head, List·Memᴰ·tail}
-use mathlib.Core.Logic.{_↔_}
 use mathlib.Core.Option.{Option, none, some}
 use Prim.Native.Nat.{ℕ, _≤_}
 use native.Mathlib.Omega.{arith}
 use lib.Dec.{eqb, ltb}
 use borrow.Author.Tests.{ltb-true}
 use lib.ListN.{length}
-use Rattle.product.specs.Product.{Product, opens}
+use Rattle.product.specs.Product.{opens}
 use Rattle.formula.specs.Outcome.{outcomeOf}
 use Rattle.formula.specs.Meaning.{textHolds, Meaning}
 use Rattle.formula.specs.Compiler.{Compiler, Laws}
 use Rattle.formula.proofs.Opening.{laws}
 use Rattle.call.specs.Calls.{Call}
-use Rattle.base.specs.Lists.{any, keep, first, rising}
+use Rattle.base.specs.Lists.{keep, first, rising}
 use Rattle.base.proofs.Truth.{and-left, and-last}
 use Rattle.base.proofs.Lists.{caseBool, all-at, clash, some-inj, isSome-some, some≢none, isSome-first, any-passes, keep-members, keep-member, rising-keep, rising-tail, rising-skip}
 use Rattle.base.proofs.Greatest.{Leads, greatest-has, greatest-leads}
@@ -28,11 +27,10 @@ use Rattle.model.specs.declared.answer.Answer.the-variants.{Accepted, Re
 use Rattle.model.specs.Answers.{isAccepted}
 use Rattle.model.specs.Operations.{denies, grants}
 use Rattle.model.specs.Threads.{Thread, KeySet, keySet}
-use Rattle.model.specs.History.{Event, History, Lock, history}
-use Rattle.model.specs.HistoryLocks.{productsOf}
-use Rattle.model.specs.HistoryCheck.{Operation, threadOf, targetOf, operationOf, Fits, hasRoom, lockOpens, checkAnswer, tightness, tightestLock, answerFrom}
+use Rattle.model.specs.History.{History, Lock, history}
+use Rattle.model.specs.HistoryCheck.{Operation, threadOf, targetOf, operationOf, hasRoom, lockOpens, checkAnswer, tightness, tightestLock, answerFrom}
 use Rattle.model.specs.Replay.{events, answerTo}
-use Rattle.model.specs.Theorems.TightestLock.{OpensBy, Tightest, LowestDeny, AnswersTightest, AnswersBy, TightestLockByLaws, TightestLock}
+use Rattle.model.specs.Theorems.TightestLock.{Tightest, LowestDeny, AnswersTightest, AnswersBy, TightestLockByLaws, TightestLock}
 use Rattle.model.proofs.Agreement.TightestProducts.{Spelt, spelt-by-laws, product-short, product-long}
 use Rattle.model.proofs.Agreement.StoredLocks.{stored-locks-by-laws}
 use Rattle.model.proofs.Agreement.Numbering.{numbering-by-laws}

@@ -2,7 +2,7 @@
 -- lock's number with a count of literals: the marks of one lock, one after the other, are as the greatest of them.
 use mathlib.Core.Path.{_≡_, refl, sym, ap, _∙_}
 use mathlib.Core.Bool.{Bool, true, false, _&&_, cond, false≢true}
-use mathlib.Core.List.{List, [], _∷_, _++_, map, List·Memᴰ}
+use mathlib.Core.List.{List, [], _∷_, map, List·Memᴰ}
 use mathlib.Core.Option.{Option, none, some}
 use Prim.Native.Nat.{ℕ, max, _≤_, zero-le, suc-le-suc}
 use native.Mathlib.Omega.{arith}

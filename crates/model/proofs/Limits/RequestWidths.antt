@@ -27,7 +27,7 @@ use Rattle.model.specs.declared.answer.Refusal.{Refusal}
 use Rattle.model.specs.Answers.{secondNumber}
 use Rattle.base.specs.Lists.{keepIf, keep}
 use Rattle.model.specs.Limits.{mostUsers, mostThreads, mostSegments, mostDefined, mostListed, mostStanding, mostNumbers, passes}
-use Rattle.model.specs.Operations.{denies, grants, execute}
+use Rattle.model.specs.Operations.{denies, execute}
 use Rattle.model.specs.Threads.{sameKey}
 use Rattle.model.specs.State.{LockProduct, segmentAt, userOf, Place, isFree, liveIn, placeFor, placeOf, isOfLock, hasLock, isLock, lockSegment, issued}
 use Rattle.model.specs.Refusals.{openingProduct, lockOf, conditions}

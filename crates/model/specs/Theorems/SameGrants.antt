@@ -12,7 +12,7 @@ use Prim.Native.Nat.{ℕ}
 use lib.Dec.{eqb}
 use Rattle.formula.specs.Outcome.{outcomeOf}
 use Rattle.formula.specs.Meaning.{textHolds, Meaning}
-use Rattle.formula.specs.Compiler.{Compiler, Laws}
+use Rattle.formula.specs.Compiler.{Compiler}
 use Rattle.call.specs.declared.request.Request.{Request}
 use Rattle.call.specs.declared.request.Decoded.{Decoded}
 use Rattle.call.specs.declared.request.Decoded.the-variants.{WellFormed, Corrupt as NotWellFormed}
