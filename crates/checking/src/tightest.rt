@@ -16,8 +16,8 @@ use model::arrays::Products;
 use model::arrays::Thread;
 use model::operations::Operations;
 
-// The number of the answer by the row that decides, of that one and those after it, where it is a grant lock's that
-// opens and has the head `first`. A row that can't change the answer isn't opened.
+// The number of the answer by the row that decides, of row `from` and those after it, where row `from` is the first
+// grant lock's that opens and has the head `first`. A row that can't change the answer isn't opened.
 pub(crate) fn decided_after(
     thread: &Thread,
     products: &Products,
