@@ -24,9 +24,8 @@ pub enum Limited {
 }
 
 /// Each limit, and the most that is within it. The second pair of products has
-/// a barred key. The limits where several grant locks open are a trial's counts,
-/// rounded up; that on T where all open calls lose the key was chosen after the
-/// measurement.
+/// a barred key. The limits where several grant locks open, and that on T where all
+/// open calls lose the key, were chosen after the measurement.
 pub const LIMITS: [(Limited, u64); 16] = [
     (Limited::Check(Case::FirstFails, 2, 1), 98),
     (Limited::Check(Case::FirstFails, 2, 2), 150),
