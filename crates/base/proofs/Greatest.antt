@@ -27,9 +27,9 @@ module _ {A : Type 0} (size : A → ℕ) where
   some_greatest o (x ∷ xs) h = some_greatest (greater size o x) xs (some_greater o x)
 
   -- there is a greatest of those that pass where one passes
-  pub is_some_greatest_lem : (p : A → Bool) (xs : List A) → is_some (greatest size (keep p xs)) ≡ any p xs
-  is_some_greatest_lem p [] = refl
-  is_some_greatest_lem p (x ∷ xs) = case_bool (p x) (λ e. simp e (some_greatest (some x) (keep p xs) refl)) (λ e. simp e (is_some_greatest_lem p xs))
+  pub is_some_greatest : (p : A → Bool) (xs : List A) → is_some (greatest size (keep p xs)) ≡ any p xs
+  is_some_greatest p [] = refl
+  is_some_greatest p (x ∷ xs) = case_bool (p x) (λ e. simp e (some_greatest (some x) (keep p xs) refl)) (λ e. simp e (is_some_greatest p xs))
 
   greater_has : (P : A → Type 0) (o : Option A) (x : A) → ((y : A) → o ≡ some y → P y) → P x → (y : A) → greater size o x ≡ some y → P y
   greater_has P none x h p y e = subst P (some_inj e) p

@@ -37,9 +37,9 @@ pub eqb_self : (n : ℕ) → eqb n n ≡ true
 eqb_self n = eq-eqb n n refl
 
 module _ {A : Type 0} where
-  pub is_some_first_lem : (p : A → Bool) (xs : List A) → is_some (first p xs) ≡ any p xs
-  is_some_first_lem p [] = refl
-  is_some_first_lem p (x ∷ xs) = case_bool (p x) (λ e. simp e) (λ e. simp e (is_some_first_lem p xs))
+  pub is_some_first : (p : A → Bool) (xs : List A) → is_some (first p xs) ≡ any p xs
+  is_some_first p [] = refl
+  is_some_first p (x ∷ xs) = case_bool (p x) (λ e. simp e) (λ e. simp e (is_some_first p xs))
 
   -- one that passes is among them
   pub any_passes : (p : A → Bool) (x : A) (xs : List A) → Memᴰ x xs → p x ≡ true → any p xs ≡ true
@@ -165,13 +165,13 @@ module _ {A : Type 0} where
   keep_member p x (y ∷ ys) (Memᴰ.tail m) t =
       case_bool (p y) (λ e. simp e (Memᴰ.tail (keep_member p x ys m t))) (λ e. simp e (keep_member p x ys m t))
 
-  pub index_of_lt_lem : (p : A → Bool) (xs : List A) → any p xs ≡ true → index_of p xs < length xs
-  index_of_lt_lem p [] t = absurd (false≢true t)
-  index_of_lt_lem p (x ∷ xs) t = case_bool (p x) (λ e. simp e (suc-le-suc zero-le)) (λ e. simp e (suc-le-suc (index_of_lt_lem p xs (rw e at t))))
+  pub index_of_lt : (p : A → Bool) (xs : List A) → any p xs ≡ true → index_of p xs < length xs
+  index_of_lt p [] t = absurd (false≢true t)
+  index_of_lt p (x ∷ xs) t = case_bool (p x) (λ e. simp e (suc-le-suc zero-le)) (λ e. simp e (suc-le-suc (index_of_lt p xs (rw e at t))))
 
-  pub index_of_passes_lem : (p : A → Bool) (d : A) (xs : List A) → any p xs ≡ true → p (get_or xs (index_of p xs) d) ≡ true
-  index_of_passes_lem p d [] t = absurd (false≢true t)
-  index_of_passes_lem p d (x ∷ xs) t = case_bool (p x) (λ e. simp e) (λ e. simp e (index_of_passes_lem p d xs (rw e at t)))
+  pub index_of_passes : (p : A → Bool) (d : A) (xs : List A) → any p xs ≡ true → p (get_or xs (index_of p xs) d) ≡ true
+  index_of_passes p d [] t = absurd (false≢true t)
+  index_of_passes p d (x ∷ xs) t = case_bool (p x) (λ e. simp e) (λ e. simp e (index_of_passes p d xs (rw e at t)))
 
 module _ {A B : Type 0} where
   pub any_map : (p : B → Bool) (f : A → B) (xs : List A) → any p (map f xs) ≡ any (λ x. p (f x)) xs
@@ -198,25 +198,25 @@ module _ {A B : Type 0} where
   map_same f g h [] = refl
   map_same f g h (x ∷ xs) = rw (h x, map_same f g h xs)
 
-  pub concat_map_append_lem : (f : A → List B) (xs ys : List A) → concat_map f (xs ++ ys) ≡ concat_map f xs ++ concat_map f ys
-  concat_map_append_lem f [] ys = refl
-  concat_map_append_lem f (x ∷ xs) ys = rw (concat_map_append_lem f xs ys) (sym (append_assoc (f x) (concat_map f xs) (concat_map f ys)))
+  pub concat_map_append : (f : A → List B) (xs ys : List A) → concat_map f (xs ++ ys) ≡ concat_map f xs ++ concat_map f ys
+  concat_map_append f [] ys = refl
+  concat_map_append f (x ∷ xs) ys = rw (concat_map_append f xs ys) (sym (append_assoc (f x) (concat_map f xs) (concat_map f ys)))
 
   pub keep_map : (p : B → Bool) (f : A → B) (xs : List A) → keep p (map f xs) ≡ map f (keep (λ x. p (f x)) xs)
   keep_map p f [] = refl
   keep_map p f (x ∷ xs) = case_bool (p (f x)) (λ e. simp (e, keep_map p f xs)) (λ e. simp (e, keep_map p f xs))
 
-  pub concat_map_map_lem : {C : Type 0} (g : B → List C) (f : A → B) (xs : List A) → concat_map g (map f xs) ≡ concat_map (λ x. g (f x)) xs
-  concat_map_map_lem g f [] = refl
-  concat_map_map_lem g f (x ∷ xs) = rw (concat_map_map_lem g f xs)
+  pub concat_map_map : {C : Type 0} (g : B → List C) (f : A → B) (xs : List A) → concat_map g (map f xs) ≡ concat_map (λ x. g (f x)) xs
+  concat_map_map g f [] = refl
+  concat_map_map g f (x ∷ xs) = rw (concat_map_map g f xs)
 
   pub map_concat_map : {C : Type 0} (g : B → C) (f : A → List B) (xs : List A) → map g (concat_map f xs) ≡ concat_map (λ x. map g (f x)) xs
   map_concat_map g f [] = refl
   map_concat_map {C} g f (x ∷ xs) = map-append g (f x) (concat_map f xs) ∙ ap (λ (l : List C). map g (f x) ++ l) (map_concat_map g f xs)
 
-  pub concat_map_same_lem : (f g : A → List B) (xs : List A) → All (λ x. f x ≡ g x) xs → concat_map f xs ≡ concat_map g xs
-  concat_map_same_lem f g [] h = refl
-  concat_map_same_lem f g (x ∷ xs) h = rw (h.0, concat_map_same_lem f g xs h.1)
+  pub concat_map_same : (f g : A → List B) (xs : List A) → All (λ x. f x ≡ g x) xs → concat_map f xs ≡ concat_map g xs
+  concat_map_same f g [] h = refl
+  concat_map_same f g (x ∷ xs) h = rw (h.0, concat_map_same f g xs h.1)
 
   pub length_concat_map : (f : A → List B) (xs : List A) → length (concat_map f xs) ≡ total (map (λ x. length (f x)) xs)
   length_concat_map f [] = refl
@@ -227,19 +227,19 @@ module _ {A B : Type 0} where
   keep_each p f (x ∷ xs) = keep_append p (f x) (concat_map f xs) ∙ ap (λ (ys : List B). keep p (f x) ++ ys) (keep_each p f xs)
 
   -- only the element at index s yields something
-  pub concat_map_at_lem : (f : A → List B) (d : A) (ys : List B) → f d ≡ [] → (xs : List A) (s : ℕ)
+  pub concat_map_at : (f : A → List B) (d : A) (ys : List B) → f d ≡ [] → (xs : List A) (s : ℕ)
       → ((i : ℕ) → f (get_or xs i d) ≡ cond (eqb s i) ys []) → concat_map f xs ≡ ys
-  concat_map_at_lem f d ys e [] s h = sym e ∙ h s ∙ rw (eqb_self s)
-  concat_map_at_lem f d ys e (x ∷ xs) zero h =
+  concat_map_at f d ys e [] s h = sym e ∙ h s ∙ rw (eqb_self s)
+  concat_map_at f d ys e (x ∷ xs) zero h =
       let here : f x ≡ ys = h zero in
       rw here (ap (λ (zs : List B). ys ++ zs) (nothing xs (λ i. h (suc i) ∙ rw eqb-zero-suc)) ∙ append-nil ys)
     where
       nothing : (zs : List A) → ((i : ℕ) → f (get_or zs i d) ≡ []) → concat_map f zs ≡ []
       nothing [] k = refl
       nothing (z ∷ zs) k = let here : f z ≡ [] = k zero in rw here (nothing zs (λ i. k (suc i)))
-  concat_map_at_lem f d ys e (x ∷ xs) (suc s) h =
+  concat_map_at f d ys e (x ∷ xs) (suc s) h =
       let here : f x ≡ [] = h zero ∙ rw eqb-suc-zero in
-      rw here (concat_map_at_lem f d ys e xs s (λ i. h (suc i) ∙ rw eqb-suc-suc))
+      rw here (concat_map_at f d ys e xs s (λ i. h (suc i) ∙ rw eqb-suc-suc))
 
   -- a test that is the same for all that x yields
   pub keep_concat_map : (p : B → Bool) (q : A → Bool) (f : A → List B) → ((x : A) → keep p (f x) ≡ cond (q x) (f x) [])
@@ -320,9 +320,9 @@ module _ {A : Type 0} where
 pub some_inj : {A : Type 0} {x y : A} → ◌≡◌ {A = Option A} (some x) (some y) → x ≡ y
 some_inj e = cc
 
-pub is_some_some_lem : {A : Type 0} (o : Option A) → is_some o ≡ true → (x : A) × (o ≡ some x)
-is_some_some_lem none h = absurd (false≢true h)
-is_some_some_lem (some x) h = (x, refl)
+pub is_some_some : {A : Type 0} (o : Option A) → is_some o ≡ true → (x : A) × (o ≡ some x)
+is_some_some none h = absurd (false≢true h)
+is_some_some (some x) h = (x, refl)
 
 pub some≢none : {A : Type 0} {x : A} → ◌≡◌ {A = Option A} (some x) none → ⊥
 some≢none e = let z : ◌≡◌ {A = ℕ} 0 1 = cc in omega arith
@@ -334,10 +334,10 @@ module _ {A : Type 0} (f : ℕ → A) where
   length_each i zero = refl
   length_each i (suc n) = ap suc (length_each (suc i) n)
 
-  pub get_d_each_lem : (i n j : ℕ) (d : A) → j < n → get_or (each f i n) j d ≡ f (i + j)
-  get_d_each_lem i zero j d h = absurd (omega arith)
-  get_d_each_lem i (suc n) zero d h = rw add-zero
-  get_d_each_lem i (suc n) (suc j) d h = get_d_each_lem (suc i) n j d (omega arith) ∙ rw (suc-add, add-suc)
+  pub get_d_each : (i n j : ℕ) (d : A) → j < n → get_or (each f i n) j d ≡ f (i + j)
+  get_d_each i zero j d h = absurd (omega arith)
+  get_d_each i (suc n) zero d h = rw add-zero
+  get_d_each i (suc n) (suc j) d h = get_d_each (suc i) n j d (omega arith) ∙ rw (suc-add, add-suc)
 
   pub each_snoc : (i n : ℕ) → each f i (suc n) ≡ each f i n ++ f (i + n) ∷ []
   each_snoc i zero = rw add-zero
@@ -370,11 +370,11 @@ each_set {A} f g n s d lt h =
     same : (j : ℕ) → j < length (each f 0 n) → get_or (each f 0 n) j d ≡ get_or (set (each g 0 n) s (f s)) j d
     same j l =
         let low : j < n = omega (arith, length_each f 0 n) in
-        get_d_each_lem f 0 n j d low ∙ ap f (zero_on j)
+        get_d_each f 0 n j d low ∙ ap f (zero_on j)
         ∙ case_bool (eqb j s)
         (λ e. let p = eqb-true j s e in
         sym (ap (λ (i : ℕ). get_or (set (each g 0 n) s (f s)) i d) p ∙ get_or-set_same (each g 0 n) s (f s) d (omega (arith, length_each g 0 n)) ∙ ap f (sym p)))
-        (λ e. h j (eqb-false j s e) ∙ sym (get_or-set_other (each g 0 n) s j (f s) d (eqb-false j s e) ∙ get_d_each_lem g 0 n j d low ∙ ap g (zero_on j)))
+        (λ e. h j (eqb-false j s e) ∙ sym (get_or-set_other (each g 0 n) s j (f s) d (eqb-false j s e) ∙ get_d_each g 0 n j d low ∙ ap g (zero_on j)))
 
 pub map_set : {A B : Type 0} (g : A → B) (xs : List A) (i : ℕ) (x : A) → map g (set xs i x) ≡ set (map g xs) i (g x)
 map_set g [] i x = refl

@@ -19,10 +19,10 @@ module _ {A B : Type 0} (f : A → B) where
   map_drop (suc n) (x ∷ s) = map_drop n s
 
 -- an element that is there, whatever would stand for one that is not
-pub get_d_mapped_lem : {A B : Type 0} (f : A → B) (l : List A) (i : ℕ) (d : A) (e : B) → i < length l → get_or (map f l) i e ≡ f (get_or l i d)
-get_d_mapped_lem f [] i d e h = let z : ⊥ = omega arith in absurd z
-get_d_mapped_lem f (x ∷ l) zero d e h = refl
-get_d_mapped_lem f (x ∷ l) (suc i) d e h = get_d_mapped_lem f l i d e (omega arith)
+pub get_d_mapped : {A B : Type 0} (f : A → B) (l : List A) (i : ℕ) (d : A) (e : B) → i < length l → get_or (map f l) i e ≡ f (get_or l i d)
+get_d_mapped f [] i d e h = let z : ⊥ = omega arith in absurd z
+get_d_mapped f (x ∷ l) zero d e h = refl
+get_d_mapped f (x ∷ l) (suc i) d e h = get_d_mapped f l i d e (omega arith)
 
 pub head_drop : {A : Type 0} (i : ℕ) (l : List A) (d : A) → get_or (drop i l) 0 d ≡ get_or l i d
 head_drop zero l d = refl

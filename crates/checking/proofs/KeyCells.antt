@@ -18,7 +18,7 @@ use Rattle.model.specs.Limits.{most_segments}
 use Rattle.model.specs.Threads.{same_key, is_in}
 use Rattle.model.specs.Cells.{Row, Table, cell, row_at, number_cell, user_cell, no_key, key_in, has_key, keys_in, key_cell, defined_cell, signed, literal_in, frames_of}
 use Rattle.model.proofs.Keys.{same_key_lem, key_same}
-use Rattle.model.proofs.Refinement.Literals.{key_in_segment_lem, key_in_defined_lem}
+use Rattle.model.proofs.Refinement.Literals.{key_in_segment, key_in_defined}
 use Rattle.base.proofs.Lists.{case_bool, same_truth, any_map, any_keep, each_suc}
 use Rattle.checking.specs.Deciding.{keys_at}
 use Rattle.checking.specs.Internal.{has_code, newest_row, listable}
@@ -52,13 +52,13 @@ eight_cells_lem w code l =
 
 -- ---- equal keys
 
-key_cell_key_in_lem : (x : ℕ) → key_cell (key_in x) ≡ x
-key_cell_key_in_lem x = case_bool (ltb x most_segments) (λ e. simp e) (λ e. let l = ltb-false x most_segments e in simp e (omega arith))
+key_cell_key_in : (x : ℕ) → key_cell (key_in x) ≡ x
+key_cell_key_in x = case_bool (ltb x most_segments) (λ e. simp e) (λ e. let l = ltb-false x most_segments e in simp e (omega arith))
 
 same_codes : (code x : ℕ) → same_key (key_in code) (key_in x) ≡ eqb x code
 same_codes code x =
     same_truth (same_key (key_in code) (key_in x)) (eqb x code)
-    (λ e. eq-eqb x code (sym (key_cell_key_in_lem x) ∙ ap key_cell (sym (same_key_lem (key_in code) (key_in x) e)) ∙ key_cell_key_in_lem code))
+    (λ e. eq-eqb x code (sym (key_cell_key_in x) ∙ ap key_cell (sym (same_key_lem (key_in code) (key_in x) e)) ∙ key_cell_key_in code))
     (λ e. key_same (key_in code) (key_in x) (ap key_in (sym (eqb-true x code e))))
 
 same_users : (n u : ℕ) → same_key (User n) (User u) ≡ eqb u n
@@ -167,10 +167,10 @@ module _ (t : Table) (n : ℕ) where
   holds_segment : (s : ℕ) → ltb s most_segments ≡ true → keys_at t n (SegmentKey s) ≡ inherited t n s
   holds_segment s e =
       let low : s < most_segments = ltb-true s most_segments e in
-      ap (keys_at t n) (sym (key_in_segment_lem s low)) ∙ holds_listed s (omega arith)
+      ap (keys_at t n) (sym (key_in_segment s low)) ∙ holds_listed s (omega arith)
 
   holds_defined : (k : ℕ) → ltb (defined_cell k) no_key ≡ true → keys_at t n (Defined k) ≡ inherited t n (defined_cell k)
-  holds_defined k e = ap (keys_at t n) (sym (key_in_defined_lem k)) ∙ holds_listed (defined_cell k) (ltb-true (defined_cell k) no_key e)
+  holds_defined k e = ap (keys_at t n) (sym (key_in_defined k)) ∙ holds_listed (defined_cell k) (ltb-true (defined_cell k) no_key e)
 
   -- ---- a key that is matched, and the literal that holds it
 

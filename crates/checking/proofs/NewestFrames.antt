@@ -17,7 +17,7 @@ use Rattle.base.proofs.Lists.{case_bool, any_map, any_keep}
 use Rattle.model.specs.Limits.{most_segments, most_frames}
 use Rattle.model.specs.Threads.{Frame, same_key, hands}
 use Rattle.model.specs.Cells.{Row, Table, cell, row_at, no_key, key_in, has_key, keys_in, defined_cell, frames_of, depth_of}
-use Rattle.model.proofs.Refinement.Literals.{key_in_segment_lem, key_in_defined_lem}
+use Rattle.model.proofs.Refinement.Literals.{key_in_segment, key_in_defined}
 use Rattle.checking.specs.Newest.{newest_from, NewestPlace}
 use Rattle.checking.specs.Internal.{has_code, newest_row, list_code, RowFits, FramesFit}
 use Rattle.model.proofs.Keys.{same_key_lem}
@@ -46,11 +46,11 @@ key_of_code (User n) h = absurd (h refl)
 key_of_code (ThreadKey n) h = absurd (h refl)
 key_of_code (SegmentKey n) h =
     case_bool (ltb n most_segments)
-    (λ e. let low = ltb-true n most_segments e in rw e (omega arith, key_in_segment_lem n low))
+    (λ e. let low = ltb-true n most_segments e in rw e (omega arith, key_in_segment n low))
     (λ e. absurd (h (rw e refl)))
 key_of_code (Defined n) h =
     case_bool (ltb (defined_cell n) no_key)
-    (λ e. rw e (ltb-true (defined_cell n) no_key e, key_in_defined_lem n))
+    (λ e. rw e (ltb-true (defined_cell n) no_key e, key_in_defined n))
     (λ e. absurd (h (rw e refl)))
 
 -- and is what a list has of it

@@ -21,7 +21,7 @@ use Rattle.rows.specs.Listing.{list_conditions, filled, listed_by, listed, Lists
 use Rattle.rows.specs.Making.{spare_row, made_by, made_for, Makes}
 use Rattle.listing.specs.Numbers.{row_numbers, listed_numbers, ListsNumbers}
 use Rattle.listing.specs.Internal.{midway}
-use Rattle.base.proofs.Parts.{get_d_mapped_lem}
+use Rattle.base.proofs.Parts.{get_d_mapped}
 use Rattle.listing.proofs.MidwayRows.{midway_more}
 
 -- the maker's rows, spare ones after them, written over the first of the lent ones
@@ -102,7 +102,7 @@ writing_more {l} {lent} {rows} {i} {ns} d inv h en =
     let n : length (set rows i ns) ≡ length rows = length-set rows i ns in
     let low : i < length l.rows = omega (arith, inv.made, inv.few) in
     let number : ns ≡ get_or (map row_numbers l.rows) i (row_numbers d) =
-    en ∙ sym (get_d_mapped_lem row_numbers l.rows i d (row_numbers d) low) in
+    en ∙ sym (get_d_mapped row_numbers l.rows i d (row_numbers d) low) in
     record {
       far = omega arith;
       few = inv.few;

@@ -8,13 +8,13 @@ use lib.ListN.{length, length-map}
 use Rattle.base.specs.Lists.{any, keep, index_of, each}
 use Rattle.model.specs.State.{is_of_lock, has_lock, is_lock, lock_segment, segment_at}
 use Rattle.model.specs.Cells.{Cells, table_at, product_in, used_rows, segment_in, state_of}
-use Rattle.base.proofs.Lists.{case_bool, index_of_lt_lem, any_map, keep_map, length_each}
+use Rattle.base.proofs.Lists.{case_bool, index_of_lt, any_map, keep_map, length_each}
 use Rattle.model.proofs.Refinement.ServedCalls.{segments_in, segment_at_lem}
 use Rattle.locks.specs.Internal.{is_of, has_row, segment_of_lock}
 
 module _ {A : Type 0} (p : A → Bool) where
   index_none : (xs : List A) → length xs ≤ index_of p xs → any p xs ≡ false
-  index_none xs h = case_bool (any p xs) (λ e. let l = index_of_lt_lem p xs e in absurd (omega arith)) (λ e. e)
+  index_none xs h = case_bool (any p xs) (λ e. let l = index_of_lt p xs e in absurd (omega arith)) (λ e. e)
 
   index_some : (xs : List A) → index_of p xs < length xs → any p xs ≡ true
   index_some [] h = absurd (omega arith)

@@ -41,10 +41,10 @@ read_by f l =
       transitive = λ x y z. l.transitive (f x) (f y) (f z);
     }
 
-pub then_by_equal_lem : (o p : Order) → then_by o p ≡ Equal → (o ≡ Equal) × (p ≡ Equal)
-then_by_equal_lem Less p h = (cc, cc)
-then_by_equal_lem Equal p h = (refl, h)
-then_by_equal_lem Greater p h = (cc, cc)
+pub then_by_equal : (o p : Order) → then_by o p ≡ Equal → (o ≡ Equal) × (p ≡ Equal)
+then_by_equal Less p h = (cc, cc)
+then_by_equal Equal p h = (refl, h)
+then_by_equal Greater p h = (cc, cc)
 
 -- the first difference decides
 module _ {A : Type 0} (first second : A → A → Order) (l : Lawful first) (m : Lawful second) where
@@ -53,17 +53,17 @@ module _ {A : Type 0} (first second : A → A → Order) (l : Lawful first) (m :
 
   lexical_left : (x y z : A) → lexical x y ≡ Equal → lexical x z ≡ lexical y z
   lexical_left x y z e =
-      let b = then_by_equal_lem (first x y) (second x y) e in
+      let b = then_by_equal (first x y) (second x y) e in
       rw (l.equal-left x y z b.0, m.equal-left x y z b.1)
 
   lexical_right : (x y z : A) → lexical y z ≡ Equal → lexical x y ≡ lexical x z
   lexical_right x y z e =
-      let b = then_by_equal_lem (first y z) (second y z) e in
+      let b = then_by_equal (first y z) (second y z) e in
       rw (l.equal-right x y z b.0, m.equal-right x y z b.1)
 
   lexical_equal : (x y : A) → lexical x y ≡ Equal → lexical y x ≡ Equal
   lexical_equal x y e =
-      let b = then_by_equal_lem (first x y) (second x y) e in
+      let b = then_by_equal (first x y) (second x y) e in
       rw (l.equal-back x y b.0, m.equal-back x y b.1)
 
   lexical_greater : (x y : A) → lexical x y ≡ Greater → lexical y x ≡ Less
@@ -124,7 +124,7 @@ key_same (Defined m) (Defined n) k e = ap Defined e
 pub compare_equal : (a b : Atom) → compare_atoms a b ≡ Equal → a ≡ b
 unfolding compare_atoms
 compare_equal a b h =
-    let e = then_by_equal_lem (order_of (kind_of a) (kind_of b)) (order_of (number_of a) (number_of b)) h in
+    let e = then_by_equal (order_of (kind_of a) (kind_of b)) (order_of (number_of a) (number_of b)) h in
     key_same a b (order_equal (kind_of a) (kind_of b) e.0) (order_equal (number_of a) (number_of b) e.1)
 
 pub compare_same : (a : Atom) → compare_atoms a a ≡ Equal
@@ -146,7 +146,7 @@ literal_of_lem (Barred a) (Barred b) e s = ap Barred e
 pub literal_equal : (x y : Literal) → compare_literals x y ≡ Equal → x ≡ y
 unfolding compare_literals
 literal_equal x y h =
-    let e = then_by_equal_lem (compare_atoms (atom_of x) (atom_of y)) (order_of (sign_of x) (sign_of y)) h in
+    let e = then_by_equal (compare_atoms (atom_of x) (atom_of y)) (order_of (sign_of x) (sign_of y)) h in
     literal_of_lem x y (compare_equal (atom_of x) (atom_of y) e.0) (order_equal (sign_of x) (sign_of y) e.1)
 
 pub literal_same : (x : Literal) → compare_literals x x ≡ Equal

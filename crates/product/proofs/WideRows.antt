@@ -13,7 +13,7 @@ use Rattle.product.specs.Code.{code_of, literal_of, Encoded}
 use Rattle.product.specs.Cells.{size_of, product_of}
 use Rattle.product.specs.Internal.{Size, wide_of, Blank, Inserted, Joined, Row}
 use Rattle.product.proofs.Codes.{read_code, low_code, read_again}
-use Rattle.base.proofs.Parts.{get_d_mapped_lem, take_replicate, read, read_take, length_part, part_cons, part_past}
+use Rattle.base.proofs.Parts.{get_d_mapped, take_replicate, read, read_take, length_part, part_cons, part_past}
 use Rattle.product.proofs.Insertion.{blank_length}
 
 -- the numbers of the literals that the numbers are read as
@@ -30,8 +30,8 @@ again_read (x ∷ xs) = ap₂ (λ (l : Literal) (p : Product). l ∷ p) (read_ag
 again_low : (xs : List ℕ) (j : ℕ) → j < length xs → get_or (again xs) j 0 < 524288
 again_low xs j h =
     let e : get_or (again xs) j 0 ≡ get_or xs j 0 % 524288 =
-    get_d_mapped_lem code_of (map literal_of xs) j (literal_of 0) 0 (omega (arith, h, length-map xs literal_of))
-    ∙ ap code_of (get_d_mapped_lem literal_of xs j 0 (literal_of 0) h) ∙ read_code (get_or xs j 0) in
+    get_d_mapped code_of (map literal_of xs) j (literal_of 0) 0 (omega (arith, h, length-map xs literal_of))
+    ∙ ap code_of (get_d_mapped literal_of xs j 0 (literal_of 0) h) ∙ read_code (get_or xs j 0) in
     omega (arith, e)
 
 -- the first i literals of the row are copied

@@ -18,7 +18,7 @@ use Rattle.formula.proofs.Opening.{laws}
 use Rattle.call.specs.Calls.{Call, call_with}
 use Rattle.call.specs.Letters as letters
 use Rattle.base.specs.Lists.{keep, concat_map, is_some, rising}
-use Rattle.base.proofs.Lists.{All, All-keep, all_members, is_some_some_lem, map_map, map_concat_map, rising_keep}
+use Rattle.base.proofs.Lists.{All, All-keep, all_members, is_some_some, map_map, map_concat_map, rising_keep}
 use Rattle.formula.specs.declared.text.Issued.{Issued}
 use Rattle.model.specs.State.{State, LockProduct, is_user, is_segment, owns, segment_at}
 use Rattle.model.specs.Effects.{lock_product}
@@ -105,7 +105,7 @@ module _ (xs : List Call) where
   unfolding listed
   listing_as u s lent =
       same_listing lent (ap (λ (i : Issued). ltb u i.users) mirrors.handed_out) (mirrors.segment s)
-      (λ t. let (e, h) = is_some_some_lem ((history es).segments s) t in rows_as u s e h)
+      (λ t. let (e, h) = is_some_some ((history es).segments s) t in rows_as u s e h)
 
   formula_as : (l : Lock) → Memᴰ l (history es).locks → SpeltProducts l.text
   formula_as l m =

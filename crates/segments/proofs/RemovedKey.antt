@@ -24,8 +24,8 @@ fill_more zero h = absurd (omega arith)
 fill_more (suc n) h = let e : n ≡ suc n - 1 = omega arith in ap (λ (k : ℕ). no_key ∷ replicate k no_key) e
 
 -- a key stored after those of a list that is closed up
-pub key_row_snoc_lem : (xs : List ℕ) (x : ℕ) → length xs < most_listed → set (key_row xs) (length xs) x ≡ key_row (xs ++ x ∷ [])
-key_row_snoc_lem xs x h =
+pub key_row_snoc : (xs : List ℕ) (x : ℕ) → length xs < most_listed → set (key_row xs) (length xs) x ≡ key_row (xs ++ x ∷ [])
+key_row_snoc xs x h =
     let n : ℕ = most_listed - length xs in
     let l = length_append_one xs x in
     let e : n - 1 ≡ most_listed - length (xs ++ x ∷ []) = omega arith in
@@ -98,7 +98,7 @@ module _ {list : Row} {code : ℕ} {cells : Row} {count : ℕ} {found : Bool} {i
         few = omega arith;
         closed =
             ap₂ (λ (w : Row) (k : ℕ). set w k (get_or list i 0)) v.closed counted
-            ∙ key_row_snoc_lem (without code (take i list)) (get_or list i 0) (omega arith) ∙ sym (ap key_row grown);
+            ∙ key_row_snoc (without code (take i list)) (get_or list i 0) (omega arith) ∙ sym (ap key_row grown);
         counted = longer ∙ sym (ap length grown);
         present = sym (finds ∙ none);
       }

@@ -7,7 +7,7 @@ use Prim.Native.Nat.{ℕ, ◌<◌}
 use lib.ListN.{length, get_or}
 use borrow.Author.Tests.{ltb-true, lt-ltb, eqb-true, eq-eqb, ne_eqb}
 use Rattle.base.specs.Lists.{is_some, map_option, or_default}
-use Rattle.base.proofs.Lists.{clash, is_some_some_lem}
+use Rattle.base.proofs.Lists.{clash, is_some_some}
 use Rattle.base.proofs.Truth.{both_and, and_both, never_true}
 use Rattle.formula.specs.declared.text.Issued.{Issued}
 use Rattle.call.specs.Letters as letters
@@ -36,8 +36,8 @@ module _ (es : List Event) (d : State) (m : Mirrors es d) where
   module _ (a s : ℕ) where
     pub anothers : is_some (editor d a) ≡ true → is_segment d s ≡ true → owns d (user_of d a) s ≡ false → AnothersSegment es a s
     anothers l g o =
-        let (t, live) = is_some_some_lem ((history es).threads a) (sym (live_as a) ∙ l) in
-        let (e, segment) = is_some_some_lem ((history es).segments s) (sym (m.segment s) ∙ g) in
+        let (t, live) = is_some_some ((history es).threads a) (sym (live_as a) ∙ l) in
+        let (e, segment) = is_some_some ((history es).segments s) (sym (m.segment s) ∙ g) in
         record { thread = t; live = live; entry = e; segment = segment; other = λ q. clash (eq-eqb _ _ (m.owner s e segment ∙ q ∙ sym (user_as a t live))) o }
 
     pub is_anothers : AnothersSegment es a s → owns d (user_of d a) s ≡ false
@@ -48,8 +48,8 @@ module _ (es : List Event) (d : State) (m : Mirrors es d) where
     pub anothers_key : is_some (editor d a) ≡ true → is_segment d s ≡ true → is_key d k ≡ true → (owns d (user_of d a) s && made d (user_of d a) k) ≡ false
         → AnothersSegmentOrKey es a s k
     anothers_key l g h o =
-        let (t, live) = is_some_some_lem ((history es).threads a) (sym (live_as a) ∙ l) in
-        let (e, segment) = is_some_some_lem ((history es).segments s) (sym (m.segment s) ∙ g) in
+        let (t, live) = is_some_some ((history es).threads a) (sym (live_as a) ∙ l) in
+        let (e, segment) = is_some_some ((history es).segments s) (sym (m.segment s) ∙ g) in
         let user = sym (user_as a t live) in
         record {
           thread = t;
@@ -70,8 +70,8 @@ module _ (es : List Event) (d : State) (m : Mirrors es d) where
   module _ (a s : ℕ) where
     pub own : is_some (editor d a) ≡ true → is_segment d s ≡ true → owns d (user_of d a) s ≡ true → OwnSegment es a s
     own l g o =
-        let (t, live) = is_some_some_lem ((history es).threads a) (sym (live_as a) ∙ l) in
-        let (e, segment) = is_some_some_lem ((history es).segments s) (sym (m.segment s) ∙ g) in
+        let (t, live) = is_some_some ((history es).threads a) (sym (live_as a) ∙ l) in
+        let (e, segment) = is_some_some ((history es).segments s) (sym (m.segment s) ∙ g) in
         record { thread = t; live = live; entry = e; segment = segment; owner = sym (m.owner s e segment) ∙ eqb-true _ _ o ∙ user_as a t live }
 
     pub is_own_lem : OwnSegment es a s → owns d (user_of d a) s ≡ true

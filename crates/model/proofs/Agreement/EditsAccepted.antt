@@ -12,7 +12,7 @@ use borrow.Author.Tests.{ltb-true, ltb-false, lt-ltb, le-ltb, eqb-true, eq-eqb, 
 use Rattle.product.specs.declared.literal.Key.TheVariants.{Defined}
 use Rattle.base.specs.Conditions.{first_refusal}
 use Rattle.base.specs.Lists.{is_some}
-use Rattle.base.proofs.Lists.{any_found, any_passes, index_of_lt_lem}
+use Rattle.base.proofs.Lists.{any_found, any_passes, index_of_lt}
 use Rattle.base.proofs.Truth.{neither, and_both}
 use Rattle.formula.specs.declared.text.Issued.{Issued}
 use Rattle.formula.specs.Outcome.{outcome_of}
@@ -154,7 +154,7 @@ module _ (es : List Event) (d : Cells) (m : Mirrors es (state_of d)) (text : Lis
         let (l, i, q) = any_found (λ k. eqb k.number b) (history es).locks (sym (m.lock b) ∙ there) in
         let number = eqb-true _ _ q in
         let at : lock_segment s₀ b ≡ l.segment = ap (lock_segment s₀) (sym number) ∙ m.segment_for l i in
-        let inside : is_segment s₀ (lock_segment s₀ b) ≡ true = lt-ltb _ _ (index_of_lt_lem (has_lock b) s₀.segments there) in (
+        let inside : is_segment s₀ (lock_segment s₀ b) ≡ true = lt-ltb _ _ (index_of_lt (has_lock b) s₀.segments there) in (
           l,
           i,
           number,

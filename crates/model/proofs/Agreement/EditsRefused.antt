@@ -11,7 +11,7 @@ use lib.ListN.{length}
 use borrow.Author.Tests.{ltb-true, lt-ltb, eqb-true, eq-eqb, not-true, not-false}
 use Rattle.base.specs.Conditions.{Condition, when, first_refusal}
 use Rattle.base.specs.Lists.{any, is_some, tail_of}
-use Rattle.base.proofs.Lists.{clash, eqb_self, any_found, any_passes, index_of_lt_lem, some≢none}
+use Rattle.base.proofs.Lists.{clash, eqb_self, any_found, any_passes, index_of_lt, some≢none}
 use Rattle.base.proofs.Truth.{neither, false_not}
 use Rattle.formula.specs.Outcome.{outcome_of}
 use Rattle.call.specs.declared.request.Request.{Request}
@@ -191,7 +191,7 @@ module _ (es : List Event) (d : Cells) (m : Mirrors es (state_of d)) (text : Lis
             let (l, i, q) = any_found (λ k. eqb k.number b) (history es).locks (sym (m.lock b) ∙ there) in
             let number = eqb-true _ _ q in
             let at : lock_segment s₀ b ≡ l.segment = ap (lock_segment s₀) (sym number) ∙ m.segment_for l i in
-            let inside : is_segment s₀ (lock_segment s₀ b) ≡ true = lt-ltb _ _ (index_of_lt_lem (has_lock b) s₀.segments there) in (
+            let inside : is_segment s₀ (lock_segment s₀ b) ≡ true = lt-ltb _ _ (index_of_lt (has_lock b) s₀.segments there) in (
               l,
               i,
               number,

@@ -17,7 +17,7 @@ use Rattle.base.specs.Conditions.{first_refusal}
 use Rattle.base.specs.Lists.{is_some}
 use Rattle.base.proofs.Conditions.{all_fail}
 use Rattle.base.proofs.Truth.{and_left, and_right}
-use Rattle.base.proofs.Lists.{case_bool, is_some_some_lem}
+use Rattle.base.proofs.Lists.{case_bool, is_some_some}
 use Rattle.model.specs.declared.answer.Refusal.{Refusal}
 use Rattle.model.specs.declared.answer.Refusal.TheVariants.{NoSegment, Unfit}
 use Rattle.model.specs.declared.answer.Answer.TheVariants.{Accepted, Refused}
@@ -90,7 +90,7 @@ module _ (compile : Compiler) (holds : Meaning) (law : Laws compile holds) (xs :
   unfolding d h
   fits_as out fits =
       let m = mirror_by_laws compile holds law xs in
-      let (entry, has) = is_some_some_lem (h.segments (target_of o)) (sym (m.segment (target_of o)) ∙ out) in
+      let (entry, has) = is_some_some (h.segments (target_of o)) (sym (m.segment (target_of o)) ∙ out) in
       record {
         well_formed = e;
         known = and_left (is_known o) _ fits;
@@ -114,7 +114,7 @@ module _ (compile : Compiler) (holds : Meaning) (law : Laws compile holds) (xs :
   unfolding d h
   fits_accepted n a =
       let k = passed compile d next.text o (taken compile d next (request_of o) n e (sym same_answer ∙ a)).free in
-      let (t, live) = is_some_some_lem (h.threads (thread_of o)) (sym ((mirror_by_laws compile holds law xs).live (thread_of o)) ∙ k.live) in
+      let (t, live) = is_some_some (h.threads (thread_of o)) (sym ((mirror_by_laws compile holds law xs).live (thread_of o)) ∙ k.live) in
       record { thread = t; live = live; fits = fits_as k.out k.fit }
 
 pub fitting_by_laws : FittingByLaws

@@ -26,8 +26,8 @@ use Rattle.model.specs.History.{History, Lock, Event, history, accepted_of}
 use Rattle.model.specs.HistoryCheck.{Operation, request_of, thread_of, Fits, has_room, lock_opens, granted, Granted, check_answer, tightness, tightest_lock, answer_from}
 use Rattle.model.specs.Theorems.Granting.{Grants, GrantingByLaws, Granting}
 use Rattle.model.specs.Replay.{state_after, events_of, reached, answer_to}
-use Rattle.base.proofs.Lists.{case_bool, clash, any_passes, any_found, is_some_first_lem}
-use Rattle.base.proofs.Greatest.{is_some_greatest_lem}
+use Rattle.base.proofs.Lists.{case_bool, clash, any_passes, any_found, is_some_first}
+use Rattle.base.proofs.Greatest.{is_some_greatest}
 use Rattle.model.proofs.Agreement.Agrees.{Agrees}
 use Rattle.model.proofs.Agreement.EveryCall.{agree, request_letter}
 use Rattle.model.proofs.Agreement.HistoryAnswers.{taken, counted_as, answers_from}
@@ -65,7 +65,7 @@ module _ (holds : Meaning) (h : History) (o : Operation) (t : Thread) where
   -- the answer accepts where the test says so, whichever grant lock answers
   pub answer_accepts : (g : Option Lock) → is_some g ≡ any giving h.locks
       → is_accepted (check_answer (first barring h.locks) g (has_room o t)) ≡ granted holds h o t
-  answer_accepts g e = accepts (first barring h.locks) g (has_room o t) ∙ rw (is_some_first_lem barring h.locks, e)
+  answer_accepts g e = accepts (first barring h.locks) g (has_room o t) ∙ rw (is_some_first barring h.locks, e)
     where
       accepts : (d g : Option Lock) (room : Bool) → is_accepted (check_answer d g room) ≡ (not (is_some d) && (is_some g && room))
       accepts (some l) g room = refl
@@ -74,7 +74,7 @@ module _ (holds : Meaning) (h : History) (o : Operation) (t : Thread) where
       accepts none (some l) false = refl
 
   pub some_tightest : (compile : Compiler) → is_some (tightest_lock compile holds h o t) ≡ any giving h.locks
-  some_tightest compile = is_some_greatest_lem (tightness compile (key_set (thread_of o) t)) giving h.locks
+  some_tightest compile = is_some_greatest (tightness compile (key_set (thread_of o) t)) giving h.locks
 
 -- ---- on the model
 

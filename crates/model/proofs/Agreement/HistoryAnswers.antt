@@ -34,8 +34,8 @@ use Rattle.model.specs.Effects.{answer, update}
 use Rattle.model.specs.Model.{judged, step_decoded, step}
 use Rattle.model.specs.History.{History, Entry, Lock, numbering, hands_out}
 use Rattle.model.specs.HistoryCheck.{Operation, calls, accesses, request_of, thread_of, target_of, operation_of, is_known, has_room, lock_opens, check_answer, tightest_lock, answer_from}
-use Rattle.base.proofs.Lists.{case_bool, is_some_first_lem, some_inj, some≢none}
-use Rattle.base.proofs.Greatest.{is_some_greatest_lem}
+use Rattle.base.proofs.Lists.{case_bool, is_some_first, some_inj, some≢none}
+use Rattle.base.proofs.Greatest.{is_some_greatest}
 use Rattle.model.proofs.Agreement.Segments.{entry_low, entry_is}
 use Rattle.model.proofs.Agreement.ReadLocks.{check_agrees}
 use Rattle.model.proofs.Agreement.TightestProducts.{tightest_agrees}
@@ -81,7 +81,7 @@ pub granted_some : (d : State) (a b n : ℕ) → is_some (opening_product d gran
 unfolding opening_product tightest_product
 granted_some d a b n =
     let p = opens_for grants n (key_set a (thread_at d a)) in
-    is_some_first_lem p (segment_at d b).products ∙ sym (is_some_greatest_lem literal_count p (segment_at d b).products)
+    is_some_first p (segment_at d b).products ∙ sym (is_some_greatest literal_count p (segment_at d b).products)
 
 -- the check's conditions and the limit, by the two locks that open
 check_answers : (od og : Option LockProduct) (ld lg : Option Lock) (room : Bool)

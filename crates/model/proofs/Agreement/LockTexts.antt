@@ -44,7 +44,7 @@ use Rattle.model.specs.Theorems.Mirror.{Mirrors}
 use Rattle.model.specs.HistoryLocks.{standing_products}
 use Rattle.model.specs.Theorems.StoredLocks.{Stores}
 use Rattle.model.specs.Theorems.LockTexts.{Allowed, Satisfiable, Room, TextJudged, LockTexts}
-use Rattle.base.proofs.Lists.{case_bool, is_some_some_lem}
+use Rattle.base.proofs.Lists.{case_bool, is_some_some}
 use Rattle.model.proofs.Refusals.Refusing.{judged_accepted, answer_decoded, refused_as}
 use Rattle.model.proofs.Agreement.Mirror.{mirror}
 use Rattle.model.proofs.Agreement.StoredLocks.{stored_locks}
@@ -86,8 +86,8 @@ module _ (es : List Event) (d : Cells) (m : Mirrors es (state_of d)) (k : Stores
 
   allowed : live ≡ true → is_segment (state_of d) b ≡ true → own ≡ true → takes_set (segment_at (state_of d) b).kind c ≡ true → Allowed es a b c
   allowed u s o f =
-      let (thread, l) = is_some_some_lem ((history es).threads a) (sym (live_as es (state_of d) m a) ∙ u) in
-      let (entry, h) = is_some_some_lem ((history es).segments b) (sym (m.segment b) ∙ s) in
+      let (thread, l) = is_some_some ((history es).threads a) (sym (live_as es (state_of d) m a) ∙ u) in
+      let (entry, h) = is_some_some ((history es).segments b) (sym (m.segment b) ∙ s) in
       record {
         thread = thread;
         live = l;

@@ -16,7 +16,7 @@ use Rattle.base.specs.Lists.{any, keep, concat_map, index_of, rising}
 use Rattle.model.specs.State.{Segment, LockProduct, is_of_lock, has_lock, blank_segment}
 use Rattle.model.specs.Effects.{add_products, drop_products}
 use Rattle.model.specs.History.{Lock}
-use Rattle.base.proofs.Lists.{case_bool, eqb_self, any_concat_map, any_keep, from_any, concat_map_append_lem, keep_append, keep_map, keep_concat_map, keep_keep, keep_idle, All-map, All-append, All-keep, index_of_lt_lem, index_of_passes_lem}
+use Rattle.base.proofs.Lists.{case_bool, eqb_self, any_concat_map, any_keep, from_any, concat_map_append, keep_append, keep_map, keep_concat_map, keep_keep, keep_idle, All-map, All-append, All-keep, index_of_lt, index_of_passes}
 use Rattle.model.proofs.Agreement.Segments.{products_at, products_set}
 use Rattle.model.proofs.Agreement.StandingLocks.{Standing, lock_in, rows_of, is_on, stays, row_number, keep_rows, rising_keep, rising_add, Sound, AgreeLocks}
 
@@ -44,7 +44,7 @@ module _ (compile : Compiler) where
       unfolding new
       new_rows t =
           case_bool (eqb t s)
-          (λ e. simp (e, keep_append, eq-eqb s t (sym (eqb-true t s e)), concat_map_append_lem, append-nil)
+          (λ e. simp (e, keep_append, eq-eqb s t (sym (eqb-true t s e)), concat_map_append, append-nil)
           (ap (λ (rs : List LockProduct). rs ++ rows_of new) (ap (products_at segments) (sym (eqb-true t s e)) ∙ c.rows t)))
           (λ e. simp (e, keep_append, ne_eqb s t (λ p. eqb-false t s e (sym p)), append-nil) (c.rows t))
 
@@ -80,7 +80,7 @@ module _ (compile : Compiler) where
           (sym (any_keep (λ l. any (is_of_lock n) (rows_of l)) (is_on place) c.standing)
           ∙ sym (any_concat_map (is_of_lock n) rows_of (keep (is_on place) c.standing))
           ∙ ap (any (is_of_lock n)) (sym (c.rows place))
-          ∙ index_of_passes_lem (has_lock n) blank_segment segments there)
+          ∙ index_of_passes (has_lock n) blank_segment segments there)
 
       dropped_rows : (t : ℕ) → cond (eqb t place) (drop_products n (get_or segments place blank_segment)).products (products_at segments t) ≡ concat_map rows_of (keep (is_on t) (keep (stays n) c.standing))
       dropped_rows t =
@@ -105,7 +105,7 @@ module _ (compile : Compiler) where
             standing = keep (stays n) c.standing;
             segment_for = c.segment_for;
             written = ap (keep (λ (l : Lock). not (eqb l.number n))) c.written ∙ keep_map (λ (l : Lock). not (eqb l.number n)) lock_in c.standing;
-            rows = λ t. products_set segments place _ (index_of_lt_lem (has_lock n) segments there) t ∙ dropped_rows t;
+            rows = λ t. products_set segments place _ (index_of_lt (has_lock n) segments there) t ∙ dropped_rows t;
             sound = All-keep (Sound compile c.segment_for numbers) (stays n) c.standing c.sound;
             rising = rising_keep (stays n) c.standing c.rising;
           }

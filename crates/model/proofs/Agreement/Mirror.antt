@@ -36,9 +36,9 @@ use Rattle.model.specs.Cells.{Cells, Sized, row_at, table_at, key_in, has_key, s
 use Rattle.model.specs.History.{History, Event, Entry, Lock, event, empty_history, editor_in, advance, history, counts, accepted_of, maker_in, makers_from, issued_by}
 use Rattle.model.specs.Replay.{state_after, events_of}
 use Rattle.model.specs.Theorems.Mirror.{MirrorByLaws, Spelt, Mirror}
-use Rattle.base.proofs.Lists.{case_bool, same_truth, eqb_self, any_passes, at_lt, is_some_some_lem}
+use Rattle.base.proofs.Lists.{case_bool, same_truth, eqb_self, any_passes, at_lt, is_some_some}
 use Rattle.call.proofs.EveryRequest.{every_request}
-use Rattle.model.proofs.Refinement.Literals.{key_in_segment_lem}
+use Rattle.model.proofs.Refinement.Literals.{key_in_segment}
 use Rattle.model.proofs.Agreement.Segments.{entry_of, entry_low, entry_is}
 use Rattle.model.proofs.Agreement.Locks.{found}
 use Rattle.model.proofs.Agreement.ReadLocks.{lock_homed, lock_stands, lock_made_lem}
@@ -60,7 +60,7 @@ module _ (compile : Compiler) (es : List Event) (d : State) (c : Agrees compile 
   segment_as s =
       same_truth (is_segment d s) (is_some ((history es).segments s))
       (λ t. ap is_some (c.segments s) ∙ ap (λ o. is_some (map_option entry_of o)) (at_lt d.segments s blank_segment (ltb-true s (length d.segments) t)))
-      (λ t. let (e, h) = is_some_some_lem ((history es).segments s) t in
+      (λ t. let (e, h) = is_some_some ((history es).segments s) t in
       lt-ltb s (length d.segments) (entry_low d.segments (history es).segments c.segments s e h))
 
   entry_as : (s : ℕ) (e : Entry) → (history es).segments s ≡ some e → entry_of (segment_at d s) ≡ e
@@ -133,7 +133,7 @@ own_key d c s h =
       rest,
       ap (λ (x : Segment). x.keys) (segment_at_lem d s lt)
           ∙ ap (map key_in) (kept_list s g (omega arith) (shape.cells 1 (omega arith)))
-          ∙ ap (λ (k : Key). k ∷ rest) (key_in_segment_lem s (omega arith)),
+          ∙ ap (λ (k : Key). k ∷ rest) (key_in_segment s (omega arith)),
     )
 
 -- ---- the whole

@@ -17,7 +17,7 @@ use Rattle.model.specs.Limits.{most_threads, passes}
 use Rattle.model.specs.Threads.{Thread}
 use Rattle.model.specs.State.{Place, free, taken, is_free, live_in, is_thread, thread_in, place_for, place_of, find_thread}
 use Rattle.model.specs.Effects.{on_thread}
-use Rattle.base.proofs.Lists.{case_bool, clash, eqb_self, index_of_lt_lem, index_of_passes_lem}
+use Rattle.base.proofs.Lists.{case_bool, clash, eqb_self, index_of_lt, index_of_passes}
 
 -- ---- the place that passes a test
 
@@ -111,7 +111,7 @@ spare n places l room =
     let h = some_free places l room in
     case_bool (is_free (get_or places (n % most_threads) free))
     (λ e. let lt : n % most_threads < length places = omega arith in record { is_free_lem = simp e (really _ e); low = simp e lt })
-    (λ e. record { is_free_lem = simp e (really _ (index_of_passes_lem is_free free places h)); low = simp e (index_of_lt_lem is_free places h) })
+    (λ e. record { is_free_lem = simp e (really _ (index_of_passes is_free free places h)); low = simp e (index_of_lt is_free places h) })
   where
     really : (x : Place) → is_free x ≡ true → x ≡ free
     really free e = refl

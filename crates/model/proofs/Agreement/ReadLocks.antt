@@ -21,7 +21,7 @@ use Rattle.model.specs.Effects.{lock_product}
 use Rattle.model.specs.Refusals.{opens_for}
 use Rattle.model.specs.History.{Lock}
 use Rattle.model.specs.HistoryLocks.{stands_on, products_of, stored_of}
-use Rattle.base.proofs.Lists.{All, case_bool, same_truth, eqb_self, any_found, any_passes, any_at, all_at, any_same, any_map, any_concat_map, any_keep, any_and, concat_map_map_lem, concat_map_same_lem, keep_map, keep_concat_map, keep_keep, first_keep, first_map, first_same, All-map, All-keep, index_of_passes_lem}
+use Rattle.base.proofs.Lists.{All, case_bool, same_truth, eqb_self, any_found, any_passes, any_at, all_at, any_same, any_map, any_concat_map, any_keep, any_and, concat_map_map, concat_map_same, keep_map, keep_concat_map, keep_keep, first_keep, first_map, first_same, All-map, All-keep, index_of_passes}
 use Rattle.model.proofs.Agreement.Segments.{products_at}
 use Rattle.model.proofs.Agreement.StandingLocks.{Standing, lock_in, rows_of, is_on, row_number, first_lock, opens_any_lem, Rising, Sound, AgreeLocks}
 
@@ -99,7 +99,7 @@ module _ (compile : Compiler) where
         to : any (has_lock n) segments ≡ true → any numbered c.standing ≡ true
         to h =
             let i = index_of (has_lock n) segments in
-            let (l, m, t) = any_found (λ l. is_on i l && numbered l) c.standing (sym (rows_of_lem i) ∙ index_of_passes_lem (has_lock n) blank_segment segments h) in
+            let (l, m, t) = any_found (λ l. is_on i l && numbered l) c.standing (sym (rows_of_lem i) ∙ index_of_passes (has_lock n) blank_segment segments h) in
             any_passes numbered l c.standing m (and_right (is_on i l) (numbered l) t)
 
         from : any numbered c.standing ≡ true → any (has_lock n) segments ≡ true
@@ -148,9 +148,9 @@ module _ (compile : Compiler) where
     pub segment_stores : (s : ℕ) → products_at segments s ≡ concat_map (stored_of compile) (keep (stands_on s) locks)
     segment_stores s =
         c.rows s
-        ∙ concat_map_same_lem rows_of (λ l. stored_of compile (lock_in l)) (keep (is_on s) c.standing)
+        ∙ concat_map_same rows_of (λ l. stored_of compile (lock_in l)) (keep (is_on s) c.standing)
         (All-keep (λ l. rows_of l ≡ stored_of compile (lock_in l)) (is_on s) c.standing (All-map rows_stored c.standing c.sound))
-        ∙ sym (concat_map_map_lem (stored_of compile) lock_in (keep (is_on s) c.standing))
+        ∙ sym (concat_map_map (stored_of compile) lock_in (keep (is_on s) c.standing))
         ∙ ap (concat_map (stored_of compile)) (sym (keep_map (stands_on s) lock_in c.standing) ∙ ap (keep (stands_on s)) (sym c.written))
 
     module _ (l : Lock) (m : Memᴰ l locks) where

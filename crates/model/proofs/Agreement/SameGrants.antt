@@ -17,7 +17,7 @@ use Rattle.call.specs.Calls.{Call, decoded}
 use Rattle.call.proofs.EveryRequest.{every_request}
 use Rattle.base.specs.Conditions.{first_refusal}
 use Rattle.base.specs.Lists.{first, is_some}
-use Rattle.base.proofs.Lists.{is_some_first_lem}
+use Rattle.base.proofs.Lists.{is_some_first}
 use Rattle.model.specs.declared.answer.Refusal.{Refusal}
 use Rattle.model.specs.declared.answer.Answer.{Answer}
 use Rattle.model.specs.declared.answer.Answer.TheVariants.{Accepted, Refused}
@@ -61,7 +61,7 @@ same_checks compile holds law xs next o t fits live =
     let h = history (events compile xs) in
     subst (Alike (lowest_answer holds h o t)) (sym ((granting_by_laws compile holds law xs next).answer o t fits live))
     (alike_answers (first (lock_opens holds denies o t) h.locks) (first (lock_opens holds grants o t) h.locks) (tightest_lock compile holds h o t) (has_room o t)
-    (is_some_first_lem (lock_opens holds grants o t) h.locks ∙ sym (some_tightest holds h o t compile)))
+    (is_some_first (lock_opens holds grants o t) h.locks ∙ sym (some_tightest holds h o t compile)))
 
 -- ---- of every list of calls
 

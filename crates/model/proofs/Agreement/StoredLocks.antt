@@ -20,7 +20,7 @@ use Rattle.model.specs.History.{Event, Lock, history, accepted_of}
 use Rattle.model.specs.Replay.{state_after, events_of}
 use Rattle.model.specs.HistoryLocks.{locks_on, products_of, stored_of, standing_products, stored_for, stored_opens}
 use Rattle.model.specs.Theorems.StoredLocks.{Stores, StoredLocksByLaws, StoredFormula, StoredLocks}
-use Rattle.base.proofs.Lists.{any_map, any_concat_map, keep_none, length_concat_map, keep_each, concat_map_at_lem, map_same}
+use Rattle.base.proofs.Lists.{any_map, any_concat_map, keep_none, length_concat_map, keep_each, concat_map_at, map_same}
 use Rattle.model.proofs.Agreement.StandingLocks.{opens_any_lem}
 use Rattle.model.proofs.Agreement.ReadLocks.{lock_stands, segment_stores, lock_made_lem, lock_stores}
 use Rattle.model.proofs.Agreement.Agrees.{Agrees}
@@ -48,7 +48,7 @@ module _ (compile : Compiler) (meaning : Meaning) (law : Laws compile meaning) (
     lock_as : stored_for d l.number ≡ stored_of compile l
     lock_as =
         keep_each (is_of_lock l.number) (λ (g : Segment). g.products) d.segments
-        ∙ concat_map_at_lem (λ (g : Segment). keep (is_of_lock l.number) g.products) blank_segment (stored_of compile l) refl d.segments l.segment
+        ∙ concat_map_at (λ (g : Segment). keep (is_of_lock l.number) g.products) blank_segment (stored_of compile l) refl d.segments l.segment
         (lock_stores compile meaning law d.segments d.lock_numbers (history es).locks c.locks l m)
 
     opens_as : (keys : KeySet) → stored_opens d l.number keys ≡ meaning keys l.text

@@ -18,7 +18,7 @@ use Rattle.formula.proofs.Opening.{laws}
 use Rattle.call.specs.Calls.{Call}
 use Rattle.base.specs.Lists.{keep, first, rising}
 use Rattle.base.proofs.Truth.{and_left, and_last}
-use Rattle.base.proofs.Lists.{case_bool, all_at, clash, some_inj, is_some_some_lem, some≢none, is_some_first_lem, any_passes, keep_members, keep_member, rising_keep, rising_tail, rising_skip}
+use Rattle.base.proofs.Lists.{case_bool, all_at, clash, some_inj, is_some_some, some≢none, is_some_first, any_passes, keep_members, keep_member, rising_keep, rising_tail, rising_skip}
 use Rattle.base.proofs.Greatest.{Leads, greatest_has, greatest_leads}
 use Rattle.model.specs.declared.answer.Refusal.{Refusal}
 use Rattle.model.specs.declared.answer.Refusal.TheVariants.{Denied}
@@ -170,7 +170,7 @@ module _ (compile : Compiler) (holds : Meaning) (h : History) (o : Operation) (t
 
       denied_by_lem : (n : ℕ) → LowestDeny compile holds h o t n → answer_from compile holds h o t ≡ Refused (Denied n)
       denied_by_lem n w =
-          let (l, is) = is_some_some_lem d (is_some_first_lem barring h.locks ∙ any_passes barring w.lock h.locks w.standing w.opens) in
+          let (l, is) = is_some_some d (is_some_first barring h.locks ∙ any_passes barring w.lock h.locks w.standing w.opens) in
           let (stands, bars, low) = first_lowest barring h.locks in_order l is in
           let below = low w.lock w.standing w.opens in
           let above = w.lowest l stands bars in

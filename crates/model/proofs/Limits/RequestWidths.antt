@@ -35,7 +35,7 @@ use Rattle.model.specs.Effects.{answer}
 use Rattle.model.specs.Cells.{Table, Cells, Sized, cell, table_at, user_count, thread_count, segment_count, defined_count, lock_count, live_cell, defined_cell, place_in, depth_of, list_row, state_of, segments_are}
 use Rattle.model.specs.Stores.{on_table, start_thread, end_thread, new_segment, give_code, take_code, end_rows, add_rows, drop_rows, push_row, pop_row, revoke_code, at_thread, store}
 use Rattle.model.specs.Theorems.Widths.{word, double_word, Fitting, Fields}
-use Rattle.base.proofs.Lists.{All, case_bool, some_inj, All-keep, length_keep, length_append_one, index_of_lt_lem, everywhere_map}
+use Rattle.base.proofs.Lists.{All, case_bool, some_inj, All-keep, length_keep, length_append_one, index_of_lt, everywhere_map}
 use Rattle.model.proofs.Refusals.AcceptedTexts.{compiled}
 use Rattle.model.proofs.Refinement.ServedCalls.{segments_in}
 use Rattle.model.proofs.Refinement.Counts.{within}
@@ -173,7 +173,7 @@ module _ (compile : Compiler) (holds : Meaning) (law : Laws compile holds) (d : 
       let there : is_lock (state_of d) n ≡ true = not-false _ (all_fail (conditions compile (state_of d) (request.DropLock a n) text) e).1.0 in
       let s : ℕ = lock_segment (state_of d) n in
       let many : length (state_of d).segments ≡ segments_in d = length_segments d in
-      let inside : s < length (state_of d).segments = index_of_lt_lem (has_lock n) (state_of d).segments there in
+      let inside : s < length (state_of d).segments = index_of_lt (has_lock n) (state_of d).segments there in
       let rows : List LockProduct = (segment_at (state_of d) s).products in
       let few : length rows ≤ most_standing = (segment_fits d c k s (omega arith)).products in
       let fewer : length (keep (is_of_lock n) rows) ≤ length rows = length_keep (is_of_lock n) rows in

@@ -18,11 +18,11 @@ use Rattle.model.specs.Limits.{most_segments, most_defined}
 use Rattle.model.specs.Cells.{defined_cell, key_in, signed, literal_cell, literal_in}
 
 -- a key of a list, from its code
-pub key_in_segment_lem : (s : ℕ) → s < most_segments → key_in s ≡ SegmentKey s
-key_in_segment_lem s h = simp (lt-ltb s most_segments h)
+pub key_in_segment : (s : ℕ) → s < most_segments → key_in s ≡ SegmentKey s
+key_in_segment s h = simp (lt-ltb s most_segments h)
 
-pub key_in_defined_lem : (k : ℕ) → key_in (defined_cell k) ≡ Defined k
-key_in_defined_lem k =
+pub key_in_defined : (k : ℕ) → key_in (defined_cell k) ≡ Defined k
+key_in_defined k =
     let e : ltb (defined_cell k) most_segments ≡ false = le-ltb (defined_cell k) most_segments (omega arith) in
     let m : defined_cell k - most_segments ≡ k = omega arith in
     simp (e, m)
@@ -37,19 +37,19 @@ other_code x n plain is_user h sign kind rest = simp (le-ltb x 65536 h, sign, ki
 
 read_segment : (n : ℕ) → n < most_segments → literal_in n ≡ Plain (SegmentKey n)
 read_segment n h =
-    listed_code n n true (omega arith) (lt-ltb n 32768 (omega arith)) (omega arith) ∙ ap Plain (key_in_segment_lem n h)
+    listed_code n n true (omega arith) (lt-ltb n 32768 (omega arith)) (omega arith) ∙ ap Plain (key_in_segment n h)
 
 read_barred_segment : (n : ℕ) → n < most_segments → literal_in (n + 32768) ≡ Barred (SegmentKey n)
 read_barred_segment n h =
-    listed_code (n + 32768) n false (omega arith) (le-ltb (n + 32768) 32768 (omega arith)) (omega arith) ∙ ap Barred (key_in_segment_lem n h)
+    listed_code (n + 32768) n false (omega arith) (le-ltb (n + 32768) 32768 (omega arith)) (omega arith) ∙ ap Barred (key_in_segment n h)
 
 read_defined : (n : ℕ) → n < most_defined → literal_in (defined_cell n) ≡ Plain (Defined n)
 read_defined n h =
-    listed_code (defined_cell n) (defined_cell n) true (omega arith) (lt-ltb (defined_cell n) 32768 (omega arith)) (omega arith) ∙ ap Plain (key_in_defined_lem n)
+    listed_code (defined_cell n) (defined_cell n) true (omega arith) (lt-ltb (defined_cell n) 32768 (omega arith)) (omega arith) ∙ ap Plain (key_in_defined n)
 
 read_barred_defined : (n : ℕ) → n < most_defined → literal_in (defined_cell n + 32768) ≡ Barred (Defined n)
 read_barred_defined n h =
-    listed_code (defined_cell n + 32768) (defined_cell n) false (omega arith) (le-ltb (defined_cell n + 32768) 32768 (omega arith)) (omega arith) ∙ ap Barred (key_in_defined_lem n)
+    listed_code (defined_cell n + 32768) (defined_cell n) false (omega arith) (le-ltb (defined_cell n + 32768) 32768 (omega arith)) (omega arith) ∙ ap Barred (key_in_defined n)
 
 read_user : (n : ℕ) → n < number_limit → literal_in (131072 + n) ≡ Plain (User n)
 read_user n h =

@@ -20,7 +20,7 @@ use Rattle.model.specs.State.{lock_segment, Segment, has_lock, is_lock, issued, 
 use Rattle.model.specs.Effects.{with_segments, on_segment, add_products, drop_products}
 use Rattle.model.specs.Cells.{Table, Cells, Sized, cell, table_at, segment_of, segment_in, state_of, locks_are, defined_count}
 use Rattle.model.specs.Stores.{on_table, add_rows, drop_rows}
-use Rattle.base.proofs.Lists.{index_of_lt_lem}
+use Rattle.base.proofs.Lists.{index_of_lt}
 use Rattle.model.proofs.Refinement.SegmentTables.{add_table, drop_table, add_sizes, drop_sizes, length_add_rows, length_drop_rows}
 use Rattle.product.specs.Sum.{Sum}
 use Rattle.model.proofs.Refinement.ServedCalls.{segments_in, segment_at_lem}
@@ -54,7 +54,7 @@ module _ (d : Cells) (c : Sized d) where
       → Holds (locks_are (on_table d.locks (lock_segment (state_of d) n) (drop_rows n)) d) (on_segment (state_of d) (lock_segment (state_of d) n) (drop_products n))
   drop_held n there =
       let s : ℕ = lock_segment (state_of d) n in
-      let lt : s < segments_in d = let l = length_segments d in let i = index_of_lt_lem (has_lock n) (state_of d).segments there in omega arith in
+      let lt : s < segments_in d = let l = length_segments d in let i = index_of_lt (has_lock n) (state_of d).segments there in omega arith in
       let t : Table = table_at d.locks s in
       let sh = locks_shaped d c s lt in
       rows_held s lt (drop_rows n) (drop_products n) (drop_table n s (table_at d.segments s) t)

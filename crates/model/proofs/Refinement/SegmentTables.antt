@@ -27,7 +27,7 @@ use Rattle.model.specs.Effects.{with_keys, give_key, take_key, add_products, dro
 use Rattle.model.specs.Cells.{Row, Table, cell, row_at, owner_cell, kind_cell, no_key, defined_cell, key_in, has_key, keys_in, key_row, used_rows, product_in, list_row, segment_of}
 use Rattle.model.specs.Stores.{new_segment, give_code, take_code, end_rows, product_row, add_rows, drop_rows}
 use Rattle.base.proofs.Lists.{All, case_bool, keep_append, keep_all, keep_map, keep_same, keep_passes, length_keep, All-append, All-keep}
-use Rattle.model.proofs.Refinement.Literals.{key_in_segment_lem, key_in_defined_lem, literal_read}
+use Rattle.model.proofs.Refinement.Literals.{key_in_segment, key_in_defined, literal_read}
 use Rattle.model.proofs.Refinement.ProductRows.{Readable, Eights, used_end_rows, used_add_rows, used_drop_rows, products_read, length_store_rows, eights_store_rows, eights_used, eights_products}
 
 segment_path : {o o' k k' : ℕ} {ks ks' : List Key} {ps ps' : List LockProduct} → o ≡ o' → k ≡ k' → ks ≡ ks' → ps ≡ ps'
@@ -45,8 +45,8 @@ keep_key_row xs h =
     keep_append has_key xs (replicate (most_listed - length xs) no_key)
     ∙ ap₂ (λ (a b : List ℕ). a ++ b) (keep_all has_key xs h) (keep_no_key (most_listed - length xs)) ∙ append-nil xs
 
-has_key_below_lem : (x : ℕ) → x < no_key → has_key x ≡ true
-has_key_below_lem x lt = let e : eqb x no_key ≡ false = ne_eqb x no_key (λ q. omega arith) in simp e
+has_key_below : (x : ℕ) → x < no_key → has_key x ≡ true
+has_key_below x lt = let e : eqb x no_key ≡ false = ne_eqb x no_key (λ q. omega arith) in simp e
 
 -- the code of a defined key tells it from every other key
 pub same_code : (k y : ℕ) → same_key (Defined k) (key_in y) ≡ eqb (defined_cell k) y
@@ -66,7 +66,7 @@ set_first [] s e = absurd (omega arith)
 set_first (x ∷ w) s e = refl
 
 pub kept_list : (s : ℕ) (g : Table) → s < most_segments → length (row_at g 1) ≡ 8 → keep has_key (list_row s g) ≡ s ∷ keep has_key (tail_of (row_at g 1))
-kept_list s g low eight = ap (keep has_key) (set_first (row_at g 1) s eight) ∙ simp (has_key_below_lem s (omega arith))
+kept_list s g low eight = ap (keep has_key) (set_first (row_at g 1) s eight) ∙ simp (has_key_below s (omega arith))
 
 -- a key list that begins with s and is stored closed up is read back
 store_list : (s : ℕ) (xs : List ℕ) (g t : Table) → length g ≡ 2 → All (λ x. has_key x ≡ true) (s ∷ xs)
@@ -82,7 +82,7 @@ pub new_table : (s u kind : ℕ) (g t : Table) → s < most_segments
     → segment_of s (new_segment s u kind) (end_rows t 0) ≡ fresh_segment s u kind
 new_table s u kind g t low =
     segment_path refl refl
-    (ap (map key_in) (keep_key_row (s ∷ []) (has_key_below_lem s (omega arith), tt)) ∙ ap (λ (k : Key). k ∷ []) (key_in_segment_lem s low))
+    (ap (map key_in) (keep_key_row (s ∷ []) (has_key_below s (omega arith), tt)) ∙ ap (λ (k : Key). k ∷ []) (key_in_segment s low))
     (ap (map product_in) (used_end_rows t))
 
 pub give_table : (s c : ℕ) (g t : Table) → s < most_segments → c < most_defined → length g ≡ 2 → length (row_at g 1) ≡ 8
@@ -91,11 +91,11 @@ give_table s c g t low lt two eight =
     let rest : List ℕ = keep has_key (tail_of (row_at g 1)) in
     let own : keep has_key (list_row s g) ≡ s ∷ rest = kept_list s g low eight in
     let every : All (λ x. has_key x ≡ true) (s ∷ (rest ++ defined_cell c ∷ [])) =
-    (has_key_below_lem s (omega arith), All-append (λ x. has_key x ≡ true) rest (defined_cell c ∷ []) (keep_passes has_key (tail_of (row_at g 1))) (has_key_below_lem (defined_cell c) (omega arith), tt)) in
+    (has_key_below s (omega arith), All-append (λ x. has_key x ≡ true) rest (defined_cell c ∷ []) (keep_passes has_key (tail_of (row_at g 1))) (has_key_below (defined_cell c) (omega arith), tt)) in
     ap (λ (r : List ℕ). segment_of s (set g 1 (key_row (r ++ defined_cell c ∷ []))) t) own
     ∙ store_list s (rest ++ defined_cell c ∷ []) g t two every
     ∙ ap (with_keys (segment_of s g t))
-    (map-append key_in (s ∷ rest) (defined_cell c ∷ []) ∙ ap₂ (λ (r : List ℕ) (k : Key). map key_in r ++ k ∷ []) (sym own) (key_in_defined_lem c))
+    (map-append key_in (s ∷ rest) (defined_cell c ∷ []) ∙ ap₂ (λ (r : List ℕ) (k : Key). map key_in r ++ k ∷ []) (sym own) (key_in_defined c))
 
 pub take_table : (s c : ℕ) (g t : Table) → s < most_segments → length g ≡ 2 → length (row_at g 1) ≡ 8
     → segment_of s (take_code s (defined_cell c) g) t ≡ take_key c (segment_of s g t)
@@ -106,7 +106,7 @@ take_table s c g t low two eight =
     let other : eqb (defined_cell c) s ≡ false = ne_eqb (defined_cell c) s (λ q. omega arith) in
     let left : keep stays (keep has_key (list_row s g)) ≡ s ∷ keep stays rest = ap (keep stays) own ∙ simp other in
     let every : All (λ x. has_key x ≡ true) (s ∷ keep stays rest) =
-    (has_key_below_lem s (omega arith), All-keep (λ x. has_key x ≡ true) stays rest (keep_passes has_key (tail_of (row_at g 1)))) in
+    (has_key_below s (omega arith), All-keep (λ x. has_key x ≡ true) stays rest (keep_passes has_key (tail_of (row_at g 1)))) in
     let test : keep stays (keep has_key (list_row s g)) ≡ keep (λ y. not (same_key (Defined c) (key_in y))) (keep has_key (list_row s g)) =
     keep_same stays (λ y. not (same_key (Defined c) (key_in y))) (λ y. ap not (sym (same_code c y))) (keep has_key (list_row s g)) in
     ap (λ (r : List ℕ). segment_of s (set g 1 (key_row r)) t) left

@@ -20,7 +20,7 @@ use Rattle.model.specs.State.{blank_segment, segment_at, is_segment}
 use Rattle.model.specs.Cells.{Cells, cell, segment_count, segment_in, state_of}
 use Rattle.model.specs.Stores.{store, judged_cells}
 use Rattle.model.specs.Serving.{Serves}
-use Rattle.base.proofs.Lists.{length_each, get_d_each_lem}
+use Rattle.base.proofs.Lists.{length_each, get_d_each}
 
 module _ (d : Cells) (q : Request) (text : List ℕ) where
   unfoldable after : Option Refusal → record { cells : Cells; answer : Answer }
@@ -46,4 +46,4 @@ is_segment_lem d s = ap (ltb s) (length_each (segment_in d) 0 (segments_in d))
 
 pub segment_at_lem : (d : Cells) (s : ℕ) → s < segments_in d → segment_at (state_of d) s ≡ segment_in d s
 unfolding state_of
-segment_at_lem d s h = get_d_each_lem (segment_in d) 0 (segments_in d) s blank_segment h ∙ ap (segment_in d) (omega arith)
+segment_at_lem d s h = get_d_each (segment_in d) 0 (segments_in d) s blank_segment h ∙ ap (segment_in d) (omega arith)

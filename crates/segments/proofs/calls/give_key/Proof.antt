@@ -29,7 +29,7 @@ use Rattle.threads.proofs.Editors.{BeginsWithEditor, editor_missing, editor_know
 use Rattle.segments.specs.Internal.{Removed}
 use Rattle.segments.proofs.ArrayTests.{owned_by, in_list, list_length, all_stay}
 use Rattle.segments.proofs.EditConditions.{Names, Named, name_missing, names_known, names_low}
-use Rattle.segments.proofs.RemovedKey.{key_row_snoc_lem}
+use Rattle.segments.proofs.RemovedKey.{key_row_snoc}
 use Rattle.segments.proofs.calls.give_key.Statement.{statement}
 use Rattle.segments.proofs.calls.give_key.Tie as tie
 
@@ -96,7 +96,7 @@ module _ (d : Cells) (text : List ℕ) (a s k : ℕ) where
             (rw (known, z.segment, z.key, rights, may, listed, absent, counted, le-ltb most_listed (suc count) (omega arith)))
             (omega arith)
             (ap (λ (w : Row). segments_are (set d.segments s (set table 1 w)) d)
-            (ap₂ (λ (w : Row) (i : ℕ). set w i (defined_cell k)) (v.closed ∙ ap key_row all) e ∙ key_row_snoc_lem codes (defined_cell k) (omega arith)))
+            (ap₂ (λ (w : Row) (i : ℕ). set w i (defined_cell k)) (v.closed ∙ ap key_row all) e ∙ key_row_snoc codes (defined_cell k) (omega arith)))
 
 -- what passed the tests
 low : (b : tie.After-enum-told2) → let a = b.before.before.before.before.before.before.before.before.args in (a.segment < most_segments) × (a.key < most_defined)
