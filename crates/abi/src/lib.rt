@@ -1,5 +1,7 @@
 // The guard for C and Rust: thin exported functions over the proved crates, which host/include/rotundaaloe_raw.h
 // declares.
+#![tactic(auto)]
+
 pub mod calls;
 pub mod file;
 pub mod held;

@@ -93,6 +93,7 @@ module _ {A : Type 0} (size number : A → ℕ) where
 
 module _ {A : Type 0} (f : A → ℕ) where
   pub maximum_above : (x : A) (xs : List A) → Memᴰ x xs → f x ≤ maximum (map f xs)
+  maximum_above x [] m = elim m [ ]
   maximum_above x (y ∷ ys) (Memᴰ.head e) = let i = ap f e in omega arith
   maximum_above x (y ∷ ys) (Memᴰ.tail m) = let h = maximum_above x ys m in omega arith
 

@@ -43,6 +43,7 @@ module _ {A : Type 0} where
 
   -- one that passes is among them
   pub any_passes : (p : A → Bool) (x : A) (xs : List A) → Memᴰ x xs → p x ≡ true → any p xs ≡ true
+  any_passes p x [] m t = elim m [ ]
   any_passes p x (y ∷ ys) (Memᴰ.head e) t = simp (sym (ap p e) ∙ t)
   any_passes p x (y ∷ ys) (Memᴰ.tail m) t = case_bool (p y) (λ q. simp q) (λ q. simp q (any_passes p x ys m t))
 
@@ -58,6 +59,7 @@ module _ {A : Type 0} where
   all_members P (x ∷ xs) h = (h x (Memᴰ.head refl), all_members P xs (λ y m. h y (Memᴰ.tail m)))
 
   pub all_at : (P : A → Type 0) (xs : List A) → All P xs → (x : A) → Memᴰ x xs → P x
+  all_at P [] h x m = elim m [ ]
   all_at P (y ∷ ys) h x (Memᴰ.head e) = subst P (sym e) h.0
   all_at P (y ∷ ys) h x (Memᴰ.tail m) = all_at P ys h.1 x m
 
@@ -161,6 +163,7 @@ module _ {A : Type 0} where
       case_bool (p x) (λ e. simp e ((Memᴰ.head refl, refl), rest)) (λ e. simp e rest)
 
   pub keep_member : (p : A → Bool) (x : A) (xs : List A) → Memᴰ x xs → p x ≡ true → Memᴰ x (keep p xs)
+  keep_member p x [] m t = elim m [ ]
   keep_member p x (y ∷ ys) (Memᴰ.head i) t = simp (sym (ap p i) ∙ t) (Memᴰ.head i)
   keep_member p x (y ∷ ys) (Memᴰ.tail m) t =
       case_bool (p y) (λ e. simp e (Memᴰ.tail (keep_member p x ys m t))) (λ e. simp e (keep_member p x ys m t))

@@ -7,7 +7,7 @@ use crate::letters;
 
 // A well formed call, with the fields that its letter names; beside each stands its letter and document 01's word.
 // The text of a lock is not in it.
-#[derive(Drop)]
+#[derive(Clone, Copy)]
 pub enum Request {
     // U, new user
     NewUser,
@@ -36,7 +36,7 @@ pub enum Request {
 }
 
 // Corrupt, document 01's 18: an unknown letter, an unnamed field that is not 0, or a text where the letter takes none.
-#[derive(Drop)]
+#[derive(Clone, Copy)]
 pub enum Decoded {
     WellFormed(Request),
     Corrupt,
@@ -60,7 +60,7 @@ pub fn decode(letter: u8, a: u16, b: u16, c: u16, size: usize) -> Decoded
 }
 
 // A line of document 01's table: the request, and how many of a, b and c it names.
-#[derive(Drop)]
+#[derive(Clone, Copy)]
 enum Line {
     Of(Request, u8),
     Unknown,

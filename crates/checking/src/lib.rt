@@ -1,4 +1,6 @@
 // The check of document 01, 'Operations and the check': what a segment's standing locks answer to a thread's operation.
+#![tactic(auto)]
+
 ghost use Rattle.std.specs.Prelude.{◌≡◌};
 ghost use Rattle.checking.specs.Deciding.{check_of, answer_of};
 ghost use Rattle.checking.specs.Internal.{opening_of, head_checked, code_checked};
@@ -19,7 +21,7 @@ pub mod newest;
 pub mod tightest;
 
 // What the check answers; `checked_number` and `checked_value` give document 01's number and value for each.
-#[derive(Drop)]
+#[derive(Clone, Copy)]
 pub enum Checked {
     // of the grant locks that open the one whose longest opening product has most literals, the lowest of equal ones
     Granted(u16),

@@ -5,7 +5,7 @@ ghost use Rattle.formula.specs.Internal.Reader.{digit, read_digits, read_number}
 ghost use Rattle.formula.specs.Internal.Readers.{NumberReads};
 
 // A number of 16 bits and the place after it, or none.
-#[derive(Drop)]
+#[derive(Clone, Copy)]
 pub(crate) enum Numeral {
     Missing,
     Value(u16, usize),

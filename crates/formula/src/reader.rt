@@ -17,7 +17,7 @@ use product::sum;
 use product::sum::Rows;
 
 // Document 01: node. A formula that was read, by the place after it and how many products its list has; or nothing.
-#[derive(Drop)]
+#[derive(Clone, Copy)]
 pub(crate) enum Read {
     Malformed,
     Node(usize, usize),
@@ -193,7 +193,7 @@ fn signed(odd: bool, key: Key) -> Literal
 }
 
 // A key, or none for a letter that is no kind's.
-#[derive(Drop)]
+#[derive(Clone, Copy)]
 pub(crate) enum Lookup {
     Named(Key),
     Nothing,

@@ -7,7 +7,7 @@ use crate::reader::{Read, read_or};
 use product::sum::{MOST_PRODUCTS, Rows};
 
 // How many keys of each kind were handed out: users, runs, segments and D keys.
-#[derive(Drop)]
+#[derive(Clone, Copy)]
 pub struct Issued {
     pub users: u32,
     pub threads: u32,
@@ -16,7 +16,7 @@ pub struct Issued {
 }
 
 // Document 01: misspelt, too wide, void.
-#[derive(Drop)]
+#[derive(Clone, Copy)]
 pub enum Status {
     Accepted,
     Malformed,
@@ -25,13 +25,13 @@ pub enum Status {
 }
 
 // Document 01: product. A row of 8 cells, as `product` lays them out.
-#[derive(Drop)]
+#[derive(Clone, Copy)]
 pub struct Row {
     pub cells: [u32; 8],
 }
 
 // Document 01: the whole formula's list of products, as rows, and how many they are; of a refusal none, and blank rows.
-#[derive(Drop)]
+#[derive(Clone, Copy)]
 pub struct Compiled {
     pub status: Status,
     pub count: usize,

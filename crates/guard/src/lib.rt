@@ -1,4 +1,6 @@
 // The guard: the one entry for the twelve calls, on the arrays that the host lends.
+#![tactic(auto)]
+
 ghost use Rattle.std.specs.Prelude.{◌≡◌};
 ghost use Rattle.call.specs.Calls.{call_with};
 ghost use Rattle.model.specs.Cells.{cells_with};

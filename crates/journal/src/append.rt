@@ -13,7 +13,7 @@ use call::record::fits;
 
 // The file's new length, or why nothing was written. The answer's number is `appended_number`, and its values are
 // `appended_values`.
-#[derive(Drop)]
+#[derive(Clone, Copy)]
 pub enum Appended {
     Length(usize),
     Declined(Refusal),

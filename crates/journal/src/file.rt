@@ -9,7 +9,7 @@ use crate::bytes::word_at;
 use crate::record::record_size;
 
 // Document 01: full, not a desk file, other version, broken file.
-#[derive(Drop)]
+#[derive(Clone, Copy)]
 pub enum Refusal {
     Full,
     NotJournal,
@@ -18,7 +18,7 @@ pub enum Refusal {
 }
 
 // The verdict on a file. Its number is `verdict_number`, and its values are `verdict_values`.
-#[derive(Drop)]
+#[derive(Clone, Copy)]
 pub enum Verdict {
     Readable,
     Refused(Refusal),

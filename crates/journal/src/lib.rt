@@ -1,5 +1,7 @@
 // The journal (document 01: desk file): checking a whole file, reading its records, appending one. What a call does
 // is not known here.
+#![tactic(auto)]
+
 pub mod append;
 mod bytes;
 pub mod file;

@@ -7,7 +7,7 @@ use crate::bytes::word_at;
 use call::record::fits;
 
 // A record's letter and fields, where its text starts, and the cursor after the record, where its text ends.
-#[derive(Drop)]
+#[derive(Clone, Copy)]
 pub struct Entry {
     pub letter: u8,
     pub a: u16,
@@ -19,7 +19,7 @@ pub struct Entry {
 
 // What stands at a cursor. Damaged, document 01's 18: no whole record, and not the end either. Its number is
 // `found_number`, and its values are `found_values`.
-#[derive(Drop)]
+#[derive(Clone, Copy)]
 pub enum Found {
     Record(Entry),
     End,

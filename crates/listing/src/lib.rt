@@ -1,4 +1,6 @@
 // The list of a segment's locks in rows that the caller lends: thin functions over the row maker of the crate below.
+#![tactic(auto)]
+
 ghost use Rattle.std.specs.Prelude.{◌≡◌, ◌<◌, ◌≤◌, length};
 ghost use Rattle.model.specs.Limits.{most_standing};
 ghost use Rattle.model.specs.Cells.{registry_is, segments_are, locks_are, ◌and◌};

@@ -4,7 +4,7 @@ ghost use Rattle.model.specs.Answers.{refusal_number, second_number};
 
 // Document 01's table of refusals, and what document 02 adds to it; beside each stands its number and word. Refusals 16
 // and 17 are a file's alone.
-#[derive(Drop)]
+#[derive(Clone, Copy)]
 pub enum Refusal {
     // 1, stranger
     UnknownUser,
@@ -43,7 +43,7 @@ pub enum Refusal {
 }
 
 // The number that the table of the twelve calls gives each letter, of a lock list the number of rows, or a refusal.
-#[derive(Drop)]
+#[derive(Clone, Copy)]
 pub enum Answer {
     Accepted(u16),
     Refused(Refusal),

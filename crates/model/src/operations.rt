@@ -3,7 +3,7 @@ ghost use Rattle.std.specs.Prelude.{◌≡◌};
 ghost use Rattle.model.specs.Operations.{takes, is_access, takes_set, shares};
 
 // A set of operations, the sum of their numbers; with DENY among them a lock's set is a deny lock's.
-#[derive(Drop)]
+#[derive(Clone, Copy)]
 pub struct Operations {
     pub bits: u32,
 }

@@ -7,7 +7,7 @@ ghost use Rattle.product.specs.Code.{key_at, key_limit, literal_of, Encoded};
 ghost use Rattle.product.specs.Internal.{EncodedKey};
 
 // Document 01: a key is a kind with a 16-bit number: U user, R run, S segment, D defined by a user.
-#[derive(Drop)]
+#[derive(Clone, Copy)]
 pub enum Key {
     User(u16),
     Thread(u16),
@@ -16,7 +16,7 @@ pub enum Key {
 }
 
 // Document 01: signed key. A key that a key set must have, or must not have.
-#[derive(Drop)]
+#[derive(Clone, Copy)]
 pub enum Literal {
     Plain(Key),
     Barred(Key),

@@ -1,5 +1,7 @@
 // The registry: how many users, threads (document 01: runs), segments, defined keys (D keys) and locks were handed out.
 // U is the one call that touches nothing else.
+#![tactic(auto)]
+
 ghost use Rattle.std.specs.Prelude.{◌≡◌, ltb};
 ghost use Rattle.call.specs.declared.request.Request.TheVariants.{NewUser};
 ghost use Rattle.model.specs.Limits.{most_segments};

@@ -1,5 +1,7 @@
 // The office program (document 01): reads a journal (document 01: desk file) from standard input, and prints a line
 // for each of its records, or the file's refusal.
+#![tactic(auto)]
+
 use libc::{STDERR_FILENO, STDIN_FILENO, STDOUT_FILENO};
 use transcript::{MOST_PRINTED, transcript};
 

@@ -1,4 +1,6 @@
 // Access route control: C and A, granted by the keys that the thread's open calls have handed over.
+#![tactic(auto)]
+
 ghost use Rattle.call.specs.declared.request.Request.TheVariants.{CallSegment, Access};
 ghost use Rattle.model.specs.Cells.{registry_is, segments_are, locks_are, threads_are, unchanged, ◌and◌};
 ghost use Rattle.model.specs.Serving.{ServesLent};

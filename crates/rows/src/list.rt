@@ -11,14 +11,14 @@ use model::arrays::{LOCK_UNIT, Locks, OWNER, Products, Registry, Segments};
 use registry::{is_user, segments as segments_in};
 
 // The first `count` of the rows; the others are spare.
-#[derive(Drop)]
+#[derive(Clone, Copy)]
 pub struct Listing {
     pub count: usize,
     pub rows: [Row; 8],
 }
 
 // An answer, and the rows that go with it: none where it is a refusal.
-#[derive(Drop)]
+#[derive(Clone, Copy)]
 pub struct Made {
     pub answer: Answer,
     pub listing: Listing,

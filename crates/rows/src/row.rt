@@ -10,7 +10,7 @@ use model::operations::Operations;
 use product::literal::Literal;
 
 // What a slot has.
-#[derive(Drop)]
+#[derive(Clone, Copy)]
 pub enum Content {
     Blank,
     // document 01: signed key
@@ -18,12 +18,12 @@ pub enum Content {
 }
 
 // An array of enums can't be made in a struct; an array of structs that hold one can.
-#[derive(Drop)]
+#[derive(Clone, Copy)]
 pub struct Slot {
     pub content: Content,
 }
 
-#[derive(Drop)]
+#[derive(Clone, Copy)]
 pub struct Row {
     pub lock: u16,
     // of 1, 2 and 4; whether it is a deny lock is said beside them

@@ -1,4 +1,6 @@
 // The key search: which open call of a thread (document 01: run) hands a key over, the newest first.
+#![tactic(auto)]
+
 ghost use Rattle.model.specs.Cells.{threads_are};
 ghost use Rattle.search.specs.Searching.{SearchesLent};
 
@@ -10,7 +12,7 @@ use product::literal::Key;
 use threads::place::find;
 
 // What the search answers.
-#[derive(Drop)]
+#[derive(Clone, Copy)]
 pub enum Searched {
     // the place, 0 for the newest, of the newest open call that hands the key over
     At(u16),

@@ -5,7 +5,7 @@ ghost use Rattle.segments.specs.Internal.{Removed};
 use model::arrays::{NO_KEY, Row};
 
 // The keys of a segment's list but for one: closed up, how many they are, and whether the one was among them.
-#[derive(Drop)]
+#[derive(Clone, Copy)]
 pub(crate) struct Kept {
     pub(crate) cells: Row,
     pub(crate) count: usize,

@@ -5,7 +5,7 @@ use model::answer::Refusal;
 use model::arrays::Registry;
 use registry::defined;
 
-#[derive(Drop)]
+#[derive(Clone, Copy)]
 pub(crate) enum NameTest {
     Passed,
     // the refusal of the first that is not handed out

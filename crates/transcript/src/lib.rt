@@ -1,5 +1,7 @@
 // All that the office program prints for a file (document 01: 'Office program'): the file's records, answered one
 // after the other from the empty arrays on, a line each; or the file's refusal.
+#![tactic(auto)]
+
 mod bytes;
 mod lines;
 
@@ -77,7 +79,7 @@ fn replay(
 }
 
 // The cursor after a record, and the place after its line.
-#[derive(Drop)]
+#[derive(Clone, Copy)]
 struct After {
     next: usize,
     used: usize,
