@@ -30,7 +30,7 @@ module _ (i : Issued) (s : List ℕ) where
         size = omega (arith, ap length h.spelt, spell_size t);
         short = l;
         shallow = h.shallow;
-        issued = h.known-atoms;
+        issued = h.known_atoms;
       }
 
   pub outcome_text : {t : Tree ors} → Text i s t → outcome_of i s ≡ judge_list (list_of false t)

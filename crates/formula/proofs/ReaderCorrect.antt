@@ -268,6 +268,6 @@ module _ (known : Atom → Bool) where
   unfolding read_text
   reader_complete s t h =
       let a : s ≡ spell t ++ [] = h.spelt ∙ sym (append-nil (spell t)) in
-      let c = complete t most_deep (4 * length (spell t ++ []) + 3) [] h.shallow h.known-atoms refl refl (omega arith) in
+      let c = complete t most_deep (4 * length (spell t ++ []) + 3) [] h.shallow h.known_atoms refl refl (omega arith) in
       ap (λ (x : List ℕ). whole_of (read_ors known (4 * length x + 3) most_deep x)) a
       ∙ ap whole_of (c.2 ∙ ors_stop c.0 most_deep t [] (omega (arith, c.1)) refl)

@@ -152,41 +152,41 @@ module _ {odd : Bool} {part whole : Level} {cost byte : ℕ} {join : Sum → Sum
   MoreAt r rows at n old = (t : Tree whole) → HoldsSum (list_of odd t) old n → (f : ℕ) → 4 * (length s - at) + (cost + 1) ≤ f → Reads odd s rows r (c.more f t (drop at s))
 
   pub chain_further : (at : ℕ) {r : Read} {a n : ℕ} {rows : List (List ℕ)} → r ≡ Node a n → PartAt r rows at → length s - a < length s - at
-  chain_further at e p = further odd s at (reads_as e (p (4 * (length s - at) + cost) (omega arith))) (c.parts-shorter (4 * (length s - at) + cost) (drop at s))
+  chain_further at e p = further odd s at (reads_as e (p (4 * (length s - at) + cost) (omega arith))) (c.parts_shorter (4 * (length s - at) + cost) (drop at s))
 
   pub chain_failed : (at : ℕ) {r : Read} {rows new : List (List ℕ)} → r ≡ Malformed → PartAt r rows at → WholeAt Malformed new at
   chain_failed at e p zero h = let z : ⊥ = omega arith in absurd z
-  chain_failed at e p (suc f) h = rw (c.wholes-suc f (drop at s)) (next_failed odd s _ (reads_as e (p f (omega arith))))
+  chain_failed at e p (suc f) h = rw (c.wholes_suc f (drop at s)) (next_failed odd s _ (reads_as e (p f (omega arith))))
 
   -- the first part, and what follows it
   begun : {a n : ℕ} {r : Read} {rows new : List (List ℕ)} {x : Found part} (f : ℕ) → 4 * (length s - a) + (cost + 1) ≤ f → Reads odd s rows (Node a n) x → MoreAt r new a n rows
       → Reads odd s new r (next x (λ t u. c.more f (c.one t) u))
-  begun f h (parsed {t} w k) m = rw w (m (c.one t) (list_at (c.list-one t) k) f h)
+  begun f h (parsed {t} w k) m = rw w (m (c.one t) (list_at (c.list_one t) k) f h)
 
   pub chain_begun : (at : ℕ) {r q : Read} {a n : ℕ} {rows new : List (List ℕ)} → q ≡ Node a n → PartAt q rows at → MoreAt r new a n rows → WholeAt r new at
   chain_begun at e p m zero h = let z : ⊥ = omega arith in absurd z
   chain_begun at e p m (suc f) h =
       let g = chain_further at e p in
-      rw (c.wholes-suc f (drop at s)) (begun f (omega arith) (reads_as e (p f (omega arith))) m)
+      rw (c.wholes_suc f (drop at s)) (begun f (omega arith) (reads_as e (p f (omega arith))) m)
 
   -- no further part
   pub chain_stop : {at n : ℕ} {rows : List (List ℕ)} → (get_or s at 0 ≡ byte → ⊥) → MoreAt (Node at n) rows at n rows
   chain_stop b t k zero h = let z : ⊥ = omega arith in absurd z
-  chain_stop {at} b t k (suc f) h = rw (c.more-suc f t (drop at s), head_drop at s 0, ne_eqb (get_or s at 0) byte b) (parsed refl k)
+  chain_stop {at} b t k (suc f) h = rw (c.more_suc f t (drop at s), head_drop at s 0, ne_eqb (get_or s at 0) byte b) (parsed refl k)
 
   -- a further part that fails
   pub chain_broken : (at : ℕ) {n : ℕ} {r : Read} {old right new : List (List ℕ)} → get_or s at 0 ≡ byte → r ≡ Malformed → PartAt r right (at + 1) → MoreAt Malformed new at n old
   chain_broken at b e p t k zero h = let z : ⊥ = omega arith in absurd z
   chain_broken at b e p t k (suc f) h =
       let i = inside s at byte c.printable b in
-      rw (c.more-suc f t (drop at s), head_drop at s 0, eq-eqb (get_or s at 0) byte b, drop-drop 1 at s) (next_failed odd s _ (reads_as e (p f (omega arith))))
+      rw (c.more_suc f t (drop at s), head_drop at s 0, eq-eqb (get_or s at 0) byte b, drop-drop 1 at s) (next_failed odd s _ (reads_as e (p f (omega arith))))
 
   -- a further part, joined to what stands to its left
   grown : {a n m j : ℕ} {r : Read} {old right both new : List (List ℕ)} {x : Found part} (t : Tree whole) (f : ℕ) → 4 * (length s - a) + (cost + 1) ≤ f → HoldsSum (list_of odd t) old n → Reads odd s right (Node a m) x
       → HoldsSum (joined join (sum_of n old) (sum_of m right)) both j → MoreAt r new a j both → Reads odd s new r (next x (λ u v. c.more f (c.two t u) v))
   grown {j = j} {both = both} t f h k (parsed {t = u} d v) w m =
       let z : HoldsSum (joined join (list_of odd t) (list_of odd u)) both j = rw (k.reads, v.reads) at w in
-      rw d (m (c.two t u) (list_at (c.list-two t u) z) f h)
+      rw d (m (c.two t u) (list_at (c.list_two t u) z) f h)
 
   pub chain_grown : (at : ℕ) {a n m j : ℕ} {r q : Read} {old right both new : List (List ℕ)} → get_or s at 0 ≡ byte → q ≡ Node a m → PartAt q right (at + 1)
       → HoldsSum (joined join (sum_of n old) (sum_of m right)) both j → MoreAt r new a j both → MoreAt r new at n old
@@ -194,7 +194,7 @@ module _ {odd : Bool} {part whole : Level} {cost byte : ℕ} {join : Sum → Sum
   chain_grown at b e p w m t k (suc f) h =
       let i = inside s at byte c.printable b in
       let g = chain_further (at + 1) e p in
-      rw (c.more-suc f t (drop at s), head_drop at s 0, eq-eqb (get_or s at 0) byte b, drop-drop 1 at s) (grown t f (omega arith) k (reads_as e (p f (omega arith))) w m)
+      rw (c.more_suc f t (drop at s), head_drop at s 0, eq-eqb (get_or s at 0) byte b, drop-drop 1 at s) (grown t f (omega arith) k (reads_as e (p f (omega arith))) w m)
 
 -- the chains of AND and of OR
 

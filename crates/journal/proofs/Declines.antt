@@ -30,7 +30,7 @@ module _ (d : List ℕ) (len : ℕ) (r : Call) where
 
   declined : {f : Refusal} → DeclinedBy d len r f → append_answer d len r ≡ Declined f
   declined (beyond h) = sym (cases.beyond d len r h)
-  declined (file f i h) = sym (cases.file-refused d len r i f (sym h))
+  declined (file f i h) = sym (cases.file_refused d len r i f (sym h))
   declined (unfit i h n) = sym (cases.unfit d len r i (sym h) (is_fit r) refl (ap not n))
   declined (full i h y n) = sym (cases.no_room d len r i (sym h) (is_fit r) refl (ap not y) (too_long_lem n))
 

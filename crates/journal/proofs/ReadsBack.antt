@@ -124,7 +124,7 @@ high_byte w h = omega arith
 record_each : (r : Call) → Recordable r → Each (record_bytes r)
 record_each r v =
     let t : length r.text < 65536 = omega (arith, text_short r.letter r.a r.b r.c (length r.text) v.fit) in (
-      v.letter-byte,
+      v.letter_byte,
       (
         low_byte r.a,
         (
@@ -132,8 +132,8 @@ record_each r v =
           (
             low_byte r.b,
             (
-              high_byte r.b v.b-word,
-              (low_byte r.c, (high_byte r.c v.c-word, (low_byte (length r.text), (high_byte (length r.text) t, each r.text v.text-bytes)))),
+              high_byte r.b v.b_word,
+              (low_byte r.c, (high_byte r.c v.c_word, (low_byte (length r.text), (high_byte (length r.text) t, each r.text v.text_bytes)))),
             ),
           ),
         ),

@@ -34,10 +34,10 @@ numbers =
 read_by : {A B : Type 0} {compare : B → B → Order} (f : A → B) → Lawful compare → Lawful (λ x y. compare (f x) (f y))
 read_by f l =
     record {
-      equal_left = λ x y z. l.equal-left (f x) (f y) (f z);
-      equal_right = λ x y z. l.equal-right (f x) (f y) (f z);
-      equal_back = λ x y. l.equal-back (f x) (f y);
-      greater_back = λ x y. l.greater-back (f x) (f y);
+      equal_left = λ x y z. l.equal_left (f x) (f y) (f z);
+      equal_right = λ x y z. l.equal_right (f x) (f y) (f z);
+      equal_back = λ x y. l.equal_back (f x) (f y);
+      greater_back = λ x y. l.greater_back (f x) (f y);
       transitive = λ x y z. l.transitive (f x) (f y) (f z);
     }
 
@@ -54,35 +54,35 @@ module _ {A : Type 0} (first second : A → A → Order) (l : Lawful first) (m :
   lexical_left : (x y z : A) → lexical x y ≡ Equal → lexical x z ≡ lexical y z
   lexical_left x y z e =
       let b = then_by_equal (first x y) (second x y) e in
-      rw (l.equal-left x y z b.0, m.equal-left x y z b.1)
+      rw (l.equal_left x y z b.0, m.equal_left x y z b.1)
 
   lexical_right : (x y z : A) → lexical y z ≡ Equal → lexical x y ≡ lexical x z
   lexical_right x y z e =
       let b = then_by_equal (first y z) (second y z) e in
-      rw (l.equal-right x y z b.0, m.equal-right x y z b.1)
+      rw (l.equal_right x y z b.0, m.equal_right x y z b.1)
 
   lexical_equal : (x y : A) → lexical x y ≡ Equal → lexical y x ≡ Equal
   lexical_equal x y e =
       let b = then_by_equal (first x y) (second x y) e in
-      rw (l.equal-back x y b.0, m.equal-back x y b.1)
+      rw (l.equal_back x y b.0, m.equal_back x y b.1)
 
   lexical_greater : (x y : A) → lexical x y ≡ Greater → lexical y x ≡ Less
   lexical_greater x y = go (first x y) refl
     where
       go : (o : Order) → first x y ≡ o → then_by o (second x y) ≡ Greater → lexical y x ≡ Less
       go Less e h = cc
-      go Equal e h = rw (l.equal-back x y e) (m.greater-back x y h)
-      go Greater e h = rw (l.greater-back x y e)
+      go Equal e h = rw (l.equal_back x y e) (m.greater_back x y h)
+      go Greater e h = rw (l.greater_back x y e)
 
   lexical_transitive : (x y z : A) → lexical x y ≡ Less → lexical y z ≡ Less → lexical x z ≡ Less
   lexical_transitive x y z = go (first x y) (first y z) refl refl
     where
       go : (o p : Order) → first x y ≡ o → first y z ≡ p → then_by o (second x y) ≡ Less → then_by p (second y z) ≡ Less → lexical x z ≡ Less
       go Less Less e f h k = rw (l.transitive x y z e f)
-      go Less Equal e f h k = rw (← l.equal-right x y z f, e)
+      go Less Equal e f h k = rw (← l.equal_right x y z f, e)
       go Less Greater e f h k = cc
-      go Equal Less e f h k = rw (l.equal-left x y z e, f)
-      go Equal Equal e f h k = rw (l.equal-left x y z e, f) (m.transitive x y z h k)
+      go Equal Less e f h k = rw (l.equal_left x y z e, f)
+      go Equal Equal e f h k = rw (l.equal_left x y z e, f) (m.transitive x y z h k)
       go Equal Greater e f h k = cc
       go Greater p e f h k = cc
 

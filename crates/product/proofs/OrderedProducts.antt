@@ -45,7 +45,7 @@ rising_insert x (more {x = y} {p} a r) = go (λ z. rising_insert z r) (compare_l
         → Rising (cond (is_equal o) (y ∷ p) (cond (is_less o) x y ∷ insert (cond (is_less o) y x) p))
     go ih Less e = more (above_insert x y p e (above_lower e a)) (ih y)
     go ih Equal e = more a r
-    go ih Greater e = more (above_insert y x p (literals.greater-back x y e) a) (ih x)
+    go ih Greater e = more (above_insert y x p (literals.greater_back x y e) a) (ih x)
 
 rising_union : {p : Product} (q : Product) → Rising p → Rising (union p q)
 unfolding union

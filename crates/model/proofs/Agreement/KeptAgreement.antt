@@ -56,8 +56,8 @@ module _ (compile : Compiler) (d : State) (h : History) (count : ℕ → ℕ) (c
   keep_thread : (a : ℕ) → Lives a d.places → (f F : Thread → Thread) → ((t : Thread) → f t ≡ F t)
       → AgreeThreads (set d.places (place_of a d.places) (on_thread f (get_or d.places (place_of a d.places) free))) d.thread_numbers (adjust h.threads a F)
   keep_thread a p f F same =
-      rw (p.taken-by, same p.thread)
-      (agree_change d.places d.thread_numbers h.threads c.threads a (place_of a d.places) p.thread F p.low p.taken-by)
+      rw (p.taken_by, same p.thread)
+      (agree_change d.places d.thread_numbers h.threads c.threads a (place_of a d.places) p.thread F p.low p.taken_by)
 
   -- and as many live as before
   same_live : (a : ℕ) → Lives a d.places → (f : Thread → Thread)
@@ -113,11 +113,11 @@ module _ (compile : Compiler) (holds : Meaning) (laws : Laws compile holds) (tex
   keep_accepted (request.EndThread a) e =
       let p = alive compile d h count c a (all_fail (conditions compile d (request.EndThread a) text) e).0 in
       let i : ℕ = place_of a d.places in
-      let was : one (get_or d.places i free) ≡ 1 = ap one p.taken-by in
+      let was : one (get_or d.places i free) ≡ 1 = ap one p.taken_by in
       let v = c.counts.5 in
       let ended : live_in (set d.places i free) + suc (count letters.E) ≡ count letters.S = let m = live_change d.places i free p.low in omega arith in
       with_threads_lem c (set d.places i free) d.thread_numbers _ (bump letters.E count)
-      (agree_end d.places d.thread_numbers h.threads c.threads a i p.thread p.low p.taken-by)
+      (agree_end d.places d.thread_numbers h.threads c.threads a i p.thread p.low p.taken_by)
       (one_ended c (set d.places i free) ended)
   keep_accepted (request.NewSegment a b) e =
       rw (editors_agree compile d h count c a)

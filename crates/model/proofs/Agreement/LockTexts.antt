@@ -161,7 +161,7 @@ module _ (es : List Event) (d : Cells) (m : Mirrors es (state_of d)) (k : Stores
   satisfiable ps q = let o = opening_law (issued_by es) text ps (sym outcome_as ∙ q) in record { tree = o.tree; text = o.text; fit = o.fit; true_for = o.witness }
 
   accepts : (f : Satisfiable (issued_by es) text) → outcome ≡ accepted (products false f.tree)
-  accepts f = outcome_as ∙ accepted_where (issued_by es) text f.tree f.text f.fit f.true-for.0 f.true-for.1
+  accepts f = outcome_as ∙ accepted_where (issued_by es) text f.tree f.text f.fit f.true_for.0 f.true_for.1
 
   full_as : ((step_cells outcome_of d next).answer ≡ Refused Full) ↔ (Allowed es a b c × (f : Satisfiable (issued_by es) text) × (Room es b (length (products false f.tree)) → ⊥))
   full_as = (there, back)

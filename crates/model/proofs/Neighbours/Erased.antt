@@ -150,8 +150,8 @@ module _ (n : ℕ) (xs : List Place) where
       let i = place_of a xs in
       map_set (erase n) xs i _
       ∙ ap (set (map (erase n) xs) i)
-      (ap (λ (x : Place). erase n (on_thread f x)) p.taken-by
+      (ap (λ (x : Place). erase n (on_thread f x)) p.taken_by
       ∙ change_hidden n a f h other p.thread
-      ∙ ap (erase n) (sym p.taken-by)
+      ∙ ap (erase n) (sym p.taken_by)
       ∙ sym (at_erased n xs i))
       ∙ set-get_or (map (erase n) xs) i free

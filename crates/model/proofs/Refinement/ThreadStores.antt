@@ -67,7 +67,7 @@ module _ (d : Cells) (c : Sized d) where
     mine_shaped = shaped 64 17 d.threads c.threads (place_of a places) mine_low
 
     mine_place : place_in mine ≡ taken a p.thread
-    mine_place = sym (get_or-map place_in d.threads (place_of a places) []) ∙ p.taken-by
+    mine_place = sym (get_or-map place_in d.threads (place_of a places) []) ∙ p.taken_by
 
     mine_live : eqb (cell (row_at mine 0) live_cell) 0 ≡ false
     mine_live =

@@ -1,0 +1,149 @@
+-- A refusal is the first test that fails; the lock's rows go to its segment's.
+use mathlib.Core.Path.{◌≡◌, refl, sym, ap, ap₂, ◌∙◌}
+use mathlib.Core.Bool.{true, false, ◌||◌}
+use mathlib.Core.List.{List, [], map}
+use mathlib.Core.Option.{some}
+use Prim.Native.Nat.{ℕ, suc, ◌+◌, ◌≤◌, ◌<◌}
+use native.Mathlib.Omega.{arith}
+use lib.Dec.{eqb}
+use lib.ListN.{length, set, length-map}
+use lib.Seq.{set-get_or}
+use borrow.Author.Tests.{eq-eqb, ne_eqb, lt-ltb, le-ltb}
+use Rattle.formula.specs.declared.text.Issued.{Issued}
+use Rattle.formula.specs.declared.text.Status.{Status}
+use Rattle.formula.specs.declared.text.Compiled.{Compiled}
+use Rattle.formula.specs.Outcome.{Outcome, outcome_of, refusal_number, status_of, sum_in, compiled_of}
+use Rattle.call.specs.declared.request.Request.{Request}
+use Rattle.call.specs.declared.request.Request.TheVariants.{AddLock}
+use Rattle.model.specs.declared.answer.Refusal.TheVariants.{NoSegment, NotOwner, Unfit}
+use Rattle.model.specs.declared.answer.Answer.{Answer}
+use Rattle.model.specs.declared.answer.Answer.TheVariants.{Refused}
+use Rattle.model.specs.Limits.{most_standing, most_numbers, passes}
+use Rattle.model.specs.Operations.{takes_set}
+use Rattle.model.specs.Refusals.{conditions}
+use Rattle.model.specs.Effects.{answer}
+use Rattle.model.specs.State.{is_segment, owns, segment_at, editor, issued}
+use Rattle.model.specs.Cells.{Row, Table, Cells, registry_is, locks_are, cell, row_at, table_at, lock_count, owner_cell, kind_cell, used_rows, product_in, state_of}
+use Rattle.model.specs.Stores.{count_up, store_rows, product_row, store}
+use Rattle.model.specs.Serving.{Serves}
+use Rattle.model.proofs.Refinement.ServedCalls.{serves_refused, serves_accepted, segments_in, is_segment_lem, segment_at_lem}
+use Rattle.threads.proofs.Editors.{BeginsWithEditor, editor_missing, editor_known}
+use Rattle.locks.specs.Internal.{rows_from, issued_in, is_full, LockJudged, full, stored, malformed_text, wide_text, unsatisfiable_text, accepted_text}
+use Rattle.locks.proofs.Tests.{test_fails, test_holds}
+use Rattle.locks.proofs.CompiledRows.{operations_low, issued_is, Judged, judged, sum_kept, rows_stored}
+use Rattle.locks.proofs.calls.add_lock.Goals as goal
+
+module _ (d : Cells) (a s operations : ℕ) (text : List ℕ) where
+  abbrev q : Request
+  q = AddLock a s operations
+
+  abbrev g : Row
+  g = row_at (table_at d.segments s) 0
+
+  abbrev o : Outcome
+  o = outcome_of (issued (state_of d)) text
+
+  begins : BeginsWithEditor d q text a
+  unfolding conditions
+  begins = (_, refl)
+
+  module _ {n user : ℕ} (u : editor (state_of d) a ≡ some user) (count : n ≡ segments_in d) where
+    unknown_segment : n ≤ s → Serves d q text (Refused NoSegment) d
+    unfolding conditions state_of
+    unknown_segment h = let none = is_segment_lem d s ∙ le-ltb s (segments_in d) (omega arith) in serves_refused d q text (rw (u, none))
+
+    module _ (low : s < n) where
+      here : s < segments_in d
+      here = omega arith
+
+      there : is_segment (state_of d) s ≡ true
+      there = is_segment_lem d s ∙ lt-ltb s (segments_in d) here
+
+      owner_is : owns (state_of d) user s ≡ eqb (cell g owner_cell) user
+      owner_is = ap (λ x. eqb x.owner user) (segment_at_lem d s here)
+
+      kind_is : takes_set (segment_at (state_of d) s).kind operations ≡ takes_set (cell g kind_cell) operations
+      kind_is = ap (λ x. takes_set x.kind operations) (segment_at_lem d s here)
+
+      other : (cell g owner_cell ≡ user → ⊥) → Serves d q text (Refused NotOwner) d
+      unfolding conditions state_of
+      other e = let none = owner_is ∙ ne_eqb _ _ e in serves_refused d q text (rw (u, there, none))
+
+      module _ (e : cell g owner_cell ≡ user) where
+        own : owns (state_of d) user s ≡ true
+        own = owner_is ∙ eq-eqb _ _ e
+
+        unfit : takes_set (cell g kind_cell) operations ≡ false → Serves d q text (Refused Unfit) d
+        unfolding conditions state_of
+        unfit f = let none = kind_is ∙ f in serves_refused d q text (rw (u, there, own, none))
+
+        module _ (f : takes_set (cell g kind_cell) operations ≡ true) {i : Issued} {x : Compiled} (handed : i ≡ issued_in d.registry d.makers) (compiled : x ≡ compiled_of i text) where
+          fit : takes_set (segment_at (state_of d) s).kind operations ≡ true
+          fit = kind_is ∙ f
+
+          outcome : x ≡ compiled_of (issued (state_of d)) text
+          outcome = compiled ∙ ap (λ (j : Issued). compiled_of j text) (handed ∙ sym (issued_is d))
+
+          abbrev t : Table
+          t = table_at d.locks s
+
+          abbrev lock : ℕ
+          lock = cell d.registry lock_count
+
+          status : {v : Status} → x.status ≡ v → Judged o (refusal_number v)
+          status v = judged o (sym (ap (λ (y : Compiled). y.status) outcome) ∙ v)
+
+          full_is : (passes most_standing (length (segment_at (state_of d) s).products + length (sum_in o)) || passes most_numbers (suc lock)) ≡ is_full d.registry t x.count
+          unfolding is_full
+          full_is =
+              ap₂ (λ (k m : ℕ). passes most_standing (k + m) || passes most_numbers (suc lock))
+              (ap (λ y. length y.products) (segment_at_lem d s here) ∙ length-map (used_rows t) product_in)
+              (sym (ap (λ (y : Compiled). y.count) outcome))
+
+          rows_are : rows_from lock operations x ≡ map (product_row lock operations) (sum_in o)
+          rows_are = ap (rows_from lock operations) outcome ∙ rows_stored lock operations (status_of o) (sum_in o) (sum_kept (issued (state_of d)) text)
+
+          same_locks : set d.locks s t ≡ d.locks
+          same_locks = set-get_or d.locks s []
+
+          served : {r : Answer} {registry' : Row} {t' : Table} → LockJudged d.registry t operations x r registry' t'
+              → Serves d q text r (registry_is registry' (locks_are (set d.locks s t') d))
+          unfolding conditions answer store state_of
+          served (malformed_text v) = let j = status v in rw same_locks (serves_refused d q text (rw (u, there, own, fit, j.malformed)))
+          served (wide_text v) = let j = status v in rw same_locks (serves_refused d q text (rw (u, there, own, fit, j.malformed, j.wide)))
+          served (unsatisfiable_text v) = let j = status v in rw same_locks (serves_refused d q text (rw (u, there, own, fit, j.malformed, j.wide, j.unsatisfiable)))
+          served (accepted_text v (full h)) =
+              let j = status v in
+              let most = full_is ∙ h in
+              rw same_locks (serves_refused d q text (rw (u, there, own, fit, j.malformed, j.wide, j.unsatisfiable, most)))
+          served (accepted_text v (stored h)) =
+              let j = status v in
+              let room = full_is ∙ h in
+              serves_accepted d q text (rw (u, there, own, fit, j.malformed, j.wide, j.unsatisfiable, room)) refl
+              (ap (λ (ws : Table). registry_is (count_up d.registry lock_count) (locks_are (set d.locks s (store_rows (length (used_rows t)) ws t)) d)) rows_are)
+
+pub returns-in_default : goal.returns-in_default
+returns-in_default c = λ d. editor_missing _ _ c.editor-editor.ensures (AddLock _ _ _) _ (begins _ _ _ _ _) _ c.in_default.is
+
+pub returns-then-segments-s : goal.returns-then-segments-s
+returns-then-segments-s c =
+    λ d. unknown_segment _ _ _ _ _ (editor_known _ _ c.editor-editor.ensures _ c.in-Accepted.is) c.segments.ensures.count c.if-segments-s.true
+
+pub returns-then-owner-user : goal.returns-then-owner-user
+returns-then-owner-user c =
+    λ d. other _ _ _ _ _ (editor_known _ _ c.editor-editor.ensures _ c.in-Accepted.is) c.segments.ensures.count c.if-segments-s.false c.if-owner-user.true
+
+pub returns-then-not-fits : goal.returns-then-not-fits
+returns-then-not-fits c =
+    λ d. unfit _ _ _ _ _ (editor_known _ _ c.editor-editor.ensures _ c.in-Accepted.is) c.segments.ensures.count c.if-segments-s.false c.if-owner-user.false (test_fails c.fits2.ensures c.if-not-fits.true-raw)
+
+pub judge_lock-requires : goal.judge_lock-requires
+judge_lock-requires c =
+    let a = c.args in
+    operations_low (cell (row_at (table_at a.segments.now a.segment) 0) kind_cell) _ (test_holds c.fits2.ensures c.if-not-fits.false-raw)
+
+pub returns : goal.returns
+returns c =
+    λ d.
+    served _ _ _ _ _ (editor_known _ _ c.editor-editor.ensures _ c.in-Accepted.is) c.segments.ensures.count c.if-segments-s.false c.if-owner-user.false (test_holds c.fits2.ensures c.if-not-fits.false-raw)
+    c.issued.ensures c.compile-compiled.ensures c.judge_lock.ensures

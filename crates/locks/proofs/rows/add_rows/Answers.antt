@@ -1,0 +1,14 @@
+-- The rows so far are stored (`Adding`), and then the end.
+use Prim.Native.Nat.{◌-◌}
+use Rattle.locks.proofs.AddedRows.{adding_start, adding_next, adding_end}
+use borrow.Author.Rules.{rules}
+use Rattle.locks.proofs.rows.add_rows.Goals as goal
+
+pub loop-k-init : goal.loop-k-init
+loop-k-init c = (search rules, adding_start _ _ _)
+
+pub loop-k-preserved : goal.loop-k-preserved
+loop-k-preserved c = (search rules, adding_next c.loop-k.invariant.1 c.product_row.ensures)
+
+pub returns : goal.returns
+returns c = adding_end c.loop-k.invariant.1 (search rules) c.end_rows.ensures

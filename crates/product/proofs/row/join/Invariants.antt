@@ -1,0 +1,11 @@
+-- The loop puts the second row's literals among the first's, one by one (`Uniting`).
+use Prim.Native.Nat.{◌-◌}
+use Rattle.product.proofs.WideRows.{Uniting}
+use Rattle.product.specs.Cells.{product_of}
+use Rattle.product.proofs.row.join.Given as goal
+
+abbrev pub invariant-loop-i : goal.invariant-loop-i
+invariant-loop-i l = Uniting (product_of l.p) l.q l.cells l.n l.i
+
+abbrev pub decreases-loop-i : goal.decreases-loop-i
+decreases-loop-i l = l.m - l.i

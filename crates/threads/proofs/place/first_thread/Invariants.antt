@@ -1,0 +1,14 @@
+-- No place before i is the thread's.
+use mathlib.Core.Path.{◌≡◌}
+use Prim.Native.Nat.{◌-◌}
+use lib.ListN.{length}
+use Rattle.model.specs.State.{is_thread}
+use Rattle.base.proofs.Scans.{Missed}
+use Rattle.threads.proofs.PlaceScan.{place_of}
+use Rattle.threads.proofs.place.first_thread.Given as goal
+
+abbrev pub invariant-loop-i : goal.invariant-loop-i
+invariant-loop-i l = ((l.places ≡ length l.threads) × (l.places ≡ 64)) × Missed (is_thread l.number) (place_of l.threads) l.places l.i
+
+abbrev pub decreases-loop-i : goal.decreases-loop-i
+decreases-loop-i l = l.places - l.i
