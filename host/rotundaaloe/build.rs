@@ -1,5 +1,5 @@
 //! Links the proved guard's static library. It stands in `target/staticlib` at
-//! the top of the repository, where `rt staticlib abi` puts it as `libabi.a`,
+//! the top of the repository, where `host/build` puts it as `libabi.a`,
 //! unless `ROTUNDAALOE_LIB_DIR` names another directory, an absolute one: that
 //! of an installed `librotundaaloe.a`, or of another `libabi.a`.
 
@@ -23,7 +23,7 @@ fn main() {
     };
     if !file(name).exists() {
         println!(
-            "cargo::error={} is missing: run `rt staticlib abi` at the top of the repository, \
+            "cargo::error={} is missing: run `host/build` at the top of the repository, \
              or set {DIRECTORY_VARIABLE} to an absolute directory",
             file(name).display()
         );

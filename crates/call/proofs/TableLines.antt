@@ -4,7 +4,6 @@ use mathlib.Core.Bool.{Bool, true, false, cond, ◌&&◌}
 use mathlib.Core.List.{List, [], ◌∷◌}
 use Prim.Native.Nat.{ℕ}
 use lib.Dec.{eqb}
-use borrow.Author.Tests.{ne_eqb}
 use Rattle.call.specs.declared.request.Request.{Request}
 use Rattle.call.specs.declared.request.Line.{Line}
 use Rattle.call.specs.declared.request.Line.TheVariants.{Of, Unknown}
@@ -41,25 +40,3 @@ module _ (letter a b c n : ℕ) where
 
     pub unfit : z && text_named letter n ≡ false → Corrupt ≡ decoded_of letter a b c n
     unfit h = rw h at line_decodes
-
--- ---- no line
-
-module _ (letter : ℕ) where
-  -- the letter is none of the rows', said beside what was said before them
-  abbrev Unlisted : Type 0 → List TableRow → Type 0
-  Unlisted before [] = before
-  Unlisted before (r ∷ rs) = Unlisted (before × (letter ≡ r.letter → ⊥)) rs
-
-  said_before : (A : Type 0) (rs : List TableRow) → Unlisted A rs → A
-  said_before A [] u = u
-  said_before A (r ∷ rs) u = (said_before (A × (letter ≡ r.letter → ⊥)) rs u).0
-
-  in_none : (A : Type 0) (rs : List TableRow) → Unlisted A rs → Unknown ≡ line_in rs letter
-  in_none A [] u = refl
-  in_none A (r ∷ rs) u =
-      let before = A × (letter ≡ r.letter → ⊥) in
-      rw (ne_eqb letter r.letter (said_before before rs u).1) (in_none before rs u)
-
-pub unlisted : (letter a b c : ℕ) → Unlisted letter (Unit {0}) (table a b c) → Unknown ≡ line_of letter a b c
-unfolding line_of
-unlisted letter a b c u = in_none letter (Unit {0}) (table a b c) u

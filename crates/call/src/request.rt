@@ -66,6 +66,7 @@ enum Line {
     Unknown,
 }
 
+#[tactic(auto, unfolding(crate::specs::Internal::line_of))]
 fn find_line(letter: u8, a: u16, b: u16, c: u16) -> Line
     ensures { result ≡ line_of letter a b c }
 {

@@ -1,7 +1,7 @@
 -- One turn of each loop: what is left to ask answers what the whole does. Frames and literals are asked downwards, rows
 -- upwards with the longest grant row found on the way.
 use mathlib.Core.Path.{◌≡◌, refl, sym, ap, subst, ◌∙◌}
-use mathlib.Core.Bool.{Bool, true, false, ◌&&◌, ◌||◌, not, cond}
+use mathlib.Core.Bool.{Bool, true, false, ◌&&◌, ◌||◌, cond}
 use mathlib.Core.List.{[], ◌∷◌, ◌++◌}
 use Prim.Native.Nat.{ℕ, suc, ◌+◌, ◌-◌, ◌≤◌, ◌<◌, min}
 use native.Mathlib.Omega.{arith}
@@ -11,7 +11,7 @@ use borrow.Author.Tests.{eq-eqb, ne_eqb}
 use Rattle.product.specs.declared.literal.Literal.{Literal}
 use Rattle.product.specs.Atom.{agrees, atom_of}
 use Rattle.product.specs.Product.{Product, opens}
-use Rattle.base.specs.Lists.{first, each}
+use Rattle.base.specs.Lists.{each}
 use Rattle.model.specs.Limits.{most_frames}
 use Rattle.model.specs.Threads.{KeySet}
 use Rattle.model.specs.Operations.{shares, deny}

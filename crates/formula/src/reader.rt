@@ -24,7 +24,7 @@ pub(crate) enum Read {
 }
 
 // A whole formula: parts joined by `|`.
-#[cycle(more_and_more_or_read_and_read_bracket_read_not_read_or)]
+#[cycle(readers)]
 pub(crate) fn read_or(
     text: &[u8],
     at: usize,
@@ -43,7 +43,7 @@ pub(crate) fn read_or(
 }
 
 // The rest of it: the part to the left ends at `at`, and its products are the first `count` rows.
-#[cycle(more_and_more_or_read_and_read_bracket_read_not_read_or)]
+#[cycle(readers)]
 fn more_or(
     text: &[u8],
     at: usize,
@@ -68,7 +68,7 @@ fn more_or(
 }
 
 // Parts joined by `&`.
-#[cycle(more_and_more_or_read_and_read_bracket_read_not_read_or)]
+#[cycle(readers)]
 fn read_and(
     text: &[u8],
     at: usize,
@@ -87,7 +87,7 @@ fn read_and(
 }
 
 // The rest of it, in the same way.
-#[cycle(more_and_more_or_read_and_read_bracket_read_not_read_or)]
+#[cycle(readers)]
 fn more_and(
     text: &[u8],
     at: usize,
@@ -112,7 +112,7 @@ fn more_and(
 }
 
 // A key, a bracket or a NOT.
-#[cycle(more_and_more_or_read_and_read_bracket_read_not_read_or)]
+#[cycle(readers)]
 fn read_not(
     text: &[u8],
     at: usize,
@@ -134,7 +134,7 @@ fn read_not(
 }
 
 // A whole formula and its closing bracket, the opening one just read.
-#[cycle(more_and_more_or_read_and_read_bracket_read_not_read_or)]
+#[cycle(readers)]
 fn read_bracket(
     text: &[u8],
     at: usize,

@@ -1,7 +1,7 @@
 -- The cases of `append_answer`, in the order in which the code tells them apart, and what an accepted append knows.
-use Prim.Native.Nat.{ℕ, ◌+◌, ◌<◌, ◌≤◌}
+use Prim.Native.Nat.{ℕ, ◌<◌, ◌≤◌}
 use mathlib.Core.Path.{◌≡◌, sym, ap, ◌∙◌}
-use mathlib.Core.Bool.{Bool, true, false, not, ◌||◌}
+use mathlib.Core.Bool.{Bool, true, false, ◌||◌}
 use mathlib.Core.List.{List, ◌++◌}
 use lib.ListN.{length, take}
 use lib.Dec.{ltb}
@@ -38,10 +38,10 @@ module _ (d : List ℕ) (len : ℕ) (r : Call) where
       file_passed = within ∙ ap (answer (length_with len r)) (first_later (file_conditions (take len d)) (own_conditions d len r) (readable_none _ (sym h)))
 
       module _ (p : Bool) (e : p ≡ is_fit r) where
-        pub unfit : not p ≡ true → Declined Corrupt ≡ append_answer d len r
+        pub unfit : p ≡ false → Declined Corrupt ≡ append_answer d len r
         unfit n = sym (file_passed ∙ rw (← e, n))
 
-        module _ (fit : not p ≡ false) where
+        module _ (fit : p ≡ true) where
           pub no_room_lem : ltb (length d) (length_with len r) || ltb most_bytes (length_with len r) ≡ true → Declined Full ≡ append_answer d len r
           no_room_lem n = sym (file_passed ∙ rw (← e, fit, n))
 

@@ -1,7 +1,7 @@
 -- Every append is one of the five cases, and each case has its answer; so the answer tells the case.
 use Prim.Native.Nat.{ℕ, ◌<◌, ◌≤◌}
 use mathlib.Core.Path.{◌≡◌, refl, sym, ap, subst, ◌∙◌}
-use mathlib.Core.Bool.{Bool, true, false, not, ◌||◌, or-true}
+use mathlib.Core.Bool.{Bool, true, false, ◌||◌, or-true}
 use mathlib.Core.List.{List}
 use mathlib.Core.Logic.{◌⊎◌, inl, inr}
 use native.Mathlib.Omega.{arith}
@@ -31,8 +31,8 @@ module _ (d : List ℕ) (len : ℕ) (r : Call) where
   declined : {f : Refusal} → DeclinedBy d len r f → append_answer d len r ≡ Declined f
   declined (beyond h) = sym (cases.beyond d len r h)
   declined (file f i h) = sym (cases.file_refused d len r i f (sym h))
-  declined (unfit i h n) = sym (cases.unfit d len r i (sym h) (is_fit r) refl (ap not n))
-  declined (full i h y n) = sym (cases.no_room d len r i (sym h) (is_fit r) refl (ap not y) (too_long_lem n))
+  declined (unfit i h n) = sym (cases.unfit d len r i (sym h) (is_fit r) refl n)
+  declined (full i h y n) = sym (cases.no_room_lem d len r i (sym h) (is_fit r) refl y (too_long_lem n))
 
   -- ---- every append is one of them, or accepted
 
@@ -42,7 +42,7 @@ module _ (d : List ℕ) (len : ℕ) (r : Call) where
   by_room : len ≤ length d → verdict_of (take len d) ≡ Readable → is_fit r ≡ true → (x y : Bool) → ltb (length d) (length_with len r) ≡ x → ltb most_bytes (length_with len r) ≡ y → Case
   by_room i h fit true y e g = inl (Full, full i h fit (inl (ltb-true (length d) (length_with len r) e)))
   by_room i h fit false true e g = inl (Full, full i h fit (inr (ltb-true most_bytes (length_with len r) g)))
-  by_room i h fit false false e g = inr (sym (cases.accepts d len r i (sym h) (is_fit r) refl (ap not fit) (rw (e, g))))
+  by_room i h fit false false e g = inr (sym (cases.accepts d len r i (sym h) (is_fit r) refl fit (rw (e, g))))
 
   by_fit : len ≤ length d → verdict_of (take len d) ≡ Readable → (x : Bool) → is_fit r ≡ x → Case
   by_fit i h true e = by_room i h e (ltb (length d) (length_with len r)) (ltb most_bytes (length_with len r)) refl refl
@@ -70,6 +70,6 @@ pub accepted_exactly : AcceptedExactly
 accepted_exactly d len r n = (
   λ h. let ok = accepted d len r n h in
       record { inside = ok.inside; readable = shut_file (take len d) ok.file; fit = ok.fit; room = ok.room; most = ok.most; size = new_length d len r n h },
-  λ t. sym (cases.accepts d len r t.inside (sym t.readable) (is_fit r) refl (ap not t.fit)
+  λ t. sym (cases.accepts d len r t.inside (sym t.readable) (is_fit r) refl t.fit
       (rw (le-ltb (length d) (length_with len r) t.room, le-ltb most_bytes (length_with len r) t.most))) ∙ ap Length (sym t.size),
 )

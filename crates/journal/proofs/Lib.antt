@@ -9,7 +9,6 @@ pub mod Examples
 pub mod ByteLists
 pub mod AppendAnswers
 pub mod FileVerdicts
-pub mod ReaderParts
 pub mod RecordSizes
 pub mod StoredBytes
 pub mod Unfoldings

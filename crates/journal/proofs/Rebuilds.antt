@@ -2,7 +2,7 @@
 -- the record over the front of q; by induction so does a list of them.
 use Prim.Native.Nat.{ℕ, ◌+◌, ◌-◌, ◌≤◌}
 use mathlib.Core.Path.{◌≡◌, refl, sym, ap, subst, subst₂, ◌∙◌}
-use mathlib.Core.Bool.{true, false, not, ◌||◌}
+use mathlib.Core.Bool.{true, false, ◌||◌}
 use mathlib.Core.List.{List, [], ◌∷◌, ◌++◌, append-nil, append_assoc}
 use native.Mathlib.Omega.{arith}
 use lib.ListN.{length, take, drop, length-append, length-drop, take-append-drop}
@@ -92,7 +92,7 @@ module _ (d : List ℕ) (ps : List Call) (r : Call) (room : length (file_bytes (
       let full : ltb (length x.bytes) (length_with (length file) r) || ltb most_bytes (length_with (length file) r) ≡ false =
       rw (le-ltb (length x.bytes) (length_with (length file) r) (omega arith), le-ltb most_bytes (length_with (length file) r) (omega arith)) in
       let readable : verdict_of (take (length file) x.bytes) ≡ Readable = rw (take-append_seam file (drop (length file) d)) (fit_readable ps vs (omega (arith, snoc_length ps r))) in
-      sym (accepts x.bytes x.len r (omega (arith, snoc_length ps r)) (sym readable) (is_fit r) refl (ap not v) full) ∙ ap Length e
+      sym (accepts x.bytes x.len r (omega (arith, snoc_length ps r)) (sym readable) (is_fit r) refl v full) ∙ ap Length e
 
 -- ---- a list of records
 

@@ -2,13 +2,13 @@
 -- record; the cases of `found_at`; and a turn of the loop over a file's records.
 use Prim.Native.Nat.{ℕ, zero, suc, ◌+◌, ◌-◌, ◌<◌, ◌≤◌}
 use mathlib.Core.Path.{◌≡◌, refl, sym, ◌∙◌}
-use mathlib.Core.Bool.{Bool, true, false, cond, not}
+use mathlib.Core.Bool.{Bool, true, false, cond}
 use mathlib.Core.List.{List}
 use mathlib.Core.Logic.{◌≢◌}
 use native.Mathlib.Omega.{arith}
 use lib.ListN.{length, get_or}
 use lib.Dec.{eqb}
-use borrow.Author.Tests.{lt-leb, le-leb, not-true, not-false}
+use borrow.Author.Tests.{lt-leb, le-leb}
 use Rattle.call.specs.Calls.{record_fits}
 use Rattle.journal.specs.declared.record.Found.TheVariants.{Record, End, Damaged}
 use Rattle.journal.specs.Reading.{word, next_of, whole_at, entry_of, found_at, whole_from}
@@ -25,17 +25,17 @@ module _ (s : List ℕ) (at : ℕ) where
   module _ (a b c n : ℕ) (head : at + 9 ≤ length s)
       (ea : a ≡ word s (at + 1)) (eb : b ≡ word s (at + 3)) (ec : c ≡ word s (at + 5)) (en : n ≡ word s (at + 7))
       (p : Bool) (e : p ≡ record_fits (get_or s at 0) a b c n) where
-    pub unfit : not p ≡ true → 0 ≡ size_at s at
+    pub unfit : p ≡ false → 0 ≡ size_at s at
     unfolding size_at whole_at
-    unfit h = simp (le-leb (at + 9) (length s) head, ← ea, ← eb, ← ec, ← en, ← e, not-true p h)
+    unfit h = simp (le-leb (at + 9) (length s) head, ← ea, ← eb, ← ec, ← en, ← e, h)
 
-    pub text_cut : not p ≡ false → length s < at + 9 + n → 0 ≡ size_at s at
+    pub text_cut : p ≡ true → length s < at + 9 + n → 0 ≡ size_at s at
     unfolding size_at whole_at
-    text_cut fit h = simp (le-leb (at + 9) (length s) head, ← ea, ← eb, ← ec, ← en, ← e, not-false p fit, lt-leb (at + 9 + n) (length s) h)
+    text_cut fit h = simp (le-leb (at + 9) (length s) head, ← ea, ← eb, ← ec, ← en, ← e, fit, lt-leb (at + 9 + n) (length s) h)
 
-    pub is_whole : not p ≡ false → at + 9 + n ≤ length s → 9 + n ≡ size_at s at
+    pub is_whole : p ≡ true → at + 9 + n ≤ length s → 9 + n ≡ size_at s at
     unfolding size_at whole_at
-    is_whole fit h = simp (le-leb (at + 9) (length s) head, ← ea, ← eb, ← ec, ← en, ← e, not-false p fit, le-leb (at + 9 + n) (length s) h)
+    is_whole fit h = simp (le-leb (at + 9) (length s) head, ← ea, ← eb, ← ec, ← en, ← e, fit, le-leb (at + 9 + n) (length s) h)
 
   -- ---- what the size says
 

@@ -3,14 +3,14 @@ use mathlib.Core.Path.{◌≡◌, refl, sym, ap, ◌∙◌}
 use mathlib.Core.List.{List, ◌++◌, map}
 use mathlib.Core.Option.{Option, none, some}
 use Prim.Native.Nat.{ℕ}
-use lib.ListN.{length, take, drop, length-map}
+use lib.ListN.{length, drop, length-map}
 use lib.Seq.{take-append_seam}
 use Rattle.base.specs.Conditions.{first_refusal}
 use Rattle.model.specs.declared.answer.Refusal.{Refusal}
 use Rattle.model.specs.declared.answer.Answer.TheVariants.{Accepted}
 use Rattle.rows.specs.declared.row.Row.{Row}
 use Rattle.rows.specs.Rows.{rows_for}
-use Rattle.rows.specs.Listing.{list_conditions, Listed, listed_by, listed}
+use Rattle.rows.specs.Listing.{list_conditions, listed_by, listed}
 use Rattle.listing.specs.Numbers.{row_numbers, listed_numbers}
 use Rattle.listing.specs.Theorems.InNumbers.{told, InNumbers}
 

@@ -1,5 +1,5 @@
 -- A row of a lock list in numbers, seven times three of them, and a listing in such rows.
-use Rattle.std.specs.Prelude.{◌≡◌, Bool, cond, List, [], ◌∷◌, map, ℕ, length}
+use Rattle.std.specs.Prelude.{cond, List, [], ◌∷◌, map, ℕ, length}
 use Rattle.product.specs.declared.literal.Key.{Key}
 use Rattle.product.specs.declared.literal.Literal.{Literal}
 use Rattle.product.specs.declared.literal.Literal.TheVariants.{Plain, Barred}

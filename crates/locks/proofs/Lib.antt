@@ -1,4 +1,3 @@
-pub mod Tests
 pub mod LiteralCells
 pub mod AddedRows
 pub mod CompiledRows

@@ -5,7 +5,7 @@ use mathlib.Core.List.{[], ◌∷◌, ◌++◌, map, append_assoc}
 use Prim.Native.Nat.{ℕ, zero, suc, ◌+◌, ◌-◌, ◌*◌, ◌≤◌, ◌<◌}
 use native.Mathlib.Omega.{arith}
 use lib.Dec.{ltb}
-use lib.ListN.{length, get_or, replicate, length-append, length-map, length-replicate, replicate_append_replicate}
+use lib.ListN.{length, get_or, replicate, length-append, length-map, length-replicate, replicate-append-replicate}
 use lib.Seq.{get_or_at}
 use borrow.Author.Tests.{lt-ltb, le-ltb, ltb-true, ltb-false}
 use Rattle.product.specs.declared.literal.Key.{Key}
@@ -87,7 +87,7 @@ cells_stored : (p : Product) (rest : Row) → All Numbered p → length p ≤ 6
 cells_stored p rest all short =
     let one : 6 - length p + 1 ≡ 7 - length p = omega arith in
     let zeros : ◌≡◌ {A = Row} (replicate (6 - length p) 0 ++ 0 ∷ []) (replicate (7 - length p) 0) =
-    replicate_append_replicate (6 - length p) 1 0 ∙ ap (λ (k : ℕ). replicate k 0) one in
+    replicate-append-replicate (6 - length p) 1 0 ∙ ap (λ (k : ℕ). replicate k 0) one in
     ap (λ (cs : Row). cs ++ 0 ∷ []) (literals_stored p rest 6 all short)
     ∙ append_assoc (map literal_cell p) (replicate (6 - length p) 0) (0 ∷ [])
     ∙ ap (λ (cs : Row). map literal_cell p ++ cs) zeros

@@ -176,7 +176,8 @@ signed plain k = cond plain (Plain k) (Barred k)
 abbrev pub literal_in : ℕ → Literal
 literal_in x =
     cond (ltb x listed_cells) (signed (ltb x barred_listed) (key_in (x % barred_listed)))
-    (signed (eqb (x / barred_own % 2) 0) (cond (ltb x thread_cells) (User (x % barred_own)) (ThreadKey (x % barred_own))))
+    (signed (eqb (x / barred_own % 2) 0)
+    (cond (ltb x thread_cells) (User (x % barred_own)) (ThreadKey (x % barred_own))))
 
 -- ---- product rows
 

@@ -40,7 +40,8 @@ literal_count r = length r.product
 -- lower lock number.' Of the products that open for thread a, of the grant locks on segment b that stand for operation
 -- n, the longest, and the first of equal ones.
 unfoldable pub tightest_product : State → ℕ → ℕ → ℕ → Option LockProduct
-tightest_product d a b n = greatest literal_count (keep (opens_for grants n (thread_keys d a)) (segment_at d b).products)
+tightest_product d a b n =
+    greatest literal_count (keep (opens_for grants n (thread_keys d a)) (segment_at d b).products)
 
 abbrev pub lock_of : Option LockProduct → ℕ
 lock_of o = or_default 0 (λ r. r.lock) o

@@ -137,7 +137,8 @@ module _ (compile : Compiler) where
 
   abbrev pub step_cells_decoded : Cells → Decoded → List ℕ → record { cells : Cells; answer : Answer }
   step_cells_decoded d NotWellFormed text = record { cells = d; answer = Refused Corrupt }
-  step_cells_decoded d (WellFormed q) text = judged_cells d q text (first_refusal (conditions compile (state_of d) q text))
+  step_cells_decoded d (WellFormed q) text =
+      judged_cells d q text (first_refusal (conditions compile (state_of d) q text))
 
   unfoldable pub step_cells : Cells → Call → record { cells : Cells; answer : Answer }
   step_cells d x = step_cells_decoded d (decoded x) x.text

@@ -34,7 +34,7 @@ module _ {P : Literal → Type 0} where
   pub all_union : {p q : Product} → All P p → All P q → All P (union p q)
   unfolding union
   all_union h no_more = h
-  all_union h (and_more {x} k r) = all_union (all_insert x k h) r
+  all_union {p} h (and_more {x} k r) = all_union {p = insert x p} (all_insert x k h) r
 
 -- products
 
@@ -51,7 +51,8 @@ module _ {P : Product → Type 0} where
   pub all_firsts : {found ps : Sum} → All P found → All P ps → All P (firsts found ps)
   unfolding firsts
   all_firsts h no_more = h
-  all_firsts {found} h (and_more {x = p} k r) = all_firsts (go (present p found)) r
+  all_firsts {found} h (and_more {x = p} k r) =
+      all_firsts {found = cond (present p found) found (found ++ p ∷ [])} (go (present p found)) r
     where
       go : (b : Bool) → All P (cond b found (found ++ p ∷ []))
       go true = h

@@ -50,7 +50,7 @@ rising_insert x (more {x = y} {p} a r) = go (λ z. rising_insert z r) (compare_l
 rising_union : {p : Product} (q : Product) → Rising p → Rising (union p q)
 unfolding union
 rising_union [] r = r
-rising_union (x ∷ q) r = rising_union q (rising_insert x r)
+rising_union {p} (x ∷ q) r = rising_union {p = insert x p} q (rising_insert x r)
 
 -- rising keys are rising literals
 

@@ -2,7 +2,11 @@
 // for each of its records, or the file's refusal.
 #![tactic(auto)]
 
-use libc::{STDERR_FILENO, STDIN_FILENO, STDOUT_FILENO};
+ghost use Rattle.std.specs.Prelude.{◌≤◌, IfOk, length};
+
+use std::env::{Env, FillError};
+use std::io;
+use std::io::{Read, Stderr, Write};
 use transcript::{MOST_PRINTED, transcript};
 
 // One byte more than the most of a file: a longer one prints the same as its first 65,536 bytes (`Enough` of
@@ -12,49 +16,56 @@ const MOST_READ: usize = 65536;
 // Of a longer argument no letter is shown.
 const MOST_SHOWN: usize = 4096;
 
-fn main() {
-    tell_ignored();
+fn main(rt: HostRuntime) {
+    tell_ignored(&rt);
+    let mut errors = rt.stderr();
     let mut input = [0u8; MOST_READ];
-    let size = io::read_full(STDIN_FILENO, &mut input);
-    if size < MOST_READ {
-        if !is_ended() {
-            io::write_all(STDERR_FILENO, b"standard input can't be read\n");
-            return;
-        }
-    }
+    let Ok(size) = read_full(&rt, &mut input) else {
+        let _told = errors.write_all(b"standard input can't be read\n");
+        return;
+    };
     let mut output = [0u8; MOST_PRINTED];
     let printed = transcript(&input[..size], &mut output);
-    if !io::write_all(STDOUT_FILENO, &output[..printed]) {
-        io::write_all(STDERR_FILENO, b"standard output can't be written\n");
+    let mut out = rt.stdout();
+    if out.write_all(&output[..printed]).is_err() {
+        let _told = errors.write_all(b"standard output can't be written\n");
     }
 }
 
-// Whether the input ends here. `read_full` stops at a read that fails as it does at the end.
-fn is_ended() -> bool {
-    let mut byte = [0u8; 1];
-    libc::read(STDIN_FILENO, &mut byte) == 0
+// Reads until the buffer is full or the input ends, and answers how many bytes it put at the buffer's start.
+fn read_full(rt: &HostRuntime, buffer: &mut [u8]) -> io::Result<usize>
+    ensures { IfOk result (λ n. n ≤ length buffer.new) }
+{
+    let mut input = rt.stdin();
+    let mut done = 0;
+    while done < buffer.len() {
+        let n = input.read(&mut buffer[done..])?;
+        if n == 0 {
+            break;
+        }
+        done += n;
+    }
+    Ok(done)
 }
 
 // The arguments, which the program doesn't take, are named on standard error.
-fn tell_ignored() {
-    let count = os::arg_count();
-    let mut i = 1;
-    while i < count {
-        tell(i);
-        i += 1;
+fn tell_ignored(rt: &HostRuntime) {
+    let mut errors = rt.stderr();
+    for i in 1..usize::MAX {
+        let mut name = [0u8; MOST_SHOWN];
+        match rt.arg(i, &mut name) {
+            Ok(length) => tell(&mut errors, &mut name[..length]),
+            Err(FillError::TooLong) => tell(&mut errors, &mut name[..0]),
+            Err(FillError::NotPresent) => break,
+        }
     }
 }
 
-fn tell(i: usize) {
-    let mut name = [0u8; MOST_SHOWN];
-    let length = os::arg(i, &mut name);
-    make_plain(&mut name);
-    io::write_all(
-        STDERR_FILENO,
-        b"replay reads standard input alone, and ignores the argument: ",
-    );
-    io::write_all(STDERR_FILENO, &name[..length]);
-    io::write_all(STDERR_FILENO, b"\n");
+fn tell(errors: &mut Stderr, name: &mut [u8]) {
+    make_plain(name);
+    let _told = errors.write_all(b"replay reads standard input alone, and ignores the argument: ");
+    let _told = errors.write_all(name);
+    let _told = errors.write_all(b"\n");
 }
 
 // No byte that a terminal takes for a command.

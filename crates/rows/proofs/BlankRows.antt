@@ -1,19 +1,18 @@
 -- What anyone but the owner sees of a segment's products depends on the locks' numbers and operations alone: each lock
 -- has at least one product, and of those that follow each other with one number the first counts.
-use mathlib.Core.Path.{◌≡◌, refl, sym, ap, ◌∙◌}
-use mathlib.Core.Bool.{Bool, true, false, not, ◌&&◌}
+use mathlib.Core.Path.{◌≡◌, refl, ap, ◌∙◌}
+use mathlib.Core.Bool.{true, not}
 use mathlib.Core.List.{List, [], ◌∷◌, ◌++◌, map}
-use Prim.Native.Nat.{ℕ, ◌≤◌, ◌<◌}
+use Prim.Native.Nat.{ℕ}
 use native.Mathlib.Omega.{arith}
 use lib.Dec.{eqb, ltb}
-use lib.ListN.{length}
 use borrow.Author.Tests.{ltb-true, ne_eqb}
 use Rattle.product.specs.Product.{Product}
 use Rattle.product.specs.Sum.{Sum}
 use Rattle.base.specs.Lists.{keep_if, concat_map, rising}
 use Rattle.base.proofs.Lists.{All, eqb_self, map_keep_if}
 use Rattle.base.proofs.Truth.{and_left, and_right}
-use Rattle.model.specs.State.{LockProduct, is_of_lock}
+use Rattle.model.specs.State.{LockProduct}
 use Rattle.model.specs.Effects.{lock_product}
 use Rattle.rows.specs.declared.row.Row.{Row}
 use Rattle.rows.specs.Rows.{list_row, row_without_keys, firsts_after, firsts_of}

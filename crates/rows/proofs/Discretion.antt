@@ -5,22 +5,19 @@ use mathlib.Core.Bool.{Bool, true, false, ◌&&◌}
 use mathlib.Core.List.{List, [], ◌∷◌, map}
 use Prim.Native.Nat.{ℕ, zero, suc}
 use lib.Dec.{eqb, ltb}
-use lib.ListN.{length, get_or, set, length-set}
+use lib.ListN.{get_or, set, length-set}
 use Rattle.product.specs.Sum.{Sum}
 use Rattle.formula.specs.Outcome.{outcome_of}
-use Rattle.call.specs.Calls.{Call}
-use Rattle.call.specs.Letters as letters
 use Rattle.base.specs.Lists.{keep, concat_map, is_some}
 use Rattle.base.proofs.Lists.{All, keep_map, map_map}
 use Rattle.model.specs.State.{LockProduct, Segment, State, blank_segment, segment_at, is_user, is_segment, owns}
 use Rattle.model.specs.Effects.{with_products}
-use Rattle.model.specs.History.{Event, Entry, Lock, history, accepted_of}
+use Rattle.model.specs.History.{Event, Lock, history}
 use Rattle.model.specs.HistoryLocks.{stands_on, locks_on}
 use Rattle.model.specs.Replay.{events}
-use Rattle.rows.specs.declared.row.Row.{Row}
 use Rattle.rows.specs.Rows.{row_without_keys, firsts_of, rows_for}
 use Rattle.rows.specs.Listing.{listed}
-use Rattle.rows.specs.Theorems.FromHistory.{owns_in, rows_from, listed_from}
+use Rattle.rows.specs.Theorems.FromHistory.{owns_in, rows_from}
 use Rattle.rows.specs.Theorems.FromHistory.{lock_blank}
 use Rattle.rows.specs.Theorems.Discretion.{StandingLock, products_in, with_standing, head_of, Discreet, textless, SameButTexts, DiscreetCalls, Discretion}
 use Rattle.rows.proofs.BlankRows.{Filled, blanks_of_lem, blanks_of}

@@ -4,7 +4,7 @@ use mathlib.Core.Path.{◌≡◌, refl, sym, ap, ◌∙◌}
 use mathlib.Core.Bool.{true, false}
 use mathlib.Core.List.{List, [], ◌∷◌, map, Memᴰ}
 use mathlib.Core.Option.{some}
-use Prim.Native.Nat.{ℕ, ◌≤◌, ◌<◌}
+use Prim.Native.Nat.{ℕ, ◌≤◌}
 use native.Mathlib.Omega.{arith}
 use lib.Dec.{eqb, ltb}
 use lib.ListN.{length}
@@ -16,15 +16,14 @@ use Rattle.formula.specs.Meaning.{text_holds}
 use Rattle.formula.specs.Compiler.{everything}
 use Rattle.formula.proofs.Opening.{laws}
 use Rattle.call.specs.Calls.{Call, call_with}
-use Rattle.call.specs.Letters as letters
-use Rattle.base.specs.Lists.{keep, concat_map, is_some, rising}
+use Rattle.base.specs.Lists.{concat_map, rising}
 use Rattle.base.proofs.Lists.{All, All-keep, all_members, is_some_some, map_map, map_concat_map, rising_keep}
 use Rattle.formula.specs.declared.text.Issued.{Issued}
-use Rattle.model.specs.State.{State, LockProduct, is_user, is_segment, owns, segment_at}
+use Rattle.model.specs.State.{State, LockProduct, owns, segment_at}
 use Rattle.model.specs.Effects.{lock_product}
 use Rattle.model.specs.Cells.{state_of}
-use Rattle.model.specs.History.{Event, Entry, Lock, history, accepted_of}
-use Rattle.model.specs.HistoryLocks.{stands_on, locks_on, products_of, stored_of, stored_for}
+use Rattle.model.specs.History.{Event, Entry, Lock, history}
+use Rattle.model.specs.HistoryLocks.{stands_on, locks_on, products_of, stored_of}
 use Rattle.model.specs.Replay.{reached, events}
 use Rattle.model.specs.Theorems.Mirror.{Mirrors}
 use Rattle.model.specs.Theorems.StoredLocks.{Stores}
@@ -34,9 +33,9 @@ use Rattle.model.proofs.Agreement.Numbering.{numbering}
 use Rattle.rows.specs.declared.row.Row.{Row}
 use Rattle.rows.specs.Rows.{list_row, row_with_keys, row_without_keys, firsts_of, rows_for}
 use Rattle.rows.specs.Listing.{listed}
-use Rattle.rows.specs.Theorems.FromHistory.{owns_in, lock_row, shown_rows, rows_from, listed_from, SpeltProducts, FromHistory}
+use Rattle.rows.specs.Theorems.FromHistory.{shown_rows, rows_from, listed_from, SpeltProducts, FromHistory}
 use Rattle.rows.specs.Theorems.FromHistory.{lock_blank}
-use Rattle.rows.proofs.BlankRows.{Filled, head, blanks_of_lem, blanks_of, rising_blanks}
+use Rattle.rows.proofs.BlankRows.{Filled, head, blanks_of_lem, rising_blanks}
 use Rattle.rows.proofs.SameListings.{same_listing}
 
 -- ---- after a list of calls

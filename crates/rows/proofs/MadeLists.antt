@@ -1,8 +1,8 @@
 -- What the tests that the row maker makes on the arrays say: a refusal is the first condition that holds, and else the
 -- rows of the segment's table are those for the user.
 use mathlib.Core.Path.{◌≡◌, refl, sym, ap, ◌∙◌}
-use mathlib.Core.Bool.{Bool, true, false}
-use mathlib.Core.List.{List, []}
+use mathlib.Core.Bool.{true, false}
+use mathlib.Core.List.{List}
 use mathlib.Core.Option.{Option, none, some}
 use Prim.Native.Nat.{ℕ, ◌≤◌, ◌<◌}
 use native.Mathlib.Omega.{arith}
@@ -14,7 +14,7 @@ use Rattle.model.specs.declared.answer.Refusal.{Refusal}
 use Rattle.model.specs.declared.answer.Refusal.TheVariants.{UnknownUser, NoSegment, TooFewRows}
 use Rattle.model.specs.declared.answer.Answer.TheVariants.{Accepted}
 use Rattle.model.specs.Limits.{most_standing}
-use Rattle.model.specs.State.{segment_at, is_segment}
+use Rattle.model.specs.State.{is_segment}
 use Rattle.model.specs.Cells.{Cells, cell, row_at, table_at, user_count, owner_cell, state_of, empty_cells}
 use Rattle.model.proofs.Refinement.ServedCalls.{segments_in, is_segment_lem, segment_at_lem}
 use Rattle.rows.specs.declared.row.Row.{Row}

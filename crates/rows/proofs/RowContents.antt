@@ -1,13 +1,13 @@
 -- Operation set by operation set, and by the number of literals.
 use mathlib.Core.Path.{◌≡◌, refl}
 use mathlib.Core.Bool.{cond}
-use mathlib.Core.List.{List, [], ◌∷◌}
+use mathlib.Core.List.{[], ◌∷◌}
 use Prim.Native.Nat.{ℕ, zero, suc, ◌+◌, ◌%◌, ◌≤◌, ◌<◌}
 use native.Mathlib.Omega.{arith}
 use lib.ListN.{length}
 use Rattle.product.specs.Product.{Product}
 use Rattle.model.specs.Operations.{deny, includes}
-use Rattle.rows.specs.Rows.{list_row, slots_of}
+use Rattle.rows.specs.Rows.{slots_of}
 use Rattle.rows.specs.Theorems.RowContents.{signed_in, RowContents}
 
 -- a set below 16 is its operations and its deny

@@ -7,7 +7,7 @@ use native.Mathlib.Numerals.{add-one}
 use native.Mathlib.Omega.{arith}
 use lib.Dec.{eqb}
 use lib.Dec.{eqb-suc-zero}
-use lib.ListN.{length, get_or, set, drop, replicate, length-append, length-replicate, length-set, drop_of_length-le}
+use lib.ListN.{length, set, drop, replicate, length-append, length-replicate, length-set, drop_of_length-le}
 use lib.Seq.{drop-cons, set-append_seam}
 use borrow.Author.Tests.{eq-eqb, ne_eqb}
 use Rattle.base.specs.Lists.{keep_if}
@@ -16,10 +16,9 @@ use Rattle.model.specs.declared.answer.Refusal.{Refusal}
 use Rattle.model.specs.declared.answer.Answer.TheVariants.{Refused}
 use Rattle.model.specs.Limits.{most_standing}
 use Rattle.model.specs.State.{LockProduct, is_of_lock}
-use Rattle.model.specs.Cells.{Row as Cells-as-Row, Table, cell, row_at, lock_unit, is_used, used_rows, product_in}
+use Rattle.model.specs.Cells.{Row as CellsRow, Table, cell, row_at, lock_unit, is_used, used_rows, product_in}
 use Rattle.rows.specs.declared.row.Row.{Row}
 use Rattle.rows.specs.declared.list.Listing.{Listing}
-use Rattle.rows.specs.declared.list.Made.{Made}
 use Rattle.rows.specs.Rows.{row_with_keys, row_without_keys, firsts_after, firsts_of}
 use Rattle.rows.specs.Making.{spare_row, listing_of}
 use Rattle.rows.specs.Internal.{row_in, gathered, Gathered, refused_with}
@@ -59,10 +58,10 @@ rest_rows shown p last t =
     let ps = map product_in (used_rows t) in
     cond shown (map row_with_keys ps) (map row_without_keys (firsts_from p last ps))
 
-abbrev pub adds : Bool → ℕ → ℕ → Cells-as-Row → Bool
+abbrev pub adds : Bool → ℕ → ℕ → CellsRow → Bool
 adds shown p last w = (shown || eqb p 0) || not (eqb (cell w 0 / lock_unit) last)
 
-rest_next : (shown : Bool) (p last : ℕ) (w : Cells-as-Row) (t : Table) → is_used w ≡ true
+rest_next : (shown : Bool) (p last : ℕ) (w : CellsRow) (t : Table) → is_used w ≡ true
     → rest_rows shown p last (w ∷ t) ≡ keep_if (adds shown p last w) (row_in shown (product_in w)) (rest_rows shown (suc p) (cell w 0 / lock_unit) t)
 unfolding row_in
 rest_next true p last w t u = rw u

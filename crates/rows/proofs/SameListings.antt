@@ -3,11 +3,9 @@
 use mathlib.Core.Path.{◌≡◌, refl, ap}
 use mathlib.Core.Bool.{Bool, true, false}
 use mathlib.Core.List.{List, [], ◌∷◌}
-use Prim.Native.Nat.{ℕ}
 use lib.Dec.{ltb}
 use lib.ListN.{length}
-use Rattle.base.specs.Conditions.{Condition, when, first_refusal}
-use Rattle.model.specs.declared.answer.Refusal.{Refusal}
+use Rattle.base.specs.Conditions.{when, first_refusal}
 use Rattle.model.specs.declared.answer.Refusal.TheVariants.{UnknownUser, NoSegment, TooFewRows}
 use Rattle.model.specs.Refusals.{unless}
 use Rattle.rows.specs.declared.row.Row.{Row}

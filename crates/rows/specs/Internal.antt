@@ -4,7 +4,7 @@ use Rattle.model.specs.declared.answer.Refusal.{Refusal}
 use Rattle.model.specs.declared.answer.Answer.TheVariants.{Refused}
 use Rattle.model.specs.Limits.{most_standing}
 use Rattle.model.specs.State.{LockProduct}
-use Rattle.model.specs.Cells.{Row as Cells-as-Row, Table, cell, literal_in, product_in, used_rows}
+use Rattle.model.specs.Cells.{Row as CellsRow, Table, cell, literal_in, product_in, used_rows}
 use Rattle.rows.specs.declared.row.Content.TheVariants.{Blank, Signed}
 use Rattle.rows.specs.declared.row.Slot.{Slot}
 use Rattle.rows.specs.declared.row.Row.{Row}
@@ -14,7 +14,7 @@ use Rattle.rows.specs.Rows.{slot, row_with_keys, row_without_keys, firsts_of}
 use Rattle.rows.specs.Making.{listing_of}
 
 -- slot i of n literals in the cells of a product row
-unfoldable pub slot_in : ℕ → Cells-as-Row → ℕ → Slot
+unfoldable pub slot_in : ℕ → CellsRow → ℕ → Slot
 slot_in n w i = cond (ltb i n) (slot (Signed (literal_in (cell w (i + 1))))) (slot Blank)
 
 unfoldable pub row_in : Bool → LockProduct → Row

@@ -1,6 +1,5 @@
 -- Document 02, P1: the rows of a segment's lock list, and who gets which.
 use Rattle.std.specs.Prelude.{not, cond, List, [], ◌∷◌, ◌++◌, map, ℕ, ◌-◌, ◌%◌, length, take, replicate}
-use Rattle.product.specs.declared.literal.Literal.{Literal}
 use Rattle.product.specs.Product.{Product}
 use Rattle.product.specs.Sum.{most_literals}
 use Rattle.base.specs.Lists.{keep_if}

@@ -1,7 +1,6 @@
 -- Of an operation the answer is that by the row that decides; of any other number none opens.
 use mathlib.Core.Path.{◌≡◌, sym, ap, ◌∙◌}
 use mathlib.Core.Bool.{Bool, true, false}
-use mathlib.Core.Logic.{⊎_elim}
 use Prim.Native.Nat.{ℕ}
 use lib.Dec.{eqb}
 use borrow.Author.Tests.{eq-eqb, ne_eqb}
@@ -13,6 +12,7 @@ use Rattle.checking.specs.Deciding.{check_of}
 use Rattle.checking.specs.Internal.{opening_of, head_checked, code_checked}
 use Rattle.checking.proofs.DecidingRow.{answered, no_check}
 use Rattle.checking.proofs.check.Goals as goal
+use Rattle.checking.proofs.check.Goals.{then-is_access, else-is_access+then-operation-eq-EXECUTE, else-is_access+else-operation-eq-EXECUTE}
 
 module _ (t w : Table) (n code : ℕ) (r : Checked) (is : r ≡ code_checked code) (b : Bool) (i : b ≡ is_access n) where
   accessed : b ≡ true → (x : ℕ) → code_checked x ≡ head_checked (opening_of t w n) → code ≡ x → r ≡ check_of t w n
@@ -29,9 +29,10 @@ module _ (t w : Table) (n code : ℕ) (r : Checked) (is : r ≡ code_checked cod
 pub returns : goal.returns
 returns c =
     let is = c.checked_in.ensures in
-    ⊎_elim
-    (λ w. accessed _ _ _ _ _ is _ c.is_access.ensures w.0.taken _ w.1.ensures w.2)
-    (⊎_elim
-    (λ w. executed _ _ _ _ _ is _ c.is_access.ensures w.1.taken _ w.2.ensures w.3)
-    (λ w. unasked _ _ _ _ _ is _ c.is_access.ensures w.0.left w.1.left w.2))
-    c.if-is_access.branch
+    elim c.if-is_access.branch [
+      | then-is_access w ↦ accessed _ _ _ _ _ is _ c.is_access.ensures w.if-is_access.true _ w.opening-code.ensures w.code-is
+      | else-is_access+then-operation-eq-EXECUTE w ↦
+          executed _ _ _ _ _ is _ c.is_access.ensures w.if-operation-eq-EXECUTE.true _ w.opening.ensures w.code-is
+      | else-is_access+else-operation-eq-EXECUTE w ↦
+          unasked _ _ _ _ _ is _ c.is_access.ensures w.if-is_access.false w.if-operation-eq-EXECUTE.false w.code-is
+    ]

@@ -1,13 +1,12 @@
 -- Outer loop: what decides is what decides from row p on, with no grant row found before it. Inner loop: the row opens
 -- exactly when the literals up to k agree.
 use mathlib.Core.Path.{◌≡◌, refl, sym, ap, ◌∙◌}
-use Prim.Native.Nat.{ℕ, ◌-◌}
+use Prim.Native.Nat.{ℕ}
 use borrow.Author.Rules.{rules}
-use borrow.Author.Tests.{not-true, not-false}
 use Rattle.checking.specs.Internal.{head_checked, code_checked}
 use Rattle.checking.proofs.LoopSteps.{left_start, left_listable, left_hit, left_miss, left_end, deciding_start, rest_past, rest_stop, rest_idle, rest_shut, rest_denied, rest_first, grant_head}
 use Rattle.checking.proofs.opening.Goals as goal
-use Rattle.checking.proofs.opening.Goals.{else-has, then-has}
+use Rattle.checking.proofs.opening.Goals.{then-has+else-k-eq0+then-not-agrees, else-has+else-head-eq0}
 
 -- with no row that opens there is no grant
 none_opens : {r : ℕ} → 0 ≡ r → code_checked 131072 ≡ head_checked r
@@ -37,7 +36,7 @@ agrees-requires c =
 pub loop-k-preserved : goal.loop-k-preserved
 loop-k-preserved c =
     let inv = c.loop-k.invariant in
-    (search rules, left_hit inv.1 c.if-k-eq0.false _ c.literal_in-literal.ensures _ c.agrees.ensures (not-false _ c.if-not-agrees.false-raw))
+    (search rules, left_hit inv.1 c.if-k-eq0.false _ c.literal_in-literal.ensures _ c.agrees.ensures c.if-not-agrees.false)
 
 pub products-preserved : goal.products-preserved
 products-preserved c =
@@ -46,7 +45,13 @@ products-preserved c =
     let low = c.if-rows-p.false in
     let stands = c.has.ensures in (
       search rules,
-      elim c.if-has.branch [ then-has w ↦ rest_shut size inv.1 low _ stands w.if-has.true (left_miss w.2.inv.1 w.3.left _ w.literal_in-literal.ensures _ w.agrees.ensures (not-true _ w.7.taken)) | else-has w ↦ rest_idle size inv.1 low _ stands w.if-has.false w.1.left ],
+      elim c.if-has.branch [
+        | then-has+else-k-eq0+then-not-agrees w ↦
+            rest_shut size inv.1 low _ stands w.if-has.true
+            (left_miss w.loop-k.invariant.1 w.if-k-eq0.false _ w.literal_in-literal.ensures _ w.agrees.ensures
+            w.if-not-agrees.true)
+        | else-has+else-head-eq0 w ↦ rest_idle size inv.1 low _ stands w.if-has.false w.if-head-eq0.false
+      ],
     )
 
 pub returns-then-rows-p : goal.returns-then-rows-p

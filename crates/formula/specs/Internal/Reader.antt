@@ -23,7 +23,8 @@ read_digits sofar (b ∷ s) =
 -- a number in front: a digit, and no other after a 0
 unfoldable pub read_number : List ℕ → Option (ℕ × List ℕ)
 read_number s =
-    cond (digit (get_or s 0 0) && not (eqb (get_or s 0 0) digit_zero && digit (get_or s 1 0))) (some (read_digits 0 s)) none
+    cond (digit (get_or s 0 0) && not (eqb (get_or s 0 0) digit_zero && digit (get_or s 1 0)))
+    (some (read_digits 0 s)) none
 
 -- trees
 

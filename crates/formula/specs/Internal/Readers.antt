@@ -77,8 +77,9 @@ AtomAt i s odd r rows at = Reads odd s rows r (read_atom (issued_to i) (drop at 
 -- eight rows as the answer holds them
 abbrev pub eight_rows : List (List ℕ) → List Row
 eight_rows rows =
-    row_with (get_or rows 0 []) ∷ row_with (get_or rows 1 []) ∷ row_with (get_or rows 2 []) ∷ row_with (get_or rows 3 [])
-    ∷ row_with (get_or rows 4 []) ∷ row_with (get_or rows 5 []) ∷ row_with (get_or rows 6 []) ∷ row_with (get_or rows 7 []) ∷ []
+    row_with (get_or rows 0 []) ∷ row_with (get_or rows 1 []) ∷ row_with (get_or rows 2 [])
+    ∷ row_with (get_or rows 3 []) ∷ row_with (get_or rows 4 []) ∷ row_with (get_or rows 5 [])
+    ∷ row_with (get_or rows 6 []) ∷ row_with (get_or rows 7 []) ∷ []
 
 -- the answer of a refusal
 abbrev pub refused_of : Status → Compiled

@@ -40,7 +40,8 @@ HoldsSpelt = (i : Issued) (s : List ℕ) (t : Tree ors) → Text i s t → (ρ :
 
 -- what is stored of an accepted text, its products as rows of numbers, is read back as its products
 abbrev pub StoredLaw : Type 0
-StoredLaw = (i : Issued) (s : List ℕ) (ps : Sum) → outcome_of i s ≡ accepted ps → sum_of (length ps) (rows_of ps) ≡ some ps
+StoredLaw =
+    (i : Issued) (s : List ℕ) (ps : Sum) → outcome_of i s ≡ accepted ps → sum_of (length ps) (rows_of ps) ≡ some ps
 
 -- so a key set opens what is stored exactly where it makes the formula true
 abbrev pub StoredOpens : Type 0

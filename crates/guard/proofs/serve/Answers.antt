@@ -1,5 +1,4 @@
--- Each request is served by its call's function: two needs a call, then a line a call, which goes back over the arrays
--- that it is lent and two steps more to what the match says of the request.
+-- Each request is served by its call's function, which is lent some of the arrays.
 use mathlib.Core.Path.{refl}
 use Rattle.guard.proofs.Calls.{as_request, with_text_lem}
 use Rattle.guard.proofs.serve.Goals as goal

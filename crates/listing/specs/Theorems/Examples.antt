@@ -11,7 +11,6 @@ use Rattle.model.specs.State.{State}
 use Rattle.model.specs.Cells.{state_of}
 use Rattle.model.specs.Notation.{Expected, U, S, N, L, ok, Happens, calls_of}
 use Rattle.model.specs.Replay.{reached}
-use Rattle.rows.specs.Listing.{Listed}
 use Rattle.rows.specs.Notation.{blank, signed, grant, denial}
 use Rattle.listing.specs.Numbers.{row_numbers, listed_numbers}
 

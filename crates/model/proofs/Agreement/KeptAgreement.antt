@@ -104,11 +104,11 @@ module _ (compile : Compiler) (holds : Meaning) (laws : Laws compile holds) (tex
       let p = spare n d.places c.threads.count (neither (passes most_threads (suc (live_in d.places))) _ f.1.0).0 in
       let i : ℕ = place_for n is_free d.places in
       let x : Place = taken n (fresh_thread a) in
-      let was : one (get_or d.places i free) ≡ 0 = ap one p.is_free in
+      let was : one (get_or d.places i free) ≡ 0 = ap one p.is_free_lem in
       let v = c.counts.5 in
       let started : live_in (set d.places i x) + count letters.E ≡ suc (count letters.S) = let m = live_change d.places i x p.low in omega arith in
       with_threads_lem c (set d.places i x) (suc n) _ (bump letters.S count)
-      (agree_start d.places n h.threads c.threads i (fresh_thread a) p.low p.is_free)
+      (agree_start d.places n h.threads c.threads i (fresh_thread a) p.low p.is_free_lem)
       (one_thread c (set d.places i x) started)
   keep_accepted (request.EndThread a) e =
       let p = alive compile d h count c a (all_fail (conditions compile d (request.EndThread a) text) e).0 in

@@ -60,6 +60,7 @@ module _ (compile : Compiler) where
   -- ---- numbers
 
   homed_all : (segment_for : ℕ → ℕ) (numbers : ℕ) (ls : List Standing) → All (Sound compile segment_for numbers) ls → (l : Lock) → Memᴰ l (map lock_in ls) → segment_for l.number ≡ l.segment
+  homed_all segment_for numbers [] s l x = elim x [ ]
   homed_all segment_for numbers (x ∷ xs) s l (Memᴰ.head e) = ap (λ (k : Lock). segment_for k.number) e ∙ s.0.homed ∙ ap (λ (k : Lock). k.segment) (sym e)
   homed_all segment_for numbers (x ∷ xs) s l (Memᴰ.tail m) = homed_all segment_for numbers xs s.1 l m
 
@@ -114,6 +115,7 @@ module _ (compile : Compiler) where
   -- of locks in the order of their numbers one has the number
   single : (n : ℕ) (ls : List Standing) → Rising ls → (l : Lock) → Memᴰ l (map lock_in ls) → l.number ≡ n
       → (x : Standing) × (lock_in x ≡ l) × Memᴰ x ls × (keep (λ y. eqb y.number n) ls ≡ x ∷ [])
+  single n [] r l x h = elim x [ ]
   single n (x ∷ xs) r l (Memᴰ.head e) h =
       let m : x.number ≡ n = ap (λ (k : Lock). k.number) (sym e) ∙ h in
       let here : eqb x.number n ≡ true = eq-eqb x.number n m in

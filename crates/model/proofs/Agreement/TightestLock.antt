@@ -64,6 +64,7 @@ accepted_some (Refused r) e = absurd (false≢true e)
 -- ---- the first of rising numbers that passes
 
 rising_above : (m : ℕ) (ls : List Lock) → rising (m ∷ map (λ l. l.number) ls) ≡ true → (k : Lock) → Memᴰ k ls → m ≤ k.number
+rising_above m [] r k x = elim x [ ]
 rising_above m (x ∷ xs) r k (Memᴰ.head e) =
     let lt = ltb-true m x.number (and_left (ltb m x.number) _ r) in
     let same = ap (λ (l : Lock). l.number) e in omega arith

@@ -6,7 +6,7 @@ use mathlib.Core.List.{List, [], ◌∷◌, ◌++◌, map}
 use Prim.Native.Nat.{ℕ, suc, ◌+◌, ◌-◌, ◌*◌, ◌/◌, ◌%◌, ◌≤◌, ◌<◌, zero-le, suc-le-suc}
 use native.Mathlib.Omega.{arith}
 use lib.Dec.{eqb}
-use lib.ListN.{length, set, take, drop, replicate, length-set, length_append, length-map, length-replicate}
+use lib.ListN.{length, set, take, drop, replicate, length-set, length-append, length-map, length-replicate}
 use lib.Seq.{sets, sets-eq, length-sets, length-take-le, get_or-set_same, get_or-set_other}
 use borrow.Author.Tests.{eqb-true, eqb-false, ne_eqb}
 use Rattle.product.specs.declared.literal.Literal.{Literal}
@@ -58,7 +58,7 @@ used_store_rows n ws t h fits =
     let t₁ : Table = sets t n ws in
     let z : Row = set (row_at t₁ (n + length ws)) 0 0 in
     let front : length (take n t ++ ws) ≡ n + length ws =
-    length_append (take n t) ws ∙ ap (λ (k : ℕ). k + length ws) (length-take-le n t (omega arith)) in
+    length-append (take n t) ws ∙ ap (λ (k : ℕ). k + length ws) (length-take-le n t (omega arith)) in
     ap (λ (r : Table). used_rows (set r (n + length ws) z)) (sets-eq ws t n fits)
     ∙ ap (λ (k : ℕ). used_rows (set (take n t ++ ws ++ drop (n + length ws) t) k z)) (sym front)
     ∙ used_to_end (take n t ++ ws) (drop (n + length ws) t) z h (first_zero (row_at t₁ (n + length ws)))
@@ -66,7 +66,7 @@ used_store_rows n ws t h fits =
 -- ---- a product's row
 
 length_product_row : (lock operations : ℕ) (p : Product) → length p ≤ most_literals → length (product_row lock operations p) ≡ 8
-length_product_row lock operations p h = simp (length_append, length-map, length-replicate) (omega arith)
+length_product_row lock operations p h = simp (length-append, length-map, length-replicate) (omega arith)
 
 used_product_row : (lock operations : ℕ) (p : Product) → 0 < operations → Used (product_row lock operations p)
 used_product_row lock operations p h =

@@ -76,7 +76,7 @@ module _ (compile : Compiler) (holds : Meaning) (law : Laws compile holds) (text
       let p = alive d a f.0 in
       let lt = handed d b f.1.0 in
       let full : ℕ = length (thread_at (state_of d) a).frames in
-      let thread : full ≡ length p.thread.frames = ap (λ (o : Option Thread). length (or_default blank_thread (λ t. t) o).frames) p.is_found in
+      let thread : full ≡ length p.thread.frames = ap (λ (o : Option Thread). length (or_default blank_thread (λ t. t) o).frames) p.is_found_lem in
       let room : suc full ≤ 16 = within most_frames (suc full) f.1.1.1.1.1.0 in
       let deep : depth_of (mine d c a p) < 16 = let q = mine_depth d c a p in omega arith in
       push_held d c a p b _ (list_row b (table_at d.segments b)) (listed_row d c b lt) deep (own_cell d c b lt) (keys_read d c b lt)

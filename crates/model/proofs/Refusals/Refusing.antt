@@ -92,6 +92,7 @@ exactly_here r (c ∷ cs) b later h k =
 -- where the ranks rise, the first that holds has the least rank of those that do
 rising_least : (m : ℕ) (c : Condition Refusal) (cs : List (Condition Refusal)) → rising (m ∷ ranks cs) ≡ true → Memᴰ c cs
     → m ≤ rank c.refusal
+rising_least m c [] h x = elim x [ ]
 rising_least m c (x ∷ xs) h (Memᴰ.head e) =
     let l = ltb-true m (rank x.refusal) (and_left (ltb m (rank x.refusal)) _ h) in
     let s : rank c.refusal ≡ rank x.refusal = ap (λ (y : Condition Refusal). rank y.refusal) e in
@@ -103,6 +104,7 @@ rising_least m c (x ∷ xs) h (Memᴰ.tail i) =
 
 pub first_least : (r : Refusal) (cs : List (Condition Refusal)) → rising (ranks cs) ≡ true → first_refusal cs ≡ some r
     → (c : Condition Refusal) → Memᴰ c cs → c.holds ≡ true → rank r ≤ rank c.refusal
+first_least r [] h e c m t = elim m [ ]
 first_least r (x ∷ xs) h e c (Memᴰ.head p) t =
     let s : x.holds ≡ true = ap (λ (y : Condition Refusal). y.holds) (sym p) ∙ t in
     let q : rank r ≡ rank c.refusal = ap rank (sym (some_inj.0 (rw s at e))) ∙ ap (λ (y : Condition Refusal). rank y.refusal) (sym p) in

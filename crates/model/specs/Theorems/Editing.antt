@@ -122,4 +122,5 @@ pub record Editing : Type 0 where
   -- alike, and leaves the same arrays
   pub alike : (xs : List Call) (next : Call) (q : Request) (a : ℕ) → decoded next ≡ WellFormed q
       → has_letter edit_letters next ≡ true → user_in (events outcome_of xs) a ≡ user_in (events outcome_of xs) next.a
-      → step_cells outcome_of (reached outcome_of xs) (by_thread a next) ≡ step_cells outcome_of (reached outcome_of xs) next
+      → step_cells outcome_of (reached outcome_of xs) (by_thread a next)
+      ≡ step_cells outcome_of (reached outcome_of xs) next

@@ -180,9 +180,11 @@ pub record Examples : Type 0 where
   pub texts_happen : Happens texts
   pub twice_happens : Happens twice
   -- after the first return the S key is held, by the history and by the arrays
-  pub twice_held : map_option (λ t. key_set 0 t (SegmentKey 0)) ((history_of outcome_of (calls_of (take 9 twice))).threads 0)
+  pub twice_held :
+      map_option (λ t. key_set 0 t (SegmentKey 0)) ((history_of outcome_of (calls_of (take 9 twice))).threads 0)
       ≡ some true
-  pub twice_stored : key_set 0 (thread_at (state_of (reached outcome_of (calls_of (take 9 twice)))) 0) (SegmentKey 0) ≡ true
+  pub twice_stored :
+      key_set 0 (thread_at (state_of (reached outcome_of (calls_of (take 9 twice)))) 0) (SegmentKey 0) ≡ true
   pub back_happens : Happens back
   pub deep_happens : Happens deep
   pub edits_happen : Happens edits

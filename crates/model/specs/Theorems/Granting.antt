@@ -44,4 +44,5 @@ GrantingByLaws =
 -- and so for the compiler that there is
 abbrev pub Granting : Type 0
 Granting =
-    (xs : List Call) (next : Call) → Grants outcome_of text_holds (events outcome_of xs) next (answer_to outcome_of xs next)
+    (xs : List Call) (next : Call)
+    → Grants outcome_of text_holds (events outcome_of xs) next (answer_to outcome_of xs next)

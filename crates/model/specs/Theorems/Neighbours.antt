@@ -72,4 +72,5 @@ pub record Undisturbed (n : ℕ) (es fs : List Event) : Type 0 where
 
 abbrev pub Neighbours : Type 0
 Neighbours =
-    (n : ℕ) (xs ys : List Call) → strike n xs ≡ strike n ys → Undisturbed n (events outcome_of xs) (events outcome_of ys)
+    (n : ℕ) (xs ys : List Call) → strike n xs ≡ strike n ys
+    → Undisturbed n (events outcome_of xs) (events outcome_of ys)

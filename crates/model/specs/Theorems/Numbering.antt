@@ -44,4 +44,5 @@ NumberingByLaws =
     → Numbers compile (events compile xs) next (answer_to compile xs next)
 
 abbrev pub Numbering : Type 0
-Numbering = (xs : List Call) (next : Call) → Numbers outcome_of (events outcome_of xs) next (answer_to outcome_of xs next)
+Numbering =
+    (xs : List Call) (next : Call) → Numbers outcome_of (events outcome_of xs) next (answer_to outcome_of xs next)

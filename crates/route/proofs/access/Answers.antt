@@ -4,7 +4,7 @@ use mathlib.Core.Bool.{Bool, true, false, ◌&&◌}
 use mathlib.Core.List.{List, []}
 use Prim.Native.Nat.{ℕ, ◌≤◌, ◌<◌}
 use lib.Dec.{eqb}
-use borrow.Author.Tests.{not-true, not-false}
+use borrow.Author.Rules.{rules}
 use Rattle.formula.specs.Outcome.{outcome_of}
 use Rattle.call.specs.declared.request.Request.TheVariants.{Access}
 use Rattle.base.proofs.Truth.{and_left, or_right}
@@ -77,9 +77,9 @@ returns-then-segments-s c = λ text d.
 pub returns-then-not-is_access-is_taken : goal.returns-then-not-is_access-is_taken
 returns-then-not-is_access-is_taken c = λ text d.
     unfit _ text _ _ _ _ c.find-place.ensures c.if-place-ge-MOST_THREADS.false _ c.segments.ensures c.if-segments-s.false
-    _ _ c.is_access.ensures c.is_taken.ensures (not-true _ c.if-not-is_access-is_taken.true-raw)
+    _ _ c.is_access.ensures c.is_taken.ensures (search rules)
 
 pub returns : goal.returns
 returns c = λ text d.
     checked _ text _ _ _ _ c.find-place.ensures c.if-place-ge-MOST_THREADS.false _ c.segments.ensures c.if-segments-s.false
-    _ _ c.is_access.ensures c.is_taken.ensures (not-false _ c.if-not-is_access-is_taken.false-raw) _ _ c.check.ensures c.answer.ensures
+    _ _ c.is_access.ensures c.is_taken.ensures (search rules) _ _ c.check.ensures c.answer.ensures

@@ -6,7 +6,6 @@ use Prim.Native.Nat.{ℕ, suc, ◌≤◌, ◌<◌}
 use lib.Dec.{ltb}
 use lib.ListN.{length, set}
 use lib.Seq.{set-get_or}
-use borrow.Author.Tests.{not-true, not-false}
 use Rattle.formula.specs.Outcome.{outcome_of}
 use Rattle.call.specs.declared.request.Request.TheVariants.{CallSegment}
 use Rattle.base.specs.Conditions.{Condition, when, first_refusal}
@@ -106,21 +105,21 @@ returns-then-segments-s c = λ text d.
 pub returns-then-not-is_taken : goal.returns-then-not-is_taken
 returns-then-not-is_taken c = λ text d.
     unfit _ text _ _ _ c.find-place.ensures c.if-place-ge-MOST_THREADS.false _ c.segments.ensures c.if-segments-s.false
-    (sym c.is_taken.ensures ∙ not-true _ c.if-not-is_taken.true-raw)
+    (sym c.is_taken.ensures ∙ c.if-not-is_taken.true)
 
 pub returns-in_default : goal.returns-in_default
 returns-in_default c = λ text d.
     refused _ text _ _ _ c.find-place.ensures c.if-place-ge-MOST_THREADS.false _ c.segments.ensures c.if-segments-s.false
-    (sym c.is_taken.ensures ∙ not-false _ c.if-not-is_taken.false-raw) _ c.in_default.is (answered _ _ _ _ _ c.check.ensures c.answer-answer.ensures)
+    (sym c.is_taken.ensures ∙ c.if-not-is_taken.false) _ c.in_default.is (answered _ _ _ _ _ c.check.ensures c.answer-answer.ensures)
 
 pub returns-then-push : goal.returns-then-push
 returns-then-push c = λ text d.
     pushed _ text _ _ _ c.find-place.ensures c.if-place-ge-MOST_THREADS.false _ c.segments.ensures c.if-segments-s.false
-    (sym c.is_taken.ensures ∙ not-false _ c.if-not-is_taken.false-raw) _ c.in-Accepted.is (answered _ _ _ _ _ c.check.ensures c.answer-answer.ensures)
-    _ refl _ c.push.ensures.1 _ c.push.ensures.0 c.if-push.true
+    (sym c.is_taken.ensures ∙ c.if-not-is_taken.false) _ c.in-Accepted.is (answered _ _ _ _ _ c.check.ensures c.answer-answer.ensures)
+    _ refl _ c.push.ensures.rows _ c.push.ensures.room c.if-push.true
 
 pub returns-else-push : goal.returns-else-push
 returns-else-push c = λ text d.
     full _ text _ _ _ c.find-place.ensures c.if-place-ge-MOST_THREADS.false _ c.segments.ensures c.if-segments-s.false
-    (sym c.is_taken.ensures ∙ not-false _ c.if-not-is_taken.false-raw) _ c.in-Accepted.is (answered _ _ _ _ _ c.check.ensures c.answer-answer.ensures)
-    _ refl _ c.push.ensures.1 _ c.push.ensures.0 c.if-push.false
+    (sym c.is_taken.ensures ∙ c.if-not-is_taken.false) _ c.in-Accepted.is (answered _ _ _ _ _ c.check.ensures c.answer-answer.ensures)
+    _ refl _ c.push.ensures.rows _ c.push.ensures.room c.if-push.false

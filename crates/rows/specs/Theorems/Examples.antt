@@ -14,7 +14,7 @@ use Rattle.model.specs.Cells.{state_of}
 use Rattle.model.specs.Notation.{Expected, U, S, N, K, L, D, ok, Happens, calls_of}
 use Rattle.model.specs.Replay.{reached, events}
 use Rattle.rows.specs.declared.row.Row.{Row}
-use Rattle.rows.specs.Listing.{Listed, listed}
+use Rattle.rows.specs.Listing.{listed}
 use Rattle.rows.specs.Theorems.Discretion.{products_in, SameButTexts}
 use Rattle.rows.specs.Notation.{blank, signed, grant, denial, no_keys}
 

@@ -6,7 +6,6 @@ use mathlib.Core.List.{List, Memᴰ}
 use Rattle.base.specs.Conditions.{Condition}
 use Rattle.base.specs.Lists.{rising}
 use Rattle.model.specs.declared.answer.Refusal.{Refusal}
-use Rattle.model.specs.declared.answer.Answer.{Answer}
 use Rattle.model.specs.declared.answer.Answer.TheVariants.{Accepted, Refused}
 use Rattle.model.specs.State.{State}
 use Rattle.model.specs.Theorems.Refusing.{some_holds, FirstHolds, rank, ranks}

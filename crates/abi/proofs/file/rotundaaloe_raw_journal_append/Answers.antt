@@ -4,14 +4,16 @@ use Rattle.abi.proofs.file.rotundaaloe_raw_journal_append.Goals as goal
 
 pub returns-in-Declined : goal.returns-in-Declined
 returns-in-Declined c =
-    (
-      rw (← c.append.ensures.0, c.in-Declined.is) c.refusal_number.ensures,
-      (rw (← c.append.ensures.0) c.append.ensures.1, rw (← c.append.ensures.0, c.in-Declined.is) refl),
-    )
+    record {
+      number = rw (← c.append.ensures.answer, c.in-Declined.is) c.refusal_number.ensures;
+      bytes = rw (← c.append.ensures.answer) c.append.ensures.bytes;
+      size = rw (← c.append.ensures.answer, c.in-Declined.is) refl;
+    }
 
 pub returns-in-Length : goal.returns-in-Length
 returns-in-Length c =
-    (
-      rw (← c.append.ensures.0, c.in-Length.is) refl,
-      (rw (← c.append.ensures.0) c.append.ensures.1, rw (← c.append.ensures.0, c.in-Length.is) refl),
-    )
+    record {
+      number = rw (← c.append.ensures.answer, c.in-Length.is) refl;
+      bytes = rw (← c.append.ensures.answer) c.append.ensures.bytes;
+      size = rw (← c.append.ensures.answer, c.in-Length.is) refl;
+    }

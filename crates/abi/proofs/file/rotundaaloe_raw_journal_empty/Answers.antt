@@ -3,8 +3,14 @@ use Rattle.abi.proofs.file.rotundaaloe_raw_journal_empty.Goals as goal
 
 pub returns-in-Length : goal.returns-in-Length
 returns-in-Length c =
-    (rw (← c.empty.ensures.0, c.in-Length.is), rw (← c.empty.ensures.0) c.empty.ensures.1)
+    record {
+      number = rw (← c.empty.ensures.answer, c.in-Length.is);
+      bytes = rw (← c.empty.ensures.answer) c.empty.ensures.bytes;
+    }
 
 pub returns-in-Declined : goal.returns-in-Declined
 returns-in-Declined c =
-    (rw (← c.empty.ensures.0, c.in-Declined.is) c.refusal_number.ensures, rw (← c.empty.ensures.0) c.empty.ensures.1)
+    record {
+      number = rw (← c.empty.ensures.answer, c.in-Declined.is) c.refusal_number.ensures;
+      bytes = rw (← c.empty.ensures.answer) c.empty.ensures.bytes;
+    }

@@ -4,7 +4,7 @@ use Rattle.abi.proofs.file.rotundaaloe_raw_journal_open.Goals as goal
 
 pub returns-in-Refused : goal.returns-in-Refused
 returns-in-Refused c =
-    rw (← c.open_file.ensures, c.in-Refused.is) (c.refusal_number.ensures, refl)
+    rw (← c.open_file.ensures, c.in-Refused.is) record { number = c.refusal_number.ensures; cursor = refl }
 
 pub returns-in-Readable : goal.returns-in-Readable
-returns-in-Readable c = rw (← c.open_file.ensures, c.in-Readable.is) (refl, refl)
+returns-in-Readable c = rw (← c.open_file.ensures, c.in-Readable.is) record { number = refl; cursor = refl }

@@ -1,4 +1,5 @@
 -- The first digit says the kind.
+use native.Mathlib.Omega.{arith}
 use Rattle.abi.proofs.KeyNumbers.{thread_read, segment_read, defined_read, other_read}
 use Rattle.abi.proofs.key_search.key_read.Goals as goal
 
@@ -12,4 +13,4 @@ pub returns-in-3 : goal.returns-in-3
 returns-in-3 c = defined_read _ c.in-3.is
 
 pub returns-in_default : goal.returns-in_default
-returns-in_default c = let none = c.in_default.rest in other_read _ none.0.0.1 none.0.1 none.1
+returns-in_default c = other_read _ (omega arith) (omega arith) (omega arith)

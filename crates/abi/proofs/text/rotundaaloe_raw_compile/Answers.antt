@@ -18,7 +18,7 @@ returns-then-accepted c =
     let e = c.compile-compiled.ensures in
     let n = c.refusal_number-refusal.ensures in
     let answered = rw c.if-accepted.true-raw at (number_answered i a.text.now e n) in
-    (answered, c.write_rows.ensures ∙ rows_written i a.text.now e n a.rows.now)
+    record { number = answered; cells = c.write_rows.ensures ∙ rows_written i a.text.now e n a.rows.now }
 
 pub returns-else-accepted : goal.returns-else-accepted
 returns-else-accepted c =
@@ -27,4 +27,4 @@ returns-else-accepted c =
     let e = c.compile-compiled.ensures in
     let n = c.refusal_number-refusal.ensures in
     let answered = rw c.if-accepted.false-raw at (number_answered i a.text.now e n) in
-    (answered, c.write_rows.ensures ∙ rows_written i a.text.now e n a.rows.now)
+    record { number = answered; cells = c.write_rows.ensures ∙ rows_written i a.text.now e n a.rows.now }

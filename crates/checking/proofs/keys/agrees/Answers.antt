@@ -1,11 +1,11 @@
 -- The literal says its sign and the key its kind.
 use mathlib.Core.Path.{sym, ◌∙◌}
 use mathlib.Core.Bool.{not-not}
-use mathlib.Core.Logic.{⊎_elim}
 use lib.Dec.{eqb}
 use borrow.Author.Rules.{rules}
 use Rattle.checking.proofs.KeyCells.{user_key, thread_key, segment_key, defined_key, plain_agrees, barred_agrees, plain_listable, barred_listable, defined_low}
 use Rattle.checking.proofs.keys.agrees.Goals as goal
+use Rattle.checking.proofs.keys.agrees.Goals.{in-Segment, in-Defined, in-Segment-key, in-Defined-key}
 
 pub returns-in-User : goal.returns-in-User
 returns-in-User c =
@@ -44,10 +44,10 @@ returns-after-key c =
     let low = plain_listable c.requires.1 sign in
     let args = c.args in
     plain_agrees args.thread.now args.depth
-    (⊎_elim
-    (λ w. segment_key args.thread.now args.depth low c.newest_row.ensures w.1.given.1 w.3)
-    (λ w. defined_key args.thread.now args.depth low c.newest_row.ensures w.1.given.1 w.3)
-    found.branch)
+    (elim found.branch [
+      | in-Segment w ↦ segment_key args.thread.now args.depth low c.newest_row.ensures w.in-Segment.is w.code-is
+      | in-Defined w ↦ defined_key args.thread.now args.depth low c.newest_row.ensures w.in-Defined.is w.code-is
+    ])
     sign
 
 pub returns-after-key-2 : goal.returns-after-key-2
@@ -58,8 +58,8 @@ returns-after-key-2 c =
     let args = c.args in
     sym (not-not (eqb c.newest_row-in-Barred.result 0))
     ∙ barred_agrees args.thread.now args.depth
-    (⊎_elim
-    (λ w. segment_key args.thread.now args.depth low c.newest_row-in-Barred.ensures w.1.given.1 w.3)
-    (λ w. defined_key args.thread.now args.depth low c.newest_row-in-Barred.ensures w.1.given.1 w.3)
-    found.branch)
+    (elim found.branch [
+      | in-Segment-key w ↦ segment_key args.thread.now args.depth low c.newest_row-in-Barred.ensures w.in-Segment-key.is w.code-is
+      | in-Defined-key w ↦ defined_key args.thread.now args.depth low c.newest_row-in-Barred.ensures w.in-Defined-key.is w.code-is
+    ])
     sign

@@ -1,5 +1,5 @@
 -- The frames that were asked fit: those above the next one.
-use Prim.Native.Nat.{ℕ, ◌-◌, ◌≤◌, ◌<◌}
+use Prim.Native.Nat.{ℕ, ◌≤◌, ◌<◌}
 use Rattle.model.specs.Cells.{row_at}
 use Rattle.checking.specs.Internal.{RowFits}
 use Rattle.checking.proofs.newest.frames_fit.Given as goal

@@ -5,7 +5,7 @@ use Rattle.checking.proofs.newest.newest_call.Goals as goal
 
 pub returns-then-code : goal.returns-then-code
 returns-then-code c =
-    found_none _ _ c.count_in_u16-depth.ensures.count c.code_of_lem.ensures c.if-code.true c.frames_fit.ensures
+    found_none _ _ c.count_in_u16-depth.ensures.count c.code_of-code.ensures c.if-code.true c.frames_fit.ensures
 
 pub overflow_sub-result : goal.overflow_sub-result
 overflow_sub-result c =
@@ -14,9 +14,9 @@ overflow_sub-result c =
 
 pub returns-then-row-eq0 : goal.returns-then-row-eq0
 returns-then-row-eq0 c =
-    found_nowhere _ _ c.count_in_u16-depth.ensures.count c.code_of_lem.ensures c.if-code.false c.newest_row-row.ensures c.if-row-eq0.true
+    found_nowhere _ _ c.count_in_u16-depth.ensures.count c.code_of-code.ensures c.if-code.false c.newest_row-row.ensures c.if-row-eq0.true
 
 pub returns-else-row-eq0 : goal.returns-else-row-eq0
 returns-else-row-eq0 c =
-    found_at _ _ c.count_in_u16-depth.ensures.count c.code_of_lem.ensures c.if-code.false c.newest_row-row.ensures c.if-row-eq0.false
+    found_at _ _ c.count_in_u16-depth.ensures.count c.code_of-code.ensures c.if-code.false c.newest_row-row.ensures c.if-row-eq0.false
     c.count_in_u16-depth.ensures.low

@@ -1,13 +1,12 @@
 -- Outer loop: what decides is what decides from row p on, with the longest grant row found before it. Inner loop: the
 -- row opens exactly when the literals up to k agree.
 use mathlib.Core.Path.{◌≡◌, refl, sym, ap, subst, ◌∙◌}
-use mathlib.Core.Logic.{⊎_elim}
-use Prim.Native.Nat.{ℕ, ◌-◌}
+use Prim.Native.Nat.{ℕ}
 use borrow.Author.Rules.{rules}
-use borrow.Author.Tests.{not-true, not-false}
 use Rattle.checking.specs.Internal.{GrantHead, head_checked}
 use Rattle.checking.proofs.LoopSteps.{left_start, left_listable, left_hit, left_miss, left_end, deciding_as, rest_past, rest_stop, rest_idle, rest_shut, rest_denied, rest_longer, rest_looser, grant_head}
 use Rattle.checking.proofs.tightest.decided_after.Goals as goal
+use Rattle.checking.proofs.tightest.decided_after.Goals.{then-has+then-can_change+then-k-eq0+else-has-2, then-has+then-can_change+else-k-eq0+then-not-agrees, then-has+else-can_change, else-has+else-head-eq0}
 
 head_as : {found found' : ℕ} → found' ≡ found → GrantHead found → GrantHead found'
 head_as e g = subst GrantHead (sym e) g
@@ -29,7 +28,7 @@ agrees-requires c =
 pub loop-k-preserved : goal.loop-k-preserved
 loop-k-preserved c =
     let inv = c.loop-k.invariant in
-    (search rules, inv.1, left_hit inv.2 c.if-k-eq0.false _ c.literal_in-literal.ensures _ c.agrees.ensures (not-false _ c.if-not-agrees.false-raw))
+    (search rules, inv.1, left_hit inv.2 c.if-k-eq0.false _ c.literal_in-literal.ensures _ c.agrees.ensures c.if-not-agrees.false)
 
 pub products-preserved : goal.products-preserved
 products-preserved c =
@@ -39,20 +38,28 @@ products-preserved c =
     let low = c.if-rows-p.false in
     let stands = c.has.ensures in (
       search rules,
-      ⊎_elim
-          (λ w. head_as w.8 (grant_head size inv.2 low _ stands w.0.taken _ w.6.ensures w.7.left))
-          (⊎_elim
-          (λ w. head_as (w.10 ∙ w.4.inv.1) grant)
-          (⊎_elim (λ w. head_as w.3 grant) (λ w. head_as w.2 grant)))
-          c.if-has.branch,
-      ⊎_elim
-          (λ w. deciding_as w.8 (rest_longer size inv.2 low _ stands w.0.taken (left_end w.4.inv.2 w.5.taken) _ w.6.ensures grant _ w.1.ensures w.2.taken w.7.left))
-          (⊎_elim
-          (λ w. deciding_as w.10 (rest_shut size (deciding_as w.4.inv.1 inv.2) low _ stands w.0.taken (left_miss w.4.inv.2 w.5.left _ w.7.ensures _ w.8.ensures (not-true _ w.9.taken))))
-          (⊎_elim
-          (λ w. deciding_as w.3 (rest_looser size inv.2 low _ stands w.0.taken grant _ w.1.ensures w.2.left))
-          (λ w. deciding_as w.2 (rest_idle size inv.2 low _ stands w.0.left w.1.left))))
-          c.if-has.branch,
+      elim c.if-has.branch [
+        | then-has+then-can_change+then-k-eq0+else-has-2 w ↦
+            head_as w.found-is (grant_head size inv.2 low _ stands w.if-has.true _ w.has-then-k-eq0.ensures w.if-has-2.false)
+        | then-has+then-can_change+else-k-eq0+then-not-agrees w ↦ head_as (w.found-is ∙ w.loop-k.invariant.1) grant
+        | then-has+else-can_change w ↦ head_as w.found-is grant
+        | else-has+else-head-eq0 w ↦ head_as w.found-is grant
+      ],
+      elim c.if-has.branch [
+        | then-has+then-can_change+then-k-eq0+else-has-2 w ↦
+            deciding_as w.found-is
+            (rest_longer size inv.2 low _ stands w.if-has.true (left_end w.loop-k.invariant.2 w.if-k-eq0.true)
+            _ w.has-then-k-eq0.ensures grant _ w.can_change.ensures w.if-can_change.true w.if-has-2.false)
+        | then-has+then-can_change+else-k-eq0+then-not-agrees w ↦
+            deciding_as w.found-is
+            (rest_shut size (deciding_as w.loop-k.invariant.1 inv.2) low _ stands w.if-has.true
+            (left_miss w.loop-k.invariant.2 w.if-k-eq0.false _ w.literal_in-literal.ensures _ w.agrees.ensures
+            w.if-not-agrees.true))
+        | then-has+else-can_change w ↦
+            deciding_as w.found-is (rest_looser size inv.2 low _ stands w.if-has.true grant _ w.can_change.ensures w.if-can_change.false)
+        | else-has+else-head-eq0 w ↦
+            deciding_as w.found-is (rest_idle size inv.2 low _ stands w.if-has.false w.if-head-eq0.false)
+      ],
     )
 
 -- the answer by the head that decides

@@ -1,6 +1,5 @@
 -- The value so far and the digits that are left make the number, which only grows; the measure is the bytes that are
 -- left.
-use borrow.Author.Tests.{not-true, not-false}
 use mathlib.Core.Path.{◌≡◌, refl, sym, ◌∙◌}
 use mathlib.Core.Bool.{true, false}
 use mathlib.Core.List.{[]}
@@ -21,7 +20,7 @@ returns-then-not-is_digit c =
     let a = c.args in
     let v = c.loop-i in
     let t = a.text.now in
-    let e : digit (get_or t v.i 0) ≡ false = sym c.is_digit.ensures ∙ not-true c.is_digit.result c.if-not-is_digit.true-raw in
+    let e : digit (get_or t v.i 0) ≡ false = sym c.is_digit.ensures ∙ c.if-not-is_digit.true in
     let p = v.invariant.1 ∙ digits_end t v.i v.value e in
     rw p number
 
@@ -29,26 +28,26 @@ pub overflow_sub-d : goal.overflow_sub-d
 overflow_sub-d c =
     let a = c.args in
     let v = c.loop-i in
-    (digit_range (get_or a.text.now v.i 0) (sym c.is_digit.ensures ∙ not-false c.is_digit.result c.if-not-is_digit.false-raw)).0
+    (digit_range (get_or a.text.now v.i 0) (sym c.is_digit.ensures ∙ c.if-not-is_digit.false)).0
 
 pub overflow_cast-d : goal.overflow_cast-d
 overflow_cast-d c =
     let a = c.args in
     let v = c.loop-i in
-    omega (arith, digit_range (get_or a.text.now v.i 0) (sym c.is_digit.ensures ∙ not-false c.is_digit.result c.if-not-is_digit.false-raw))
+    omega (arith, digit_range (get_or a.text.now v.i 0) (sym c.is_digit.ensures ∙ c.if-not-is_digit.false))
 
 pub overflow_add-next : goal.overflow_add-next
 overflow_add-next c =
     let a = c.args in
     let v = c.loop-i in
-    omega (arith, digit_range (get_or a.text.now v.i 0) (sym c.is_digit.ensures ∙ not-false c.is_digit.result c.if-not-is_digit.false-raw))
+    omega (arith, digit_range (get_or a.text.now v.i 0) (sym c.is_digit.ensures ∙ c.if-not-is_digit.false))
 
 pub returns-then-next-gt-MOST_NUMBER : goal.returns-then-next-gt-MOST_NUMBER
 returns-then-next-gt-MOST_NUMBER c =
     let a = c.args in
     let v = c.loop-i in
     let t = a.text.now in
-    let e : digit (get_or t v.i 0) ≡ true = sym c.is_digit.ensures ∙ not-false c.is_digit.result c.if-not-is_digit.false-raw in
+    let e : digit (get_or t v.i 0) ≡ true = sym c.is_digit.ensures ∙ c.if-not-is_digit.false in
     let p = v.invariant.1 ∙ digits_step t v.i v.value (omega arith) e in
     too_large {p = read_digits 0 (drop a.at t)} (rw p (omega (arith, digits_grow (10 * v.value + (get_or t v.i 0 - 48)) (drop (v.i + 1) t))))
 
@@ -57,7 +56,7 @@ loop-i-preserved c =
     let a = c.args in
     let v = c.loop-i in
     let t = a.text.now in
-    let e : digit (get_or t v.i 0) ≡ true = sym c.is_digit.ensures ∙ not-false c.is_digit.result c.if-not-is_digit.false-raw in
+    let e : digit (get_or t v.i 0) ≡ true = sym c.is_digit.ensures ∙ c.if-not-is_digit.false in
     (omega arith, v.invariant.1 ∙ digits_step t v.i v.value (omega arith) e)
 
 pub returns : goal.returns

@@ -1,5 +1,4 @@
 -- The three ways that a number begins: no digit, a 0 with another digit after it, any other digit.
-use borrow.Author.Tests.{not-true, not-false}
 use mathlib.Core.Path.{sym, ap, ◌∙◌}
 use Prim.Native.Nat.{ℕ}
 use Rattle.formula.proofs.Numerals.{number_none, number_padded, number_some}
@@ -12,7 +11,7 @@ returns-then-not-is_digit c =
     let a = c.args in
     let s = a.text.now in
     rw
-    (number_none s a.at (ap (λ (x : ℕ). digit x) (sym c.byte_at-first.ensures) ∙ (sym c.is_digit.ensures ∙ not-true c.is_digit.result c.if-not-is_digit.true-raw))) no_digits
+    (number_none s a.at (ap (λ (x : ℕ). digit x) (sym c.byte_at-first.ensures) ∙ (sym c.is_digit.ensures ∙ c.if-not-is_digit.true))) no_digits
 
 pub returns-then-first-is_digit : goal.returns-then-first-is_digit
 returns-then-first-is_digit c =
@@ -20,7 +19,7 @@ returns-then-first-is_digit c =
     let s = a.text.now in
     let p = rw (c.byte_at-first.ensures, c.is_digit-2.ensures, c.byte_at-second.ensures) at c.if-first-is_digit.true in
     rw
-    (number_padded s a.at (ap (λ (x : ℕ). digit x) (sym c.byte_at-first.ensures) ∙ (sym c.is_digit.ensures ∙ not-false c.is_digit.result c.if-not-is_digit.false-raw)) p) no_digits
+    (number_padded s a.at (ap (λ (x : ℕ). digit x) (sym c.byte_at-first.ensures) ∙ (sym c.is_digit.ensures ∙ c.if-not-is_digit.false)) p) no_digits
 
 pub returns : goal.returns
 returns c =
@@ -28,5 +27,5 @@ returns c =
     let s = a.text.now in
     let p = rw (c.byte_at-first.ensures, c.is_digit-2.ensures, c.byte_at-second.ensures) at c.if-first-is_digit.false in
     rw
-    (number_some s a.at (ap (λ (x : ℕ). digit x) (sym c.byte_at-first.ensures) ∙ (sym c.is_digit.ensures ∙ not-false c.is_digit.result c.if-not-is_digit.false-raw)) p)
+    (number_some s a.at (ap (λ (x : ℕ). digit x) (sym c.byte_at-first.ensures) ∙ (sym c.is_digit.ensures ∙ c.if-not-is_digit.false)) p)
     c.read_digits.ensures

@@ -1,5 +1,4 @@
 -- A law for each way out (`atom_past` and on).
-use borrow.Author.Tests.{not-true, not-false}
 use mathlib.Core.Path.{sym, ◌∙◌}
 use Rattle.formula.proofs.ReaderSteps.{atom_past, atom_unread, atom_unnamed, atom_unknown, atom_known, atom_list}
 use Rattle.formula.proofs.reader.read_atom.Goals as goal
@@ -28,7 +27,7 @@ returns-then-not-is_issued c =
     atom_unknown a.issued s a.odd a.at c.in-Value.is
     c.read_number-number.ensures
     c.key_named-found.ensures k c.in-Named.is
-    (sym c.is_issued.ensures ∙ not-true c.is_issued.result c.if-not-is_issued.true-raw)
+    (sym c.is_issued.ensures ∙ c.if-not-is_issued.true)
 
 pub returns : goal.returns
 returns c =
@@ -39,5 +38,5 @@ returns c =
     c.read_number-number.ensures
     c.key_named-found.ensures k
     c.in-Named.is
-    (sym c.is_issued.ensures ∙ not-false c.is_issued.result c.if-not-is_issued.false-raw)
+    (sym c.is_issued.ensures ∙ c.if-not-is_issued.false)
     (atom_list a.odd k c.signed.ensures c.single-count.ensures)

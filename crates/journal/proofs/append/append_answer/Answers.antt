@@ -1,8 +1,7 @@
--- A law of `Answering` for each way out.
+-- A law of `AppendAnswers` for each way out.
 use mathlib.Core.Path.{sym, ◌∙◌}
 use native.Mathlib.Omega.{arith}
 use lib.Seq.{length-take-le}
-use borrow.Author.Tests.{not-false}
 use Rattle.call.proofs.Texts.{text_short}
 use Rattle.journal.proofs.AppendAnswers.{beyond, file_refused, unfit, no_room_lem, accepts}
 use Rattle.journal.proofs.append.append_answer.Goals as goal
@@ -15,14 +14,14 @@ slice_bounds-check-end c = sym (length-take-le _ _ c.if-buffer-len.false)
 
 pub returns-then-not-fits : goal.returns-then-not-fits
 returns-then-not-fits c =
-    unfit _ _ _ c.if-buffer-len.false (sym c.in-Readable.is ∙ c.check.ensures) _ c.fits2.ensures c.if-not-fits.true-raw
+    unfit _ _ _ c.if-buffer-len.false (sym c.in-Readable.is ∙ c.check.ensures) _ c.fits.ensures c.if-not-fits.true
 
 pub overflow_add-end-in-Readable : goal.overflow_add-end-in-Readable
-overflow_add-end-in-Readable c = let short = text_short _ _ _ _ _ (sym c.fits2.ensures ∙ not-false _ c.if-not-fits.false-raw) in omega arith
+overflow_add-end-in-Readable c = let short = text_short _ _ _ _ _ (sym c.fits.ensures ∙ c.if-not-fits.false) in omega arith
 
 pub returns-then-buffer-end : goal.returns-then-buffer-end
 returns-then-buffer-end c =
-    no_room_lem _ _ _ c.if-buffer-len.false (sym c.in-Readable.is ∙ c.check.ensures) _ c.fits2.ensures c.if-not-fits.false-raw c.if-buffer-end.true
+    no_room_lem _ _ _ c.if-buffer-len.false (sym c.in-Readable.is ∙ c.check.ensures) _ c.fits.ensures c.if-not-fits.false c.if-buffer-end.true
 
 pub returns-in-Refused : goal.returns-in-Refused
 returns-in-Refused c =
@@ -30,4 +29,4 @@ returns-in-Refused c =
 
 pub returns-else-buffer-end : goal.returns-else-buffer-end
 returns-else-buffer-end c =
-    accepts _ _ _ c.if-buffer-len.false (sym c.in-Readable.is ∙ c.check.ensures) _ c.fits2.ensures c.if-not-fits.false-raw c.if-buffer-end.false
+    accepts _ _ _ c.if-buffer-len.false (sym c.in-Readable.is ∙ c.check.ensures) _ c.fits.ensures c.if-not-fits.false c.if-buffer-end.false

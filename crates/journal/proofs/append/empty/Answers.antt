@@ -7,8 +7,8 @@ use Rattle.journal.proofs.append.empty.Goals as goal
 
 pub returns-then-buffer-lt-FILE_HEAD : goal.returns-then-buffer-lt-FILE_HEAD
 unfolding empty_answer
-returns-then-buffer-lt-FILE_HEAD c = (rw (lt-ltb _ _ c.if-buffer-lt-FILE_HEAD.true), refl)
+returns-then-buffer-lt-FILE_HEAD c = record { answer = rw (lt-ltb _ _ c.if-buffer-lt-FILE_HEAD.true); bytes = refl }
 
 pub returns : goal.returns
 unfolding empty_answer file_bytes
-returns c = (rw (le-ltb _ 7 c.if-buffer-lt-FILE_HEAD.false), c.store.ensures)
+returns c = record { answer = rw (le-ltb _ 7 c.if-buffer-lt-FILE_HEAD.false); bytes = c.store.ensures }

@@ -9,26 +9,14 @@ returns-then-file-at c = found_end _ _ c.if-file-at.true
 pub returns-then-size-eq0 : goal.returns-then-size-eq0
 returns-then-size-eq0 c = found_damaged _ _ c.if-file-at.false (no_size _ _ _ c.record_size-size.ensures c.if-size-eq0.true)
 
-pub overflow_add-at : goal.overflow_add-at
-overflow_add-at c = let h = size_head _ _ _ c.record_size-size.ensures c.if-size-eq0.false in search rules
-
 pub word_at-a-requires : goal.word_at-a-requires
 word_at-a-requires c = let h = size_head _ _ _ c.record_size-size.ensures c.if-size-eq0.false in search rules
-
-pub overflow_add-at-2 : goal.overflow_add-at-2
-overflow_add-at-2 c = let h = size_head _ _ _ c.record_size-size.ensures c.if-size-eq0.false in search rules
 
 pub word_at-b-requires : goal.word_at-b-requires
 word_at-b-requires c = let h = size_head _ _ _ c.record_size-size.ensures c.if-size-eq0.false in search rules
 
-pub overflow_add-at-3 : goal.overflow_add-at-3
-overflow_add-at-3 c = let h = size_head _ _ _ c.record_size-size.ensures c.if-size-eq0.false in search rules
-
 pub word_at-c-requires : goal.word_at-c-requires
 word_at-c-requires c = let h = size_head _ _ _ c.record_size-size.ensures c.if-size-eq0.false in search rules
-
-pub overflow_add-start : goal.overflow_add-start
-overflow_add-start c = let h = size_head _ _ _ c.record_size-size.ensures c.if-size-eq0.false in search rules
 
 pub overflow_add-next : goal.overflow_add-next
 overflow_add-next c = let h = size_end _ _ _ c.record_size-size.ensures c.if-size-eq0.false in search rules

@@ -11,14 +11,14 @@ returns-then-n-at-lt-RECORD_HEAD c = cut_short _ _ (omega arith)
 
 pub returns-then-not-fits : goal.returns-then-not-fits
 returns-then-not-fits c =
-    unfit _ _ _ _ _ _ (omega arith) c.word_at-a.ensures c.word_at-b.ensures c.word_at-c.ensures c.word_at-text.ensures _ c.fits2.ensures c.if-not-fits.true-raw
+    unfit _ _ _ _ _ _ (omega arith) c.word_at-a.ensures c.word_at-b.ensures c.word_at-c.ensures c.word_at-text.ensures _ c.fits.ensures c.if-not-fits.true
 
 pub returns-then-n-at-2 : goal.returns-then-n-at-2
 returns-then-n-at-2 c =
-    text_cut _ _ _ _ _ _ (omega arith) c.word_at-a.ensures c.word_at-b.ensures c.word_at-c.ensures c.word_at-text.ensures _ c.fits2.ensures c.if-not-fits.false-raw
+    text_cut _ _ _ _ _ _ (omega arith) c.word_at-a.ensures c.word_at-b.ensures c.word_at-c.ensures c.word_at-text.ensures _ c.fits.ensures c.if-not-fits.false
     (omega arith)
 
 pub returns : goal.returns
 returns c =
-    is_whole _ _ _ _ _ _ (omega arith) c.word_at-a.ensures c.word_at-b.ensures c.word_at-c.ensures c.word_at-text.ensures _ c.fits2.ensures c.if-not-fits.false-raw
+    is_whole _ _ _ _ _ _ (omega arith) c.word_at-a.ensures c.word_at-b.ensures c.word_at-c.ensures c.word_at-text.ensures _ c.fits.ensures c.if-not-fits.false
     (omega arith)

@@ -1,5 +1,4 @@
 -- The first rows are written (`midway`), and then all that were made.
-use Prim.Native.Nat.{◌-◌}
 use Rattle.rows.proofs.MadeLists.{makes_size}
 use Rattle.listing.proofs.MadeRows.{writing_start, writing_more, lists_written}
 use borrow.Author.Rules.{rules}

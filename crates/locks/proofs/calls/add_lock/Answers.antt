@@ -29,7 +29,6 @@ use Rattle.model.specs.Serving.{Serves}
 use Rattle.model.proofs.Refinement.ServedCalls.{serves_refused, serves_accepted, segments_in, is_segment_lem, segment_at_lem}
 use Rattle.threads.proofs.Editors.{BeginsWithEditor, editor_missing, editor_known}
 use Rattle.locks.specs.Internal.{rows_from, issued_in, is_full, LockJudged, full, stored, malformed_text, wide_text, unsatisfiable_text, accepted_text}
-use Rattle.locks.proofs.Tests.{test_fails, test_holds}
 use Rattle.locks.proofs.CompiledRows.{operations_low, issued_is, Judged, judged, sum_kept, rows_stored}
 use Rattle.locks.proofs.calls.add_lock.Goals as goal
 
@@ -135,15 +134,15 @@ returns-then-owner-user c =
 
 pub returns-then-not-fits : goal.returns-then-not-fits
 returns-then-not-fits c =
-    λ d. unfit _ _ _ _ _ (editor_known _ _ c.editor-editor.ensures _ c.in-Accepted.is) c.segments.ensures.count c.if-segments-s.false c.if-owner-user.false (test_fails c.fits2.ensures c.if-not-fits.true-raw)
+    λ d. unfit _ _ _ _ _ (editor_known _ _ c.editor-editor.ensures _ c.in-Accepted.is) c.segments.ensures.count c.if-segments-s.false c.if-owner-user.false (sym c.fits.ensures ∙ c.if-not-fits.true)
 
 pub judge_lock-requires : goal.judge_lock-requires
 judge_lock-requires c =
     let a = c.args in
-    operations_low (cell (row_at (table_at a.segments.now a.segment) 0) kind_cell) _ (test_holds c.fits2.ensures c.if-not-fits.false-raw)
+    operations_low (cell (row_at (table_at a.segments.now a.segment) 0) kind_cell) _ (sym c.fits.ensures ∙ c.if-not-fits.false)
 
 pub returns : goal.returns
 returns c =
     λ d.
-    served _ _ _ _ _ (editor_known _ _ c.editor-editor.ensures _ c.in-Accepted.is) c.segments.ensures.count c.if-segments-s.false c.if-owner-user.false (test_holds c.fits2.ensures c.if-not-fits.false-raw)
+    served _ _ _ _ _ (editor_known _ _ c.editor-editor.ensures _ c.in-Accepted.is) c.segments.ensures.count c.if-segments-s.false c.if-owner-user.false (sym c.fits.ensures ∙ c.if-not-fits.false)
     c.issued.ensures c.compile-compiled.ensures c.judge_lock.ensures

@@ -1,5 +1,4 @@
 -- The rows so far are stored (`Adding`), and then the end.
-use Prim.Native.Nat.{◌-◌}
 use Rattle.locks.proofs.AddedRows.{adding_start, adding_next, adding_end}
 use borrow.Author.Rules.{rules}
 use Rattle.locks.proofs.rows.add_rows.Goals as goal

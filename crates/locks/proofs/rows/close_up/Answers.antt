@@ -1,6 +1,5 @@
 -- The rows so far are closed up (`Packing`).
 use borrow.Author.Tests.{eq-eqb, ne_eqb}
-use Prim.Native.Nat.{◌-◌}
 use Rattle.locks.proofs.KeptRows.{packing_start, packing_skip, packing_keep, packing_same, packing_whole}
 use borrow.Author.Rules.{rules}
 use Rattle.locks.proofs.rows.close_up.Goals as goal
@@ -13,7 +12,10 @@ pub loop-from-preserved : goal.loop-from-preserved
 loop-from-preserved c =
     let inv = c.loop-from.invariant.1 in (
       search rules,
-      elim c.if-head-lock.branch [ then-head-lock w ↦ packing_same w.2 w.3 (packing_keep inv (search rules) (ne_eqb _ _ w.if-head-lock.true)) | else-head-lock w ↦ packing_same w.1 w.2 (packing_skip inv (search rules) (eq-eqb _ _ w.if-head-lock.false)) ],
+      elim c.if-head-lock.branch [
+        | then-head-lock w ↦ packing_same w.products-is w.to-is (packing_keep inv (search rules) (ne_eqb _ _ w.if-head-lock.true))
+        | else-head-lock w ↦ packing_same w.products-is w.to-is (packing_skip inv (search rules) (eq-eqb _ _ w.if-head-lock.false))
+      ],
     )
 
 pub returns : goal.returns

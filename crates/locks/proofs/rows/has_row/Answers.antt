@@ -1,6 +1,5 @@
 -- What is left from row i on has a row of the lock exactly where all have.
 use mathlib.Core.List.{[]}
-use Prim.Native.Nat.{◌-◌}
 use borrow.Author.Rules.{rules}
 use borrow.Author.Tests.{eq-eqb, ne_eqb}
 use Rattle.base.proofs.Scans.{rest_start, asks_end, asks_stop, asks_hit, asks_miss}

@@ -1,9 +1,7 @@
 -- No segment before s has a row of the lock.
 use mathlib.Core.Path.{sym, ◌∙◌}
-use Prim.Native.Nat.{◌-◌}
 use borrow.Author.Rules.{rules}
 use Rattle.base.proofs.Scans.{missed_start, missed_more, missed_hit, missed_end}
-use Rattle.locks.specs.Internal.{has_row}
 use Rattle.locks.proofs.rows.segment_of.Goals as goal
 
 pub loop-s-init : goal.loop-s-init

@@ -1,5 +1,4 @@
 -- No row before i begins with 0.
-use Prim.Native.Nat.{◌-◌}
 use borrow.Author.Rules.{rules}
 use borrow.Author.Tests.{eq-eqb, ne_eqb}
 use Rattle.base.proofs.Scans.{missed_start, missed_more, missed_hit, missed_end}

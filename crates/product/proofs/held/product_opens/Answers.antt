@@ -1,8 +1,6 @@
 -- What is left from place i on has the answer of the whole.
 use borrow.Author.Rules.{rules}
-use borrow.Author.Tests.{not-true, not-false}
 use mathlib.Core.Path.{refl, sym, ◌∙◌}
-use Prim.Native.Nat.{◌-◌}
 use Rattle.product.proofs.KeySets.{opens_next, opens_past}
 use Rattle.product.specs.Held.{held_by}
 use Rattle.product.proofs.held.product_opens.Goals as goal
@@ -13,12 +11,12 @@ loop-i-init c = refl
 pub returns-then-not-agrees : goal.returns-then-not-agrees
 returns-then-not-agrees c =
     let keys = c.args.keys.now in
-    sym (c.loop-i.invariant ∙ rw (opens_next c.size-n.ensures (held_by keys) c.loop-i.i (search rules), ← c.decode-x.ensures, ← c.agrees.ensures, not-true c.agrees.result c.if-not-agrees.true-raw))
+    sym (c.loop-i.invariant ∙ rw (opens_next c.size-n.ensures (held_by keys) c.loop-i.i (search rules), ← c.decode-x.ensures, ← c.agrees.ensures, c.if-not-agrees.true))
 
 pub loop-i-preserved : goal.loop-i-preserved
 loop-i-preserved c =
     let keys = c.args.keys.now in
-    c.loop-i.invariant ∙ rw (opens_next c.size-n.ensures (held_by keys) c.loop-i.i (search rules), ← c.decode-x.ensures, ← c.agrees.ensures, not-false c.agrees.result c.if-not-agrees.false-raw)
+    c.loop-i.invariant ∙ rw (opens_next c.size-n.ensures (held_by keys) c.loop-i.i (search rules), ← c.decode-x.ensures, ← c.agrees.ensures, c.if-not-agrees.false)
 
 pub returns : goal.returns
 returns c =

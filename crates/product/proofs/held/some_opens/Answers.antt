@@ -1,7 +1,6 @@
 -- What is left from row i on has the answer of the whole.
 use borrow.Author.Rules.{rules}
 use mathlib.Core.Path.{refl, sym, ◌∙◌}
-use Prim.Native.Nat.{◌-◌}
 use Rattle.product.proofs.KeySets.{any_next, any_past}
 use Rattle.product.specs.Held.{held_by}
 use Rattle.product.proofs.held.some_opens.Goals as goal

@@ -1,4 +1,5 @@
 -- The first digit says the kind.
+use borrow.Author.Rules.{rules}
 use Rattle.product.proofs.Codes.{user_at, thread_at_lem, segment_at_lem, defined_at}
 use Rattle.product.proofs.literal.decode_key.Goals as goal
 
@@ -12,4 +13,4 @@ pub returns-in-2 : goal.returns-in-2
 returns-in-2 c = segment_at_lem _ c.in-2.is
 
 pub returns-in_default : goal.returns-in_default
-returns-in_default c = let none = c.in_default.rest in defined_at _ c.requires none.0.0.1 none.0.1 none.1
+returns-in_default c = search (rules, defined_at)

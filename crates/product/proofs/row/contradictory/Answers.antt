@@ -1,7 +1,6 @@
 -- What is left from place i on has the answer of the whole.
 use borrow.Author.Rules.{rules}
 use mathlib.Core.Path.{refl, sym, ◌∙◌}
-use Prim.Native.Nat.{◌-◌}
 use Rattle.product.proofs.Insertion.{wide_cons, wide_past}
 use Rattle.product.specs.Product.{contradictory}
 use Rattle.product.proofs.row.contradictory.Goals as goal

@@ -1,6 +1,5 @@
 -- The loop carries a literal upwards (`Placing`); the measure is the places that are left.
 use borrow.Author.Rules.{rules}
-use Prim.Native.Nat.{◌-◌}
 use Rattle.product.proofs.Insertion.{placing_start, placing_same, placing_put, placing_keep, placing_as, placing_end}
 use Rattle.product.proofs.row.insert.Goals as goal
 use Rattle.product.proofs.row.insert.Goals.{else-before, then-before}
@@ -15,9 +14,12 @@ returns-then-same c =
 pub loop-i-preserved : goal.loop-i-preserved
 loop-i-preserved c =
     let few = c.requires.0 in
-    elim c.if-before.branch [ then-before w ↦ placing_as w.2 w.3
-    (placing_put few c.loop-i.invariant c.loop-i-test.true _ c.decode-y.ensures c.same.ensures c.if-same.false c.before-in-loop-i.ensures w.if-before.true w.encode.ensures) | else-before w ↦ placing_as w.1 w.2
-    (placing_keep few c.loop-i.invariant c.loop-i-test.true _ c.decode-y.ensures c.same.ensures c.if-same.false c.before-in-loop-i.ensures w.if-before.false) ]
+    elim c.if-before.branch [
+      | then-before w ↦ placing_as w.cells-is w.carried-is
+          (placing_put few c.loop-i.invariant c.loop-i-test.true _ c.decode-y.ensures c.same.ensures c.if-same.false c.before-in-loop-i.ensures w.if-before.true w.encode.ensures)
+      | else-before w ↦ placing_as w.cells-is w.carried-is
+          (placing_keep few c.loop-i.invariant c.loop-i-test.true _ c.decode-y.ensures c.same.ensures c.if-same.false c.before-in-loop-i.ensures w.if-before.false)
+    ]
 
 pub returns : goal.returns
 returns c = placing_end (search rules) c.loop-i.invariant (search rules) c.encode-2.ensures

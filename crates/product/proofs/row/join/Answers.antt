@@ -1,6 +1,5 @@
 -- The loop puts the second row's literals among the first's, one by one (`Uniting`).
 use borrow.Author.Rules.{rules}
-use Prim.Native.Nat.{◌-◌}
 use native.Mathlib.Omega.{arith}
 use Rattle.product.proofs.WideRows.{uniting_start, uniting_next, uniting_end}
 use Rattle.product.proofs.row.join.Goals as goal

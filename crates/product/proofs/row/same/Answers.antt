@@ -1,8 +1,6 @@
 -- What is left from place i on has the answer of the whole.
 use borrow.Author.Rules.{rules}
 use mathlib.Core.Path.{refl, sym, ◌∙◌}
-use borrow.Author.Tests.{not-true, not-false}
-use Prim.Native.Nat.{◌-◌}
 use native.Mathlib.Omega.{arith}
 use Rattle.product.proofs.WideRows.{row_cons, row_past, rows_differ}
 use Rattle.product.specs.Product.{same_product}
@@ -25,7 +23,7 @@ returns-then-not-same c =
       ← c.decode-x.ensures,
       ← c.decode-y.ensures,
       ← c.same.ensures,
-      not-true c.same.result c.if-not-same.true-raw,
+      c.if-not-same.true,
     ))
 
 pub loop-i-preserved : goal.loop-i-preserved
@@ -39,7 +37,7 @@ loop-i-preserved c =
       ← c.decode-x.ensures,
       ← c.decode-y.ensures,
       ← c.same.ensures,
-      not-false c.same.result c.if-not-same.false-raw,
+      c.if-not-same.false,
     )
 
 pub returns : goal.returns

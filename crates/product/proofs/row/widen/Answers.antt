@@ -1,6 +1,5 @@
 -- The loop copies: below i the cells are the numbers of the row's literals, from i on they are 0 (`Copied`).
 use borrow.Author.Rules.{rules}
-use Prim.Native.Nat.{◌-◌}
 use native.Mathlib.Omega.{arith}
 use mathlib.Core.Path.{refl}
 use Rattle.product.proofs.WideRows.{copied_next, copied_all}

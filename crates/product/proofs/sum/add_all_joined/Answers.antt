@@ -2,7 +2,7 @@
 use borrow.Author.Rules.{rules}
 use mathlib.Core.Path.{ap}
 use mathlib.Core.List.{[]}
-use Prim.Native.Nat.{◌+◌, ◌-◌}
+use Prim.Native.Nat.{◌+◌}
 use lib.ListN.{get_or, drop}
 use Rattle.product.proofs.FilledRows.{adding_start, adding_more, adding_end}
 use Rattle.base.proofs.Parts.{part_cons, part_past}

@@ -1,7 +1,6 @@
 -- What is left to add makes the total (`Adding`).
 use borrow.Author.Rules.{rules}
 use mathlib.Core.Path.{ap}
-use Prim.Native.Nat.{◌-◌}
 use mathlib.Core.List.{[]}
 use Rattle.product.proofs.FilledRows.{adding_start, adding_next, adding_end}
 use Rattle.base.proofs.Parts.{part_cons, part_past}

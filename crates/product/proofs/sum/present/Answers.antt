@@ -1,7 +1,6 @@
 -- What is left from row i on has the answer of the whole.
 use borrow.Author.Rules.{rules}
 use mathlib.Core.Path.{refl, sym, ◌∙◌}
-use Prim.Native.Nat.{◌-◌}
 use Rattle.product.proofs.FilledRows.{present_next, present_past}
 use Rattle.product.specs.Sum.{present}
 use Rattle.product.proofs.sum.present.Goals as goal

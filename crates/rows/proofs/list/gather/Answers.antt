@@ -1,5 +1,4 @@
 -- The rows so far, and what the rest of the table gives (`Gathering`).
-use Prim.Native.Nat.{◌-◌}
 use Rattle.rows.proofs.RowsMade.{gathering_start, gathering_skip, gathering_keep, gathering_same, gathered_all, gathered_early}
 use borrow.Author.Rules.{rules}
 use Rattle.rows.proofs.list.gather.Goals as goal
@@ -16,7 +15,11 @@ loop-p-preserved c =
     let inv = c.loop-p.invariant.1 in
     let z = c.if-head-eq0.false in (
       search rules,
-      elim c.if-shown-p.branch [ then-shown-p w ↦ gathering_same w.3 (gathering_keep inv (search rules) z (search rules) w.if-shown-p.true w.2.ensures) | else-shown-p w ↦ gathering_same w.1 (gathering_skip inv (search rules) z w.if-shown-p.false) ],
+      elim c.if-shown-p.branch [
+        | then-shown-p w ↦
+            gathering_same w.listing-is (gathering_keep inv (search rules) z (search rules) w.if-shown-p.true w.row_of.ensures)
+        | else-shown-p w ↦ gathering_same w.listing-is (gathering_skip inv (search rules) z w.if-shown-p.false)
+      ],
     )
 
 pub returns : goal.returns

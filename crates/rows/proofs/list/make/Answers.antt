@@ -1,24 +1,23 @@
 -- A refusal is the first test that fails; the rows are those of the segment's table.
-use borrow.Author.Tests.{not-true, not-false}
 use Rattle.rows.proofs.MadeLists.{makes_refused, makes_accepted, unknown_user, no_segment_lem, too_few, enough}
 use mathlib.Core.Path.{sym, ◌∙◌}
 use Rattle.rows.proofs.list.make.Goals as goal
 
 pub returns-then-not-is_user : goal.returns-then-not-is_user
 returns-then-not-is_user c =
-    makes_refused _ c.refused.ensures (λ d. unknown_user _ _ _ _ (sym c.is_user.ensures ∙ not-true _ c.if-not-is_user.true-raw))
+    makes_refused _ c.refused.ensures (λ d. unknown_user _ _ _ _ (sym c.is_user.ensures ∙ c.if-not-is_user.true))
 
 pub returns-then-segments-s : goal.returns-then-segments-s
 returns-then-segments-s c =
     makes_refused _ c.refused-then-segments-s.ensures
-    (λ d. no_segment_lem _ _ _ _ (sym c.is_user.ensures ∙ not-false _ c.if-not-is_user.false-raw) c.segments.ensures.count c.if-segments-s.true)
+    (λ d. no_segment_lem _ _ _ _ (sym c.is_user.ensures ∙ c.if-not-is_user.false) c.segments.ensures.count c.if-segments-s.true)
 
 pub returns-then-lent-count : goal.returns-then-lent-count
 returns-then-lent-count c =
     makes_refused _ c.refused-then-lent-count.ensures
-    (λ d. too_few _ _ _ _ (sym c.is_user.ensures ∙ not-false _ c.if-not-is_user.false-raw) c.segments.ensures.count c.if-segments-s.false c.gather-listing.ensures c.if-lent-count.true)
+    (λ d. too_few _ _ _ _ (sym c.is_user.ensures ∙ c.if-not-is_user.false) c.segments.ensures.count c.if-segments-s.false c.gather-listing.ensures c.if-lent-count.true)
 
 pub returns : goal.returns
 returns c =
     makes_accepted c.gather-listing.ensures.few c.if-lent-count.false
-    (λ d. enough _ _ _ _ (sym c.is_user.ensures ∙ not-false _ c.if-not-is_user.false-raw) c.segments.ensures.count c.if-segments-s.false c.gather-listing.ensures c.if-lent-count.false)
+    (λ d. enough _ _ _ _ (sym c.is_user.ensures ∙ c.if-not-is_user.false) c.segments.ensures.count c.if-segments-s.false c.gather-listing.ensures c.if-lent-count.false)

@@ -113,7 +113,7 @@ pub bounds-makers-key : goal.bounds-makers-key
 bounds-makers-key c = let l = (names_low c.test_names.ensures c.in_default-test_names.is) in search (rules, l)
 
 pub returns-then-not-owner-user : goal.returns-then-not-owner-user
-returns-then-not-owner-user c = λ text d. not_owner _ text _ _ _ ((editor_known _ _ c.editor-editor.ensures _ c.in-Accepted.is)) ((names_known _ (GiveKey _ _ _) [] _ _ _ (names _ [] _ _ _) ((editor_known _ _ c.editor-editor.ensures _ c.in-Accepted.is)) c.test_names.ensures c.in_default-test_names.is)) c.if-not-owner-user.true-raw
+returns-then-not-owner-user c = λ text d. not_owner _ text _ _ _ ((editor_known _ _ c.editor-editor.ensures _ c.in-Accepted.is)) ((names_known _ (GiveKey _ _ _) [] _ _ _ (names _ [] _ _ _) ((editor_known _ _ c.editor-editor.ensures _ c.in-Accepted.is)) c.test_names.ensures c.in_default-test_names.is)) (search rules)
 
 pub bounds-segments-s-else-not-owner-user : goal.bounds-segments-s-else-not-owner-user
 bounds-segments-s-else-not-owner-user c = ((names_low c.test_names.ensures c.in_default-test_names.is)).0
@@ -123,12 +123,12 @@ overflow_add-key c = let l = (names_low c.test_names.ensures c.in_default-test_n
 
 pub returns-then-kept : goal.returns-then-kept
 returns-then-kept c =
-    λ text d. present _ text _ _ _ ((editor_known _ _ c.editor-editor.ensures _ c.in-Accepted.is)) ((names_known _ (GiveKey _ _ _) [] _ _ _ (names _ [] _ _ _) ((editor_known _ _ c.editor-editor.ensures _ c.in-Accepted.is)) c.test_names.ensures c.in_default-test_names.is)) c.if-not-owner-user.false-raw c.remove-kept.ensures c.if-kept.true
+    λ text d. present _ text _ _ _ ((editor_known _ _ c.editor-editor.ensures _ c.in-Accepted.is)) ((names_known _ (GiveKey _ _ _) [] _ _ _ (names _ [] _ _ _) ((editor_known _ _ c.editor-editor.ensures _ c.in-Accepted.is)) c.test_names.ensures c.in_default-test_names.is)) (search rules) c.remove-kept.ensures c.if-kept.true
 
 pub returns-then-count-ge-MOST_LISTED : goal.returns-then-count-ge-MOST_LISTED
 returns-then-count-ge-MOST_LISTED c =
     λ text d.
-    full _ text _ _ _ ((editor_known _ _ c.editor-editor.ensures _ c.in-Accepted.is)) ((names_known _ (GiveKey _ _ _) [] _ _ _ (names _ [] _ _ _) ((editor_known _ _ c.editor-editor.ensures _ c.in-Accepted.is)) c.test_names.ensures c.in_default-test_names.is)) c.if-not-owner-user.false-raw c.remove-kept.ensures c.if-kept.false c.if-count-ge-MOST_LISTED.true
+    full _ text _ _ _ ((editor_known _ _ c.editor-editor.ensures _ c.in-Accepted.is)) ((names_known _ (GiveKey _ _ _) [] _ _ _ (names _ [] _ _ _) ((editor_known _ _ c.editor-editor.ensures _ c.in-Accepted.is)) c.test_names.ensures c.in_default-test_names.is)) (search rules) c.remove-kept.ensures c.if-kept.false c.if-count-ge-MOST_LISTED.true
 
 pub overflow_add-cells : goal.overflow_add-cells
 overflow_add-cells c = let l = (names_low c.test_names.ensures c.in_default-test_names.is) in search (rules, l)
@@ -139,5 +139,5 @@ bounds-segments-s-else-count-ge-MOST_LISTED c = ((names_low c.test_names.ensures
 pub returns : goal.returns
 returns c =
     λ text d.
-    given _ text _ _ _ ((editor_known _ _ c.editor-editor.ensures _ c.in-Accepted.is)) ((names_known _ (GiveKey _ _ _) [] _ _ _ (names _ [] _ _ _) ((editor_known _ _ c.editor-editor.ensures _ c.in-Accepted.is)) c.test_names.ensures c.in_default-test_names.is)) c.if-not-owner-user.false-raw c.remove-kept.ensures
+    given _ text _ _ _ ((editor_known _ _ c.editor-editor.ensures _ c.in-Accepted.is)) ((names_known _ (GiveKey _ _ _) [] _ _ _ (names _ [] _ _ _) ((editor_known _ _ c.editor-editor.ensures _ c.in-Accepted.is)) c.test_names.ensures c.in_default-test_names.is)) (search rules) c.remove-kept.ensures
     c.if-kept.false c.if-count-ge-MOST_LISTED.false

@@ -1,6 +1,5 @@
 -- The loop keeps what it has seen of the list (`Removing`); the measure is the cells that are left.
 use borrow.Author.Rules.{rules}
-use Prim.Native.Nat.{◌-◌}
 use Rattle.segments.proofs.RemovedKey.{removing_start, removing_none, removing_hit, removing_miss, removing_end}
 use Rattle.segments.proofs.list.remove.Goals as goal
 

@@ -60,17 +60,17 @@ module _ (d : Cells) (text : List ℕ) (u : ℕ) where
           (ap₂ (λ (m j : ℕ). registry_is (set d.registry thread_count m) (threads_are (on_table d.threads j (start_thread n u)) d)) (add-one n) found.place)
 
 pub returns-then-not-is_user : goal.returns-then-not-is_user
-returns-then-not-is_user c = λ text d. unknown_user _ text _ (sym (ap not c.is_user.ensures) ∙ c.if-not-is_user.true-raw)
+returns-then-not-is_user c = λ text d. unknown_user _ text _ (ap not (sym c.is_user.ensures ∙ c.if-not-is_user.true))
 
 pub returns-then-numbers-ge-MOST_NUMBERS : goal.returns-then-numbers-ge-MOST_NUMBERS
-returns-then-numbers-ge-MOST_NUMBERS c = λ text d. no_number _ text _ ((sym (ap not c.is_user.ensures) ∙ c.if-not-is_user.false-raw)) c.if-numbers-ge-MOST_NUMBERS.true
+returns-then-numbers-ge-MOST_NUMBERS c = λ text d. no_number _ text _ (ap not (sym c.is_user.ensures ∙ c.if-not-is_user.false)) c.if-numbers-ge-MOST_NUMBERS.true
 
 pub returns-then-free-ge-MOST_THREADS : goal.returns-then-free-ge-MOST_THREADS
 returns-then-free-ge-MOST_THREADS c =
     λ text d.
-    no_place _ text _ ((sym (ap not c.is_user.ensures) ∙ c.if-not-is_user.false-raw)) _ c.find_free-free.ensures c.if-free-ge-MOST_THREADS.true
+    no_place _ text _ (ap not (sym c.is_user.ensures ∙ c.if-not-is_user.false)) _ c.find_free-free.ensures c.if-free-ge-MOST_THREADS.true
 
 pub returns : goal.returns
 returns c =
     λ text d.
-    started _ text _ ((sym (ap not c.is_user.ensures) ∙ c.if-not-is_user.false-raw)) _ c.find_free-free.ensures c.if-numbers-ge-MOST_NUMBERS.false c.if-free-ge-MOST_THREADS.false
+    started _ text _ (ap not (sym c.is_user.ensures ∙ c.if-not-is_user.false)) _ c.find_free-free.ensures c.if-numbers-ge-MOST_NUMBERS.false c.if-free-ge-MOST_THREADS.false

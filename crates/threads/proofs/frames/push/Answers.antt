@@ -34,7 +34,11 @@ module _ (t : Table) (n : ℕ) (depth : n ≡ depth_of t) where
       )
 
 pub returns-then-frames-ge-MOST_FRAMES : goal.returns-then-frames-ge-MOST_FRAMES
-returns-then-frames-ge-MOST_FRAMES c = full c.args.thread.now _ c.depth-frames.ensures.count _ c.if-frames-ge-MOST_FRAMES.true
+returns-then-frames-ge-MOST_FRAMES c =
+    let p = full c.args.thread.now _ c.depth-frames.ensures.count (set c.args.list.now 0 c.args.segment) c.if-frames-ge-MOST_FRAMES.true in
+    record { room = p.0; rows = p.1 }
 
 pub returns : goal.returns
-returns c = room c.args.thread.now _ c.depth-frames.ensures.count _ _ c.if-frames-ge-MOST_FRAMES.false
+returns c =
+    let p = room c.args.thread.now _ c.depth-frames.ensures.count c.args.list.now c.args.segment c.if-frames-ge-MOST_FRAMES.false in
+    record { room = p.0; rows = p.1 }

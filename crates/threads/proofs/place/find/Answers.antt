@@ -1,6 +1,5 @@
 -- The thread's own place first, then the scan.
 use mathlib.Core.Path.{sym, ◌∙◌}
-use Prim.Native.Nat.{◌<◌}
 use native.Mathlib.Omega.{arith}
 use borrow.Author.Rules.{scaled_Fits}
 use lib.Dec.{lit<}

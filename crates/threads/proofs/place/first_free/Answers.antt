@@ -1,8 +1,6 @@
 -- No place before i is free.
 use mathlib.Core.Path.{sym, ◌∙◌}
-use Prim.Native.Nat.{◌-◌}
 use borrow.Author.Rules.{rules}
-use Rattle.model.specs.State.{is_free}
 use Rattle.base.proofs.Scans.{missed_start, missed_more}
 use Rattle.threads.proofs.PlaceScan.{scan_hit, scan_end}
 use Rattle.threads.proofs.place.first_free.Goals as goal

@@ -1,9 +1,8 @@
 -- The threads of the groups so far are changed (`Changed`).
 use mathlib.Core.Path.{◌≡◌, sym, ◌∙◌}
 use mathlib.Core.List.{List, []}
-use Prim.Native.Nat.{ℕ, ◌-◌}
+use Prim.Native.Nat.{ℕ}
 use borrow.Author.Rules.{rules}
-use borrow.Author.Tests.{not-false}
 use Rattle.base.proofs.Scans.{Changed, changed_start, changed_end}
 use Rattle.model.specs.Cells.{Table}
 use Rattle.threads.proofs.RevokedRows.{four_changed, four_idle}
@@ -20,7 +19,13 @@ pub loop-group-preserved : goal.loop-group-preserved
 loop-group-preserved c =
     let inv = c.loop-group.invariant.1 in (
       search rules,
-      elim c.if-not-are_idle.branch [ then-not-are_idle w ↦ as_changed w.9 (four_changed _ _ _ inv (search rules) w.revoke_in-then-not-are_idle.ensures w.revoke_in-then-not-are_idle-3.ensures w.6.ensures w.8.ensures) | else-not-are_idle w ↦ as_changed w.1 (four_idle _ _ _ inv (search rules) (sym c.are_idle.ensures ∙ not-false _ w.if-not-are_idle.false)) ],
+      elim c.if-not-are_idle.branch [
+        | then-not-are_idle w ↦ as_changed w.threads-is
+            (four_changed _ _ _ inv (search rules) w.revoke_in.ensures w.revoke_in-then-not-are_idle.ensures
+            w.revoke_in-then-not-are_idle-2.ensures w.revoke_in-then-not-are_idle-3.ensures)
+        | else-not-are_idle w ↦ as_changed w.threads-is
+            (four_idle _ _ _ inv (search rules) (sym c.are_idle.ensures ∙ w.if-not-are_idle.false))
+      ],
     )
 
 pub returns : goal.returns

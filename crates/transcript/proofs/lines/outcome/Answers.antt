@@ -13,22 +13,19 @@ decimal-requires c =
 
 pub decimal-next-requires : goal.decimal-next-requires
 decimal-next-requires c =
-    let matched = c.answer-in-Refused-1 in
-    omega (arith, refusal_digits matched.given.0.0 c.number-reason.ensures, c.put-first-in-Refused.ensures.ends)
+    omega (arith, refusal_digits c.in-Refused.refusal c.number-reason.ensures, c.put-first-in-Refused.ensures.ends)
 
 pub put-third-requires : goal.put-third-requires
 put-third-requires c =
-    let matched = c.answer-in-Refused-1 in
-    omega (arith, refusal_digits matched.given.0.0 c.number-reason.ensures, c.put-first-in-Refused.ensures.ends, c.decimal-next.ensures.ends)
+    omega (arith, refusal_digits c.in-Refused.refusal c.number-reason.ensures, c.put-first-in-Refused.ensures.ends, c.decimal-next.ensures.ends)
 
 pub decimal-requires-in-Refused : goal.decimal-requires-in-Refused
 decimal-requires-in-Refused c =
-    let matched = c.answer-in-Refused-1 in
     let n = c.second-lock.result in
     let word : n < 65536 = omega arith in
     omega (
       arith,
-      refusal_digits matched.given.0.0 c.number-reason.ensures,
+      refusal_digits c.in-Refused.refusal c.number-reason.ensures,
       five_digits n word,
       c.put-first-in-Refused.ensures.ends,
       c.decimal-next.ensures.ends,
@@ -37,21 +34,19 @@ decimal-requires-in-Refused c =
 
 pub returns-in-Accepted : goal.returns-in-Accepted
 returns-in-Accepted c =
-    let matched = c.answer-1 in
-    let word : matched.given.0.0 < 65536 = omega arith in (
-      accepted_put matched.given.1 c.put-first.ensures c.decimal.ensures,
-      omega (arith, five_digits matched.given.0.0 word, c.put-first.ensures.ends, c.decimal.ensures.ends),
+    let word : c.in-Accepted.n < 65536 = omega arith in (
+      accepted_put c.in-Accepted.is c.put-first.ensures c.decimal.ensures,
+      omega (arith, five_digits c.in-Accepted.n word, c.put-first.ensures.ends, c.decimal.ensures.ends),
     )
 
 pub returns-in-Refused : goal.returns-in-Refused
 returns-in-Refused c =
-    let matched = c.answer-in-Refused-1 in
     let n = c.second-lock.result in
     let word : n < 65536 = omega arith in (
-      refused_put matched.given.1 c.number-reason.ensures c.second-lock.ensures c.put-first-in-Refused.ensures c.decimal-next.ensures c.put-third.ensures c.decimal-in-Refused.ensures,
+      refused_put c.in-Refused.is c.number-reason.ensures c.second-lock.ensures c.put-first-in-Refused.ensures c.decimal-next.ensures c.put-third.ensures c.decimal-in-Refused.ensures,
       omega (
         arith,
-        refusal_digits matched.given.0.0 c.number-reason.ensures,
+        refusal_digits c.in-Refused.refusal c.number-reason.ensures,
         five_digits n word,
         c.put-first-in-Refused.ensures.ends,
         c.decimal-next.ensures.ends,

@@ -1,9 +1,0 @@
--- By the kind.
-use borrow.Author.Tests.{eq-eqb, ne_eqb}
-use Rattle.model.proofs.operations.is_taken.Goals as goal
-
-pub returns-then-kind-eq0 : goal.returns-then-kind-eq0
-returns-then-kind-eq0 c = rw (eq-eqb _ _ c.if-kind-eq0.true)
-
-pub returns-else-kind-eq0 : goal.returns-else-kind-eq0
-returns-else-kind-eq0 c = rw (ne_eqb _ _ c.if-kind-eq0.false)
