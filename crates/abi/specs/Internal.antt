@@ -12,8 +12,8 @@ cells_at rows i = (get_or rows i (row_with [])).cells
 
 abbrev pub eight_cells : List Row → List (List ℕ)
 eight_cells rows =
-    cells_at rows 0 ∷ cells_at rows 1 ∷ cells_at rows 2 ∷ cells_at rows 3 ∷ cells_at rows 4 ∷ cells_at rows 5 ∷ cells_at rows 6
-    ∷ cells_at rows 7 ∷ []
+    cells_at rows 0 ∷ cells_at rows 1 ∷ cells_at rows 2 ∷ cells_at rows 3 ∷ cells_at rows 4 ∷ cells_at rows 5
+    ∷ cells_at rows 6 ∷ cells_at rows 7 ∷ []
 
 -- the key with that number, and beyond the last a U key
 abbrev pub key_read : ℕ → Key

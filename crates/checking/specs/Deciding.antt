@@ -16,7 +16,8 @@ use Rattle.checking.specs.declared.Checked.TheVariants.{Granted, Denied, NotGran
 
 -- the key set of the thread, with its oldest n frames
 abbrev pub keys_at : Table → ℕ → KeySet
-keys_at t n = key_set (cell (row_at t 0) number_cell) (record { user = cell (row_at t 0) user_cell; frames = frames_of t n })
+keys_at t n =
+    key_set (cell (row_at t 0) number_cell) (record { user = cell (row_at t 0) user_cell; frames = frames_of t n })
 
 abbrev pub keys_of : Table → KeySet
 keys_of t = keys_at t (depth_of t)

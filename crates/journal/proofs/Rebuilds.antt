@@ -1,5 +1,5 @@
--- The buffer is always a file and what follows it: `file_bytes ps ++ q`. One append stores the count inside the head and
--- the record over the front of q; by induction so does a list of them.
+-- The buffer is always a file and what follows it: `file_bytes ps ++ q`. One append stores the count inside the head
+-- and the record over the front of q; by induction so does a list of them.
 use Prim.Native.Nat.{ℕ, ◌+◌, ◌-◌, ◌≤◌}
 use mathlib.Core.Path.{◌≡◌, refl, sym, ap, subst, subst₂, ◌∙◌}
 use mathlib.Core.Bool.{true, false, ◌||◌}

@@ -130,7 +130,8 @@ pub record AppendExamples : Type 0 where
   -- and where 65,535 bytes would be passed, though the buffer has room
   pub over_limit : append_answer (file_bytes longest ++ replicate 9 0) 65535 call_u ≡ Declined Full
   -- ---- an accepted one: L 258 3 1 `U0` after a record U, in a buffer of 30 bytes; the last three stay
-  pub accepted : append_answer (counted 1 new_user ++ replicate 14 9) 16 (call_with 76 258 3 1 (85 ∷ 48 ∷ [])) ≡ Length 27
+  pub accepted :
+      append_answer (counted 1 new_user ++ replicate 14 9) 16 (call_with 76 258 3 1 (85 ∷ 48 ∷ [])) ≡ Length 27
   pub accepted_buffer :
       buffer_after (Length 27) (counted 1 new_user ++ replicate 14 9) 16 (call_with 76 258 3 1 (85 ∷ 48 ∷ []))
       ≡ 75 ∷ 76 ∷ 68 ∷ 2 ∷ 0 ∷ 2 ∷ 0 ∷ 85 ∷ 0 ∷ 0 ∷ 0 ∷ 0 ∷ 0 ∷ 0 ∷ 0 ∷ 0

@@ -24,7 +24,8 @@ searched_after xs n k = searched (state_of (reached outcome_of xs)) n k
 
 -- the same from the calls with their answers
 abbrev pub searched_from : List Event → ℕ → Key → Searched
-searched_from es n k = or_default (Refused NoThread) (λ t. searched_by (newest_from k t.frames)) ((history es).threads n)
+searched_from es n k =
+    or_default (Refused NoThread) (λ t. searched_by (newest_from k t.frames)) ((history es).threads n)
 
 -- and in words
 pub record ExactAfter (xs : List Call) (n : ℕ) (k : Key) : Type 0 where
