@@ -2,7 +2,6 @@
 use Rattle.std.specs.Prelude.{Bool, List, map, ℕ, eqb, length}
 use Rattle.product.specs.Product.{opens}
 use Rattle.product.specs.Sum.{Sum}
-use Rattle.formula.specs.Nodes.{products}
 use Rattle.formula.specs.Outcome.{sum_in}
 use Rattle.formula.specs.Compiler.{Compiler, everything}
 use Rattle.base.specs.Lists.{any, keep, concat_map, total}

@@ -10,7 +10,7 @@ use lib.ListN.{length, get_or, set, length-set, replicate}
 use Rattle.formula.specs.Compiler.{Compiler}
 use Rattle.model.specs.Threads.{Thread}
 use Rattle.model.specs.State.{State, empty_state, free, taken, Segment, live_in, Place}
-use Rattle.model.specs.History.{History, Entry, empty_history, with_entries, counts, Lock, with_threads, with_locks}
+use Rattle.model.specs.History.{History, Entry, empty_history, with_entries, Lock, with_threads, with_locks}
 use Rattle.base.proofs.Lists.{length_append_one}
 use Rattle.model.proofs.Agreement.Places.{AgreeThreads}
 use Rattle.model.proofs.Agreement.Segments.{AgreeSegments}

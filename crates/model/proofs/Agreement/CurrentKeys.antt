@@ -1,7 +1,7 @@
 -- The D keys that an open call hands over are in its segment's list: C copies the list, G, N, L and D take no key out
 -- of one, and T takes a key out of the list and of every open call of its segment.
 use mathlib.Core.Path.{◌≡◌, refl, sym, ap, ◌∙◌}
-use mathlib.Core.Bool.{true, false, ◌||◌, not, false≢true}
+use mathlib.Core.Bool.{true, not, false≢true}
 use mathlib.Core.List.{List, [], ◌∷◌, ◌++◌, map, Memᴰ}
 use mathlib.Core.Logic.{◌⊎◌, inl, inr, ⊎_elim}
 use mathlib.Core.Option.{none}
@@ -13,7 +13,6 @@ use Rattle.base.specs.Conditions.{first_refusal}
 use Rattle.base.specs.Lists.{tail_of}
 use Rattle.base.proofs.Lists.{All, All-map, all_at, any_append, case_bool, Everywhere, everywhere_map, everywhere_set, everywhere_replicate}
 use Rattle.base.proofs.Truth.{and_left, and_right, both_and}
-use Rattle.product.specs.declared.literal.Key.{Key}
 use Rattle.product.specs.declared.literal.Key.TheVariants.{Defined}
 use Rattle.formula.specs.Outcome.{sum_in}
 use Rattle.formula.specs.Compiler.{Compiler}

@@ -18,7 +18,6 @@ use Rattle.model.specs.declared.answer.Refusal.{Refusal}
 use Rattle.model.specs.Threads.{Thread}
 use Rattle.model.specs.State.{State, empty_state, find_thread, thread_at}
 use Rattle.model.specs.Refusals.{conditions}
-use Rattle.model.specs.Effects.{answer}
 use Rattle.model.specs.Model.{judged, step_decoded, step}
 use Rattle.model.specs.History.{History, Event, event, empty_history, note_answer, advance, history_from, history, counts, count_from, accepted_of}
 use Rattle.model.specs.Replay.{state_after, events_of}

@@ -13,7 +13,6 @@ use borrow.Author.Tests.{eqb-true, lt-ltb, ltb-true, ltb-false, le-ltb}
 use Rattle.formula.specs.Compiler.{Compiler, Laws}
 use Rattle.formula.specs.Meaning.{Meaning}
 use Rattle.call.specs.declared.request.Request.{Request}
-use Rattle.call.specs.declared.request.Request.TheVariants as request
 use Rattle.call.specs.declared.request.Decoded.{Decoded}
 use Rattle.call.specs.declared.request.Decoded.TheVariants.{WellFormed}
 use Rattle.call.specs.Calls.{Call, decoded}

@@ -24,7 +24,7 @@ use Rattle.model.specs.State.{fresh_thread, find_thread, fresh_segment, State, i
 use Rattle.model.specs.Effects.{on_thread, with_frames, push_frame, pop_frame, give_key, take_key, revoke_frame, revoke_thread, revoke_key, add_products, drop_products, on_segment, update, answer, at_place, with_places}
 use Rattle.model.specs.Threads.{Frame, Thread}
 use Rattle.model.specs.Refusals.{conditions}
-use Rattle.model.specs.History.{History, Entry, with_entries, on_frames, strike_from, list_of, editor_in, note, counts, with_threads}
+use Rattle.model.specs.History.{History, Entry, with_entries, on_frames, strike_from, list_of, editor_in, note, with_threads}
 use Rattle.base.proofs.Lists.{case_bool, at_lt, map_same}
 use Rattle.model.proofs.Agreement.Places.{AgreeThreads, look, Lives, lives, spare, one, live_change, live_each, one_on_thread, agree_start, agree_change, agree_each, agree_end}
 use Rattle.model.proofs.Agreement.Segments.{entry_of, agree_new, agree_adjust, agree_unseen, products_append_one, products_same}

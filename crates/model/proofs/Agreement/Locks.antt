@@ -12,7 +12,7 @@ use Rattle.formula.specs.declared.text.Issued.{Issued}
 use Rattle.formula.specs.Outcome.{accepted}
 use Rattle.formula.specs.Compiler.{Compiler}
 use Rattle.base.proofs.Truth.{and_left, and_right}
-use Rattle.base.specs.Lists.{any, keep, concat_map, index_of, rising}
+use Rattle.base.specs.Lists.{any, keep, concat_map, index_of}
 use Rattle.model.specs.State.{Segment, LockProduct, is_of_lock, has_lock, blank_segment}
 use Rattle.model.specs.Effects.{add_products, drop_products}
 use Rattle.model.specs.History.{Lock}

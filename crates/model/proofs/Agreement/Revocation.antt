@@ -2,7 +2,7 @@
 -- leaves of an open call by whether a key is in a list without one (`Keys`); the rest is in `OpenCalls` and
 -- `CurrentKeys`.
 use mathlib.Core.Path.{◌≡◌, refl, sym, ap, subst, ◌∙◌}
-use mathlib.Core.Bool.{Bool, true, false, ◌&&◌, not, cond, false≢true, true≢false}
+use mathlib.Core.Bool.{true, false, ◌&&◌, not, cond, false≢true, true≢false}
 use mathlib.Core.List.{List, [], ◌∷◌, ◌++◌, map, Memᴰ}
 use mathlib.Core.Option.{Option, none, some}
 use Prim.Native.Nat.{ℕ, zero, suc, ◌≤◌, ◌%◌}
@@ -29,7 +29,7 @@ use mathlib.Core.Logic.{◌↔◌}
 use Rattle.model.specs.declared.answer.Answer.{Answer}
 use Rattle.model.specs.declared.answer.Answer.TheVariants.{Accepted, Refused}
 use Rattle.model.specs.Answers.{is_accepted, answer_value}
-use Rattle.model.specs.Threads.{Frame, Thread, same_key, is_in, hands}
+use Rattle.model.specs.Threads.{Frame, Thread, same_key, is_in}
 use Rattle.model.specs.State.{State, Segment, Place, free, taken, blank_thread, is_thread, place_of, thread_in, find_thread, blank_segment, segment_at, is_live, thread_at}
 use Rattle.model.specs.Limits.{most_threads}
 use Rattle.model.specs.Model.{step}

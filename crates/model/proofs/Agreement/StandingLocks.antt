@@ -14,7 +14,7 @@ use Rattle.product.specs.Sum.{Sum, opens_any}
 use Rattle.formula.specs.declared.text.Issued.{Issued}
 use Rattle.formula.specs.Outcome.{accepted}
 use Rattle.formula.specs.Compiler.{Compiler}
-use Rattle.base.specs.Lists.{any, keep, first, concat_map, map_option, rising}
+use Rattle.base.specs.Lists.{any, keep, first, concat_map, map_option}
 use Rattle.model.specs.Threads.{KeySet}
 use Rattle.model.specs.State.{Segment, LockProduct, is_of_lock}
 use Rattle.model.specs.Effects.{lock_product}

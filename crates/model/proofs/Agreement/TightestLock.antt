@@ -10,7 +10,6 @@ use native.Mathlib.Omega.{arith}
 use lib.Dec.{eqb, ltb}
 use borrow.Author.Tests.{ltb-true}
 use lib.ListN.{length}
-use Rattle.product.specs.Product.{opens}
 use Rattle.formula.specs.Outcome.{outcome_of}
 use Rattle.formula.specs.Meaning.{text_holds, Meaning}
 use Rattle.formula.specs.Compiler.{Compiler, Laws}
@@ -20,7 +19,6 @@ use Rattle.base.specs.Lists.{keep, first, rising}
 use Rattle.base.proofs.Truth.{and_left, and_last}
 use Rattle.base.proofs.Lists.{case_bool, all_at, clash, some_inj, is_some_some, some≢none, is_some_first, any_passes, keep_members, keep_member, rising_keep, rising_tail, rising_skip}
 use Rattle.base.proofs.Greatest.{Leads, greatest_has, greatest_leads}
-use Rattle.model.specs.declared.answer.Refusal.{Refusal}
 use Rattle.model.specs.declared.answer.Refusal.TheVariants.{Denied}
 use Rattle.model.specs.declared.answer.Answer.{Answer}
 use Rattle.model.specs.declared.answer.Answer.TheVariants.{Accepted, Refused}

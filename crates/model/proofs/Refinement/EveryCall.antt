@@ -15,7 +15,6 @@ use Rattle.model.specs.declared.answer.Refusal.{Refusal}
 use Rattle.model.specs.declared.answer.Answer.{Answer}
 use Rattle.model.specs.State.{State, empty_state}
 use Rattle.model.specs.Refusals.{conditions}
-use Rattle.model.specs.Effects.{answer}
 use Rattle.model.specs.Model.{judged, step_decoded, step}
 use Rattle.model.specs.Cells.{Cells, Sized, state_of, empty_cells}
 use Rattle.model.specs.Stores.{judged_cells, step_cells_decoded, step_cells}

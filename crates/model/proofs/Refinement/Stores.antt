@@ -15,7 +15,7 @@ use Rattle.call.specs.declared.request.Request.TheVariants as request
 use Rattle.base.specs.Conditions.{first_refusal}
 use Rattle.base.proofs.Conditions.{all_fail}
 use Rattle.base.proofs.Truth.{neither}
-use Rattle.base.specs.Lists.{each, or_default}
+use Rattle.base.specs.Lists.{or_default}
 use Rattle.model.specs.Limits.{most_listed, most_threads, most_segments, most_defined, most_standing, most_frames, passes}
 use Rattle.model.specs.Threads.{Thread}
 use Rattle.model.specs.State.{user_of, Place, is_free, live_in, blank_thread, thread_at, place_for, issued, segment_at}

@@ -1,5 +1,4 @@
 -- The invariant is that the text is as long as it was; the measure is how many bytes are left.
-use Prim.Native.Nat.{◌-◌}
 use mathlib.Core.Path.{refl, ◌∙◌}
 use native.Mathlib.Omega.{arith}
 use lib.ListN.{length-set}

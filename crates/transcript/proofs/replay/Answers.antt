@@ -1,5 +1,4 @@
 -- The invariant is that some records are answered and the rest are left; the measure is the bytes that are left.
-use Prim.Native.Nat.{◌-◌}
 use native.Mathlib.Omega.{arith}
 use Rattle.transcript.proofs.ReplayLoop.{loop_start, loop_length, loop_whole, loop_room, loop_end, loop_step}
 use Rattle.transcript.proofs.replay.Goals as goal

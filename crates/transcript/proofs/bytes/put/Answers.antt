@@ -1,5 +1,4 @@
 -- The invariant is that the first `i` bytes are put; the measure is how many are left.
-use Prim.Native.Nat.{◌-◌}
 use mathlib.Core.Path.{refl}
 use native.Mathlib.Omega.{arith}
 use lib.ListN.{take}
