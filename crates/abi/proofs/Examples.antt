@@ -1,6 +1,6 @@
 -- By computing, and by what division leaves.
 use mathlib.Core.Path.{refl}
-use Rattle.product.specs.Atom.{compare_atoms, order_of}
+use Rattle.product.specs.Atom.{compare_atoms}
 use Rattle.product.specs.Code.{key_at}
 use Rattle.model.specs.Answers.{answer_number, answer_value}
 use Rattle.search.specs.Searching.{searched}
@@ -11,7 +11,7 @@ pub code_taken_apart : CodeTakenApart
 code_taken_apart r h = taken_apart (answer_number r) (answer_value r) h
 
 pub examples : Examples
-unfolding key_at searched compare_atoms order_of
+unfolding key_at searched compare_atoms
 examples =
     record {
       lock_seven = refl;

@@ -10,19 +10,18 @@ use borrow.Author.Tests.{eqb-true}
 use Rattle.base.proofs.Truth.{and_left, and_right}
 use Rattle.journal.specs.declared.file.Refusal.{Refusal}
 use Rattle.journal.specs.declared.file.Refusal.TheVariants.{Full, NotJournal, OtherVersion, Corrupt}
-use Rattle.journal.specs.declared.file.Verdict.{Verdict}
-use Rattle.journal.specs.declared.file.Verdict.TheVariants.{Readable, Refused}
+use Rattle.std.specs.Prelude.{Ok, Err}
 use Rattle.journal.specs.Format.{file_head_size, count_at}
 use Rattle.journal.specs.Verdicts.{refusal_number, verdict_number}
-use Rattle.journal.specs.Reading.{word, next_of, whole_at, whole_from, records_from, records_of, verdict_of}
+use Rattle.journal.specs.Reading.{Verdict, word, next_of, whole_at, whole_from, records_from, records_of, verdict_of}
 use Rattle.journal.proofs.RecordSizes.{found_record, found_end}
 use Rattle.journal.proofs.Files.{whole, open_file}
 use Rattle.abi.specs.Theorems.FilesInOrder.{next_calls, left_for, FilesInOrder}
 
 -- only a readable file is numbered 0
-number_readable : (v : Verdict) → verdict_number v ≡ 0 → v ≡ Readable
-number_readable Readable h = refl
-number_readable (Refused f) h = absurd (no_zero f h)
+number_readable : (v : Verdict) → verdict_number v ≡ 0 → v ≡ Ok tt
+number_readable (Ok tt) h = refl
+number_readable (Err f) h = absurd (no_zero f h)
   where
     no_zero : (f : Refusal) → refusal_number f ≡ 0 → ⊥
     no_zero Full h = omega arith

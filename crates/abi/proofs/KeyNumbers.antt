@@ -1,5 +1,6 @@
 -- The key of a number, by the first digit of the number; the search for what is no key, as for a U key; and the number
 -- of an answer.
+use Rattle.std.specs.Prelude.{Ok, Err, Some, None}
 use mathlib.Core.Path.{◌≡◌, refl, sym, ap, ◌∙◌}
 use mathlib.Core.Bool.{true, false, cond}
 use Prim.Native.Nat.{ℕ, ◌/◌, ◌%◌, ◌≤◌, ◌<◌}
@@ -15,9 +16,7 @@ use Rattle.product.proofs.Codes.{key_back, user_at, thread_at_lem, segment_at_le
 use Rattle.model.specs.declared.answer.Refusal.TheVariants.{NoThread}
 use Rattle.model.specs.State.{State, is_live}
 use Rattle.model.specs.Cells.{Cells, state_of}
-use Rattle.search.specs.declared.Searched.{Searched}
-use Rattle.search.specs.declared.Searched.TheVariants.{At, Nowhere, Refused}
-use Rattle.search.specs.Searching.{searched, searched_number, searched_value}
+use Rattle.search.specs.Searching.{Searched, searched, searched_number, searched_value}
 use Rattle.search.proofs.Exactly.{exactly}
 use Rattle.search.proofs.KeySets.{key_sets}
 use Rattle.abi.proofs.AnswerCodes.{taken_apart}
@@ -45,7 +44,7 @@ module _ (x : ℕ) where
       (λ e. rw e refl)
 
 module _ (d : Cells) (n x : ℕ) where
-  no_key_lem : ltb x key_limit ≡ false → searched (state_of d) n (User (x % 65536)) ≡ cond (is_live (state_of d) n) Nowhere (Refused NoThread)
+  no_key_lem : ltb x key_limit ≡ false → searched (state_of d) n (User (x % 65536)) ≡ cond (is_live (state_of d) n) (Ok None) (Err NoThread)
   no_key_lem e =
       case_bool (is_live (state_of d) n)
       (λ live. rw live (key_sets.users d n (x % 65536) live))
@@ -70,16 +69,16 @@ by_key d n k h =
     let low = lt-ltb (key_code k) key_limit (code_low k h) in
     rw low (ap (searched d n) (key_back k (λ z. h)))
 
-beyond : (d : State) (n x : ℕ) → key_limit ≤ x → is_live d n ≡ true → searched_for d n x ≡ Nowhere
+beyond : (d : State) (n x : ℕ) → key_limit ≤ x → is_live d n ≡ true → searched_for d n x ≡ (Ok None)
 beyond d n x h live = let high = le-ltb x key_limit h in rw (high, live) refl
 
-not_live_lem : (d : State) (n x : ℕ) → is_live d n ≡ false → searched_for d n x ≡ Refused NoThread
+not_live_lem : (d : State) (n x : ℕ) → is_live d n ≡ false → searched_for d n x ≡ Err NoThread
 not_live_lem d n x dead =
     case_bool (ltb x key_limit)
     (λ e. rw e (((exactly d n (key_at x)).refused NoThread).1 (dead, refl)))
     (λ e. rw (e, dead) refl)
 
-own_number : (p : ℕ) → search_code (At p) ≡ p
+own_number : (p : ℕ) → search_code (Ok (Some p)) ≡ p
 own_number p = omega arith
 
 pub key_numbers_lem : KeyNumbers

@@ -1,67 +1,55 @@
 -- The answer of each outcome: the number and the rows that a caller in C gets.
-use mathlib.Core.Path.{◌≡◌, refl, ap, ap₂, ◌∙◌}
-use mathlib.Core.Bool.{cond}
-use mathlib.Core.List.{List, [], map}
+use mathlib.Core.Path.{◌≡◌, refl, sym, ap, ◌∙◌}
+use mathlib.Core.List.{List, []}
 use Prim.Native.Nat.{ℕ, ◌≤◌}
 use native.Mathlib.Omega.{arith}
-use lib.Dec.{eqb}
-use lib.ListN.{length, get_or, get_or-map}
+use lib.ListN.{length}
+use Rattle.std.specs.Prelude.{Result, Ok, Err}
 use Rattle.product.specs.Sum.{most_products}
-use Rattle.product.specs.Cells.{rows_of}
-use Rattle.base.proofs.Parts.{read, read_all}
-use Rattle.product.proofs.FilledRows.{rows_length}
 use Rattle.formula.specs.declared.text.Issued.{Issued}
-use Rattle.formula.specs.declared.text.Row.{Row}
 use Rattle.formula.specs.declared.text.Compiled.{Compiled}
-use Rattle.formula.specs.Outcome.{Outcome, accepted, malformed, too_wide, unsatisfiable, outcome_of, refusal_number, status_of, sum_in, row_with, compiled_of}
+use Rattle.formula.specs.declared.text.Refusal.{Refusal}
+use Rattle.formula.specs.declared.text.Refusal.TheVariants.{Malformed, TooWide, Unsatisfiable}
+use Rattle.formula.specs.Outcome.{Outcome, accepted, malformed, too_wide, unsatisfiable, outcome_of, refusal_number, sum_in, answer_of, compiled_of}
 use Rattle.formula.proofs.Opening.{laws}
 use Rattle.abi.specs.Answers.{number_in, rows_in}
-use Rattle.abi.specs.Internal.{cells_at, eight_cells}
 
-cells_at_lem : (l : List (List ℕ)) (i : ℕ) → cells_at (map row_with l) i ≡ get_or l i []
-cells_at_lem l i = ap (λ (r : Row). r.cells) (get_or-map row_with l i [])
+abbrev count_in : Result Compiled Refusal → ℕ
+count_in (Ok c) = c.count
+count_in (Err f) = 0
 
-eight_cells_lem : (l : List (List ℕ)) → length l ≡ 8 → eight_cells (map row_with l) ≡ l
-unfolding read
-eight_cells_lem l h = simp cells_at_lem (read_all [] l 8 h)
+abbrev cells_in : Result Compiled Refusal → List (List ℕ)
+cells_in (Ok c) = c.rows
+cells_in (Err f) = []
 
--- the compiler's answer and its refusal's number: how many products, what is written, and the number that is answered
-module _ (i : Issued) (s : List ℕ) {c : Compiled} (e : c ≡ compiled_of i s) where
+module _ (i : Issued) (s : List ℕ) where
   few : (o : Outcome) → outcome_of i s ≡ o → length (sum_in o) ≤ most_products
   few (accepted ps) q = (laws.bounds i s ps q).few
   few malformed q = omega arith
   few too_wide q = omega arith
   few unsatisfiable q = omega arith
 
-  pub count_few : c.count ≤ most_products
-  count_few =
-      let q : c.count ≡ length (sum_in (outcome_of i s)) = ap (λ (x : Compiled). x.count) e in
-      omega (arith, few (outcome_of i s) refl)
+  -- of an accepted text there are few products; they are counted and written
+  module _ (old : List (List ℕ)) {c : Compiled} where
+    written_of : (o : Outcome) → length (sum_in o) ≤ most_products → answer_of o ≡ Ok c
+        → (c.count ≤ most_products) × (c.count ≡ number_in o) × (c.rows ≡ rows_in o old)
+    written_of (accepted ps) h e = let n : length ps ≡ c.count = ap count_in e in (omega arith, sym n, sym (ap cells_in e))
+    written_of malformed h e = (cc, cc, cc)
+    written_of too_wide h e = (cc, cc, cc)
+    written_of unsatisfiable h e = (cc, cc, cc)
 
-  module _ {r : ℕ} (n : r ≡ refusal_number c.status) where
-    number_is : r ≡ refusal_number (status_of (outcome_of i s))
-    number_is = n ∙ ap (λ (x : Compiled). refusal_number x.status) e
+    pub written : {r : Result Compiled Refusal} → r ≡ compiled_of i s → r ≡ Ok c
+        → (c.count ≤ most_products) × (c.count ≡ number_in (outcome_of i s)) × (c.rows ≡ rows_in (outcome_of i s) old)
+    written e is = written_of (outcome_of i s) (few (outcome_of i s) refl) (sym e ∙ is)
 
-    pub rows_written : (old : List (List ℕ)) → cond (eqb r 0) (eight_cells c.rows) old ≡ rows_in (outcome_of i s) old
-    rows_written old =
-        ap₂ (λ (k : ℕ) (x : Compiled). cond (eqb k 0) (eight_cells x.rows) old) number_is e
-        ∙ go (outcome_of i s) (few (outcome_of i s) refl)
-      where
-        go : (o : Outcome) → length (sum_in o) ≤ most_products
-            → cond (eqb (refusal_number (status_of o)) 0) (eight_cells (map row_with (rows_of (sum_in o)))) old
-            ≡ rows_in o old
-        go (accepted ps) l = eight_cells_lem (rows_of ps) (rows_length ps l)
-        go malformed l = refl
-        go too_wide l = refl
-        go unsatisfiable l = refl
+  -- of a refused one the refusal's number is answered, and the old rows stay
+  module _ (old : List (List ℕ)) {f : Refusal} where
+    told_of : (o : Outcome) → answer_of o ≡ Err f → (refusal_number f ≡ number_in o) × (old ≡ rows_in o old)
+    told_of (accepted ps) e = (cc, cc)
+    told_of malformed e = let same : Malformed ≡ f = cc in (ap refusal_number (sym same), refl)
+    told_of too_wide e = let same : TooWide ≡ f = cc in (ap refusal_number (sym same), refl)
+    told_of unsatisfiable e = let same : Unsatisfiable ≡ f = cc in (ap refusal_number (sym same), refl)
 
-    pub number_answered : cond (eqb r 0) c.count r ≡ number_in (outcome_of i s)
-    number_answered =
-        ap₂ (λ (k : ℕ) (x : Compiled). cond (eqb k 0) x.count k) number_is e ∙ go (outcome_of i s)
-      where
-        go : (o : Outcome)
-            → cond (eqb (refusal_number (status_of o)) 0) (length (sum_in o)) (refusal_number (status_of o)) ≡ number_in o
-        go (accepted ps) = refl
-        go malformed = refl
-        go too_wide = refl
-        go unsatisfiable = refl
+    pub told : {r : Result Compiled Refusal} → r ≡ compiled_of i s → r ≡ Err f
+        → (refusal_number f ≡ number_in (outcome_of i s)) × (old ≡ rows_in (outcome_of i s) old)
+    told e is = told_of (outcome_of i s) (sym e ∙ is)

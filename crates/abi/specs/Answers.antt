@@ -3,7 +3,7 @@
 use Rattle.std.specs.Prelude.{Bool, true, false, List, ℕ, length}
 use Rattle.product.specs.Cells.{rows_of}
 use Rattle.formula.specs.declared.text.Issued.{Issued}
-use Rattle.formula.specs.declared.text.Status.TheVariants.{Malformed, TooWide, Unsatisfiable}
+use Rattle.formula.specs.declared.text.Refusal.TheVariants.{Malformed, TooWide, Unsatisfiable}
 use Rattle.formula.specs.Outcome.{Outcome, accepted, malformed, too_wide, unsatisfiable, refusal_number}
 
 abbrev pub issued_with : ℕ → ℕ → ℕ → ℕ → Issued

@@ -1,7 +1,7 @@
 -- How a caller in C sees an answer of the guard: one number, with the arrays afterwards.
 use Rattle.std.specs.Prelude.{◌≡◌, List, ℕ, ◌+◌, ◌*◌}
 use Rattle.call.specs.declared.request.Request.{Request}
-use Rattle.model.specs.declared.answer.Answer.{Answer}
+use Rattle.model.specs.Answers.{Answer}
 use Rattle.model.specs.Answers.{answer_number, answer_value}
 use Rattle.model.specs.Cells.{Cells}
 use Rattle.model.specs.Serving.{served}

@@ -1,11 +1,9 @@
 -- How a caller in C sees the journal's answers: one number, and what is then in the cursor, cells, bytes and size that
 -- it lent.
-use Rattle.std.specs.Prelude.{List, ℕ}
+use Rattle.std.specs.Prelude.{List, ℕ, Ok, Err, Some, None}
 use Rattle.call.specs.Calls.{Call}
-use Rattle.journal.specs.declared.record.Found.{Found}
-use Rattle.journal.specs.declared.record.Found.TheVariants.{Record, End, Damaged}
 use Rattle.journal.specs.Verdicts.{verdict_number, found_number, found_values, appended_number}
-use Rattle.journal.specs.Reading.{found_at, cursor_after, verdict_of, cursor_opened}
+use Rattle.journal.specs.Reading.{Found, found_at, cursor_after, verdict_of, cursor_opened}
 use Rattle.journal.specs.Appending.{append_answer, buffer_after, length_after}
 
 -- ---- opening the file s: its number, and the cursor afterwards
@@ -20,15 +18,15 @@ open_cursor s at = cursor_opened (verdict_of s) at
 
 -- 1 with a record; without one the number that the journal gives it, 0 at the end and 18 where neither stands there
 abbrev pub present_number : Found → ℕ
-present_number (Record e) = 1
-present_number End = found_number End
-present_number Damaged = found_number Damaged
+present_number (Ok (Some e)) = 1
+present_number (Ok None) = found_number (Ok None)
+present_number (Err f) = found_number (Err f)
 
 -- a record's values, and without one what stood there
 abbrev pub values_in : Found → List ℕ → List ℕ
-values_in (Record e) old = found_values (Record e)
-values_in End old = old
-values_in Damaged old = old
+values_in (Ok (Some e)) old = found_values (Ok (Some e))
+values_in (Ok None) old = old
+values_in (Err f) old = old
 
 -- at a cursor of the file s: the number, the cursor and the lent values afterwards
 abbrev pub next_number : List ℕ → ℕ → ℕ

@@ -8,8 +8,9 @@ ghost use Rattle.model.specs.Cells.{registry_is, segments_are, locks_are, thread
 ghost use Rattle.model.specs.Stores.{step_cells};
 ghost use Rattle.abi.specs.Calls.{answer_code, Tells, TellsLent};
 
+use call::request::Fields;
 use guard::call;
-use model::answer::{Answer, number, second};
+use model::answer::Answer;
 use model::arrays::{Locks, Makers, Registry, Segments, Threads};
 use route::{access, call_segment};
 use threads::calls::return_call;
@@ -56,9 +57,8 @@ pub extern "C" fn rotundaaloe_raw_call(
         (cells_with registry.new makers.new segments.new locks.new
         threads.new) }
 {
-    answer_code(call(
-        registry, makers, segments, locks, threads, letter, a, b, c, text,
-    ))
+    let fields = Fields { letter, a, b, c };
+    answer_code(call(registry, makers, segments, locks, threads, fields, text))
 }
 
 // C, R and A by themselves, for a host's hot path: what the call with that letter does.
@@ -109,11 +109,12 @@ pub extern "C" fn rotundaaloe_raw_access(
     answer_code(access(registry, segments, locks, threads, a, b, c))
 }
 
+// One number for C.
 pub(crate) fn answer_code(answer: Answer) -> u32
     ensures { result ≡ answer_code answer }
 {
     match answer {
-        Answer::Accepted(n) => n as u32,
-        Answer::Refused(refusal) => number(refusal) as u32 * 65536 + second(refusal) as u32,
+        Ok(n) => u32::from(n),
+        Err(refusal) => u32::from(refusal.number()) * 65536 + u32::from(refusal.second()),
     }
 }

@@ -6,10 +6,10 @@ ghost use Rattle.journal.specs.Verdicts.{appended_number};
 ghost use Rattle.abi.specs.Files.{open_number, open_cursor, next_number, next_cursor, next_values};
 ghost use Rattle.abi.specs.Files.{append_number, append_buffer, append_size};
 
-use journal::append::{Appended, append, empty};
-use journal::file::{FILE_HEAD, Refusal, Verdict, refusal_number};
+use call::request::Fields;
+use journal::append::{append, empty};
+use journal::file::FILE_HEAD;
 use journal::reader::{open_file, read};
-use journal::record::Found;
 
 // Checks the whole file: 0, and the cursor is the first record's; or the number of its first refusal, and then the
 // cursor is not changed.
@@ -19,11 +19,11 @@ pub extern "C" fn rotundaaloe_raw_journal_open(file: &[u8], cursor: &mut usize) 
     ensures cursor { cursor.new ≡ open_cursor file.now cursor.old }
 {
     match open_file(file) {
-        Verdict::Refused(refusal) => refusal_number(refusal),
-        Verdict::Readable => {
+        Ok(()) => {
             *cursor = FILE_HEAD;
             0
         }
+        Err(refusal) => u32::from(refusal),
     }
 }
 
@@ -43,20 +43,21 @@ pub extern "C" fn rotundaaloe_raw_journal_next(
 {
     let at = *cursor;
     match read(file, at) {
-        Found::End => 0,
-        Found::Damaged => refusal_number(Refusal::Corrupt),
-        Found::Record(e) => {
+        Ok(Some(entry)) => {
+            let Fields { letter, a, b, c } = entry.fields;
             *values = [
-                e.letter as u64,
-                e.a as u64,
-                e.b as u64,
-                e.c as u64,
-                e.start as u64,
-                e.next as u64,
+                u64::from(letter),
+                u64::from(a),
+                u64::from(b),
+                u64::from(c),
+                entry.start as u64,
+                entry.next as u64,
             ];
-            *cursor = e.next;
+            *cursor = entry.next;
             1
         }
+        Ok(None) => 0,
+        Err(refusal) => u32::from(refusal),
     }
 }
 
@@ -68,8 +69,8 @@ pub extern "C" fn rotundaaloe_raw_journal_empty(buffer: &mut [u8]) -> u32
         ≡ empty_after (empty_answer buffer.old) buffer.old }
 {
     match empty(buffer) {
-        Appended::Length(_) => 0,
-        Appended::Declined(refusal) => refusal_number(refusal),
+        Ok(_) => 0,
+        Err(refusal) => u32::from(refusal),
     }
 }
 
@@ -93,11 +94,11 @@ pub extern "C" fn rotundaaloe_raw_journal_append(
         ≡ append_size buffer.old size.old (call_with letter a b c text.now) }
 {
     let len = *size;
-    match append(buffer, len, letter, a, b, c, text) {
-        Appended::Declined(refusal) => refusal_number(refusal),
-        Appended::Length(end) => {
+    match append(buffer, len, Fields { letter, a, b, c }, text) {
+        Ok(end) => {
             *size = end;
             0
         }
+        Err(refusal) => u32::from(refusal),
     }
 }

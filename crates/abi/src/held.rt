@@ -13,5 +13,5 @@ use product::sum::Rows;
 pub extern "C" fn rotundaaloe_raw_opens(rows: &Rows, count: usize, keys: &[u32]) -> u32
     ensures { result ≡ bit (opens_sum (held_by keys.now) (sum_of count rows.now)) }
 {
-    if opens(rows, count, keys) { 1 } else { 0 }
+    u32::from(opens(rows, count, keys))
 }

@@ -5,7 +5,6 @@ ghost use Rattle.abi.specs.KeySearch.{search_code, TellsPlace};
 ghost use Rattle.abi.specs.Internal.{key_read};
 
 use crate::calls::answer_code;
-use model::answer::Answer;
 use model::arrays::Threads;
 use product::literal::Key;
 use search::{Searched, find_key};
@@ -19,7 +18,8 @@ pub extern "C" fn rotundaaloe_raw_find_key(threads: &Threads, thread: u16, key: 
     search_code(find_key(threads, thread, key_read(key)))
 }
 
-// The key of a number. What is no key's is read as a U key, which no open call hands over either.
+// The key of a number, as C hands it in: a number of any kind, so no enum. What is no key's is read as a U key, which
+// no open call hands over either.
 fn key_read(x: u32) -> Key
     ensures { result ≡ key_read x }
 {
@@ -32,12 +32,13 @@ fn key_read(x: u32) -> Key
     }
 }
 
+// One number for C.
 fn search_code(searched: Searched) -> u32
     ensures { result ≡ search_code searched }
 {
     match searched {
-        Searched::At(place) => place as u32,
-        Searched::Nowhere => 65535,
-        Searched::Refused(refusal) => answer_code(Answer::Refused(refusal)),
+        Ok(Some(place)) => u32::from(place),
+        Ok(None) => 65535,
+        Err(refusal) => answer_code(Err(refusal)),
     }
 }

@@ -1,5 +1,5 @@
 // What is left for C: how many numbers of each kind can still be handed out.
-ghost use Rattle.std.specs.Prelude.{◌≡◌, ◌-◌};
+ghost use Rattle.std.specs.Prelude.{◌≡◌};
 ghost use Rattle.abi.specs.Left.{left_in};
 
 use model::arrays::{DEFINED, LOCKS, Registry, SEGMENTS, THREADS, USERS};
@@ -11,16 +11,10 @@ pub extern "C" fn rotundaaloe_raw_left(registry: &Registry, left: &mut [u32; 5])
     ensures { left.new ≡ left_in registry.now }
 {
     *left = [
-        less(MOST_USERS, registry[USERS]),
-        less(MOST_NUMBERS, registry[THREADS]),
-        less(MOST_SEGMENTS as u32, registry[SEGMENTS]),
-        less(MOST_DEFINED as u32, registry[DEFINED]),
-        less(MOST_NUMBERS, registry[LOCKS]),
+        MOST_USERS.saturating_sub(registry[USERS]),
+        MOST_NUMBERS.saturating_sub(registry[THREADS]),
+        (MOST_SEGMENTS as u32).saturating_sub(registry[SEGMENTS]),
+        (MOST_DEFINED as u32).saturating_sub(registry[DEFINED]),
+        MOST_NUMBERS.saturating_sub(registry[LOCKS]),
     ];
-}
-
-fn less(most: u32, count: u32) -> u32
-    ensures { result ≡ most - count }
-{
-    if count < most { most - count } else { 0 }
 }

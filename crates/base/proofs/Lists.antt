@@ -1,13 +1,13 @@
 -- Laws of lists: tests over them, what a test keeps, the first that passes, and a list read index by index.
+use Rattle.std.specs.Prelude.{slice_get, Option, None, Some}
 use mathlib.Core.Path.{◌≡◌, refl, sym, ap, subst, ◌∙◌}
 use mathlib.Core.Bool.{Bool, true, false, ◌&&◌, ◌||◌, cond, true≢false, false≢true, or_assoc}
 use mathlib.Core.List.{List, [], ◌∷◌, ◌++◌, map, map-append, append-nil, append_assoc, Memᴰ}
-use mathlib.Core.Option.{Option, none, some}
 use Prim.Native.Nat.{ℕ, zero, suc, ◌+◌, ◌≤◌, ◌<◌, zero-le, suc-le-suc}
 use native.Mathlib.Omega.{arith}
 use native.Mathlib.Nat.{add-zero, add-suc, suc-add, le_of_suc-le-suc, not-suc-le-zero}
 use lib.Dec.{eqb, ltb, eqb-suc-suc, eqb-suc-zero, eqb-zero-suc}
-use lib.ListN.{length, get_or, set, replicate, get_elem?, length-set, length-append}
+use lib.ListN.{length, get_or, set, replicate, length-set, length-append}
 use lib.Seq.{sets, get_or-set_same, get_or-set_other, ext_get_or}
 use borrow.Author.Tests.{eqb-true, eqb-false, eq-eqb, ltb-true, lt-ltb}
 use Rattle.base.proofs.Truth.{and_left, and_right, both_and}
@@ -253,25 +253,25 @@ module _ {A B : Type 0} where
 -- an element of a list by its index
 
 module _ {A : Type 0} where
-  pub at_append_one : (xs : List A) (x : A) (i : ℕ) → get_elem? (xs ++ (x ∷ [])) i ≡ put (get_elem? xs) (length xs) x i
+  pub at_append_one : (xs : List A) (x : A) (i : ℕ) → slice_get (xs ++ (x ∷ [])) i ≡ put (slice_get xs) (length xs) x i
   at_append_one [] x zero = refl
   at_append_one [] x (suc i) = simp eqb-suc-zero
   at_append_one (y ∷ ys) x zero = simp eqb-zero-suc
   at_append_one (y ∷ ys) x (suc i) = simp eqb-suc-suc (at_append_one ys x i)
 
-  pub at_set : (xs : List A) (i : ℕ) (f : A → A) (d : A) (j : ℕ) → get_elem? (set xs i (f (get_or xs i d))) j ≡ adjust (get_elem? xs) i f j
+  pub at_set : (xs : List A) (i : ℕ) (f : A → A) (d : A) (j : ℕ) → slice_get (set xs i (f (get_or xs i d))) j ≡ adjust (slice_get xs) i f j
   at_set [] i f d j = case_bool (eqb j i) (λ e. simp e) (λ e. simp e)
   at_set (y ∷ ys) zero f d zero = refl
   at_set (y ∷ ys) zero f d (suc j) = simp eqb-suc-zero
   at_set (y ∷ ys) (suc i) f d zero = simp eqb-zero-suc
   at_set (y ∷ ys) (suc i) f d (suc j) = simp eqb-suc-suc (at_set ys i f d j)
 
-  pub at_lt : (xs : List A) (i : ℕ) (d : A) → i < length xs → get_elem? xs i ≡ some (get_or xs i d)
+  pub at_lt : (xs : List A) (i : ℕ) (d : A) → i < length xs → slice_get xs i ≡ Some (get_or xs i d)
   at_lt [] i d h = absurd (not-suc-le-zero h)
   at_lt (y ∷ ys) zero d h = refl
   at_lt (y ∷ ys) (suc i) d h = at_lt ys i d (le_of_suc-le-suc h)
 
-  pub at_some_lt : (xs : List A) (i : ℕ) (x : A) → get_elem? xs i ≡ some x → i < length xs
+  pub at_some_lt : (xs : List A) (i : ℕ) (x : A) → slice_get xs i ≡ Some x → i < length xs
   at_some_lt [] i x e = let z : ◌≡◌ {A = ℕ} 0 1 = cc in absurd (omega arith)
   at_some_lt (y ∷ ys) zero x e = suc-le-suc zero-le
   at_some_lt (y ∷ ys) (suc i) x e = suc-le-suc (at_some_lt ys i x e)
@@ -319,14 +319,14 @@ module _ {A : Type 0} where
 
 -- optional values
 
-pub some_inj : {A : Type 0} {x y : A} → ◌≡◌ {A = Option A} (some x) (some y) → x ≡ y
+pub some_inj : {A : Type 0} {x y : A} → ◌≡◌ {A = Option A} (Some x) (Some y) → x ≡ y
 some_inj e = cc
 
-pub is_some_some : {A : Type 0} (o : Option A) → is_some o ≡ true → (x : A) × (o ≡ some x)
-is_some_some none h = absurd (false≢true h)
-is_some_some (some x) h = (x, refl)
+pub is_some_some : {A : Type 0} (o : Option A) → is_some o ≡ true → (x : A) × (o ≡ Some x)
+is_some_some None h = absurd (false≢true h)
+is_some_some (Some x) h = (x, refl)
 
-pub some≢none : {A : Type 0} {x : A} → ◌≡◌ {A = Option A} (some x) none → ⊥
+pub some≢none : {A : Type 0} {x : A} → ◌≡◌ {A = Option A} (Some x) None → ⊥
 some≢none e = let z : ◌≡◌ {A = ℕ} 0 1 = cc in omega arith
 
 -- a list read index by index

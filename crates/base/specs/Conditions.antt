@@ -1,7 +1,6 @@
 -- Document 01, under the table of refusals: 'Checked in that order'. The first of a list of conditions that holds
 -- refuses; over any type of refusals.
-use Rattle.std.specs.Prelude.{Bool, cond, List, [], ◌∷◌}
-use Rattle.std.proofs.Math.Option.{Option, none, some}
+use Rattle.std.specs.Prelude.{Bool, cond, List, [], ◌∷◌, Option, None, Some}
 
 pub record Condition (R : Type 0) : Type 0 where
   pub holds : Bool
@@ -12,5 +11,5 @@ when b f = record { holds = b; refusal = f }
 
 -- the refusal of the first condition that holds
 abbrev pub first_refusal : {R : Type 0} → List (Condition R) → Option R
-first_refusal [] = none
-first_refusal (x ∷ xs) = cond x.holds (some x.refusal) (first_refusal xs)
+first_refusal [] = None
+first_refusal (x ∷ xs) = cond x.holds (Some x.refusal) (first_refusal xs)

@@ -1,8 +1,7 @@
 -- Lists, optional values and maps from numbers, as the definitions use them.
-use Rattle.std.specs.Prelude.{Bool, true, false, ◌&&◌, ◌||◌, cond, List, [], ◌∷◌, ◌++◌, ℕ, zero, suc, max, ◌+◌, eqb, ltb}
-use Rattle.std.proofs.Math.Option.{Option, none, some}
+use Rattle.std.specs.Prelude.{Bool, true, false, ◌&&◌, ◌||◌, cond, List, [], ◌∷◌, ◌++◌, ℕ, zero, suc, max, ◌+◌, eqb, ltb, Option, None, Some}
 
-module _ {ℓ} {A : Type ℓ} where
+module _ {A : Type 0} where
   abbrev pub any : (A → Bool) → List A → Bool
   any p [] = false
   any p (x ∷ xs) = p x || any p xs
@@ -17,18 +16,18 @@ module _ {ℓ} {A : Type ℓ} where
   keep p (x ∷ xs) = keep_if (p x) x (keep p xs)
 
   abbrev pub or_else : Bool → A → Option A → Option A
-  or_else true x o = some x
+  or_else true x o = Some x
   or_else false x o = o
 
   -- the first element that passes the test
   abbrev pub first : (A → Bool) → List A → Option A
-  first p [] = none
+  first p [] = None
   first p (x ∷ xs) = or_else (p x) x (first p xs)
 
   -- the greater of what was found before, if anything was, and x; of equal ones what was found before
   abbrev pub greater : (A → ℕ) → Option A → A → Option A
-  greater size none x = some x
-  greater size (some y) x = cond (ltb (size y) (size x)) (some x) (some y)
+  greater size None x = Some x
+  greater size (Some y) x = cond (ltb (size y) (size x)) (Some x) (Some y)
 
   abbrev pub greatest_from : (A → ℕ) → Option A → List A → Option A
   greatest_from size o [] = o
@@ -36,7 +35,7 @@ module _ {ℓ} {A : Type ℓ} where
 
   -- the greatest element by its size, the first of equal ones
   abbrev pub greatest : (A → ℕ) → List A → Option A
-  greatest size xs = greatest_from size none xs
+  greatest size xs = greatest_from size None xs
 
   -- the place of the first element that passes the test; the length if none does
   abbrev pub index_of : (A → Bool) → List A → ℕ
@@ -44,8 +43,8 @@ module _ {ℓ} {A : Type ℓ} where
   index_of p (x ∷ xs) = cond (p x) 0 (suc (index_of p xs))
 
   abbrev pub is_some : Option A → Bool
-  is_some none = false
-  is_some (some x) = true
+  is_some None = false
+  is_some (Some x) = true
 
   abbrev pub tail_of : List A → List A
   tail_of [] = []
@@ -56,14 +55,14 @@ module _ {ℓ} {A : Type ℓ} where
   each f i zero = []
   each f i (suc n) = f i ∷ each f (suc i) n
 
-module _ {ℓ κ} {A : Type ℓ} {B : Type κ} where
+module _ {A B : Type 0} where
   abbrev pub map_option : (A → B) → Option A → Option B
-  map_option f none = none
-  map_option f (some x) = some (f x)
+  map_option f None = None
+  map_option f (Some x) = Some (f x)
 
   abbrev pub or_default : B → (A → B) → Option A → B
-  or_default d f none = d
-  or_default d f (some x) = f x
+  or_default d f None = d
+  or_default d f (Some x) = f x
 
 -- what f gives of each element, one after the other
 abbrev pub concat_map : {A B : Type 0} → (A → List B) → List A → List B
@@ -87,15 +86,15 @@ rising (m ∷ n ∷ ns) = ltb m n && rising (n ∷ ns)
 
 -- maps from numbers
 
-abbrev pub Map {ℓ} : Type ℓ → Type ℓ
+abbrev pub Map : Type 0 → Type 0
 Map A = ℕ → Option A
 
-module _ {ℓ} {A : Type ℓ} where
+module _ {A : Type 0} where
   abbrev pub put : Map A → ℕ → A → Map A
-  put f n x = λ m. cond (eqb m n) (some x) (f m)
+  put f n x = λ m. cond (eqb m n) (Some x) (f m)
 
   abbrev pub remove : Map A → ℕ → Map A
-  remove f n = λ m. cond (eqb m n) none (f m)
+  remove f n = λ m. cond (eqb m n) None (f m)
 
   abbrev pub adjust : Map A → ℕ → (A → A) → Map A
   adjust f n g = λ m. cond (eqb m n) (map_option g (f m)) (f m)

@@ -1,8 +1,4 @@
-// What every other crate may rest on: a count read as no more than its limit, an array's length, and, as definitions
-// and laws, lists, maps, scans, truth values, the bytes of a text and the first condition that holds. Nothing here
-// knows what a guard does.
+// What every other crate may rest on, as definitions and laws: a count read as no more than its limit, lists, maps,
+// scans, truth values, the bytes of a text and the first condition that holds. Nothing here knows what a guard does,
+// and nothing here is code: a count is clamped by std's `min`, and a length is std's `len`.
 #![tactic(auto)]
-
-pub mod cells;
-pub mod counts;
-pub mod lengths;

@@ -4,11 +4,10 @@ use mathlib.Core.Path.{◌≡◌, sym, ap, ◌∙◌}
 use mathlib.Core.Bool.{◌&&◌}
 use mathlib.Core.List.{List, [], ◌∷◌, map}
 use Prim.Native.Nat.{ℕ}
-use native.Mathlib.Omega.{arith}
 use lib.Dec.{eqb}
 use lib.ListN.{length}
+use Rattle.std.specs.Prelude.{None, Some}
 use Rattle.call.specs.declared.request.Request.{Request}
-use Rattle.call.specs.declared.request.Decoded.TheVariants.{WellFormed, Corrupt}
 use Rattle.call.specs.Calls.{TableRow, table, unnamed_zero, text_named, decoded_in, decoded_of}
 use Rattle.call.specs.Requests.{call_of}
 use Rattle.base.specs.Lists.{tail_of}
@@ -23,15 +22,15 @@ module _ {A : Type 0} (f g : Request → A) where
   head_or x [] = x
   head_or x (y ∷ ys) = y
 
-  same_row : (rs : List TableRow) (letter a b c n : ℕ) (q : Request) → decoded_in rs letter a b c n ≡ WellFormed q → Same rs → f q ≡ g q
-  same_row [] letter a b c n q e s = let z : ◌≡◌ {A = ℕ} 0 1 = cc in absurd (omega arith)
+  same_row : (rs : List TableRow) (letter a b c n : ℕ) (q : Request) → decoded_in rs letter a b c n ≡ Some q → Same rs → f q ≡ g q
+  same_row [] letter a b c n q e s = cc
   same_row (r ∷ rs) letter a b c n q e s =
       case_bool (eqb letter r.letter)
       (λ t. case_bool (unnamed_zero r.named a b c && text_named letter n)
-      (λ u. let w : WellFormed r.request ≡ WellFormed q = rw (t, u) at e in
+      (λ u. let w : Some r.request ≡ Some q = rw (t, u) at e in
       let h : r.request ≡ q = cc in
       ap f (sym h) ∙ ap (head_or (f r.request)) s ∙ ap g h)
-      (λ u. let w : Corrupt ≡ WellFormed q = rw (t, u) at e in let z : ◌≡◌ {A = ℕ} 0 1 = cc in absurd (omega arith)))
+      (λ u. let w : None ≡ Some q = rw (t, u) at e in cc))
       (λ t. same_row rs letter a b c n q (rw t at e) (ap tail_of s))
 
   pub every_request : ((a b c : ℕ) → Same (table a b c)) → (q : Request) → f q ≡ g q

@@ -9,12 +9,11 @@ use native.Mathlib.Omega.{arith}
 use lib.Dec.{eqb, leb}
 use lib.ListN.{length}
 use borrow.Author.Tests.{eqb-true}
+use Rattle.std.specs.Prelude.{None, Some}
 use Rattle.call.specs.declared.request.Request.{Request}
 use Rattle.call.specs.declared.request.Request.TheVariants as request
-use Rattle.call.specs.declared.request.Decoded.{Decoded}
-use Rattle.call.specs.declared.request.Decoded.TheVariants.{WellFormed, Corrupt}
 use Rattle.base.proofs.Truth.{and_left, and_right}
-use Rattle.call.specs.Calls.{Call, call_with, decoded, TableRow, table, unnamed_zero, text_named, decoded_in, decoded_of}
+use Rattle.call.specs.Calls.{Decoded, Call, call_with, decoded, TableRow, table, unnamed_zero, text_named, decoded_in, decoded_of}
 use Rattle.call.specs.Letters as letters
 use Rattle.call.specs.Requests.{without_text, with_text, call_of}
 use Rattle.call.specs.Theorems.Requests.{RequestsExactly}
@@ -31,12 +30,6 @@ Rows a b c rs = map (λ r. without_text r.request) rs ≡ map (row_call a b c) r
 
 rows : (a b c : ℕ) → Rows a b c (table a b c)
 rows a b c = refl
-
-cons_head : {A : Type 0} (x y : A) (xs ys : List A) → x ∷ xs ≡ y ∷ ys → x ≡ y
-cons_head x y xs ys e = cc
-
-cons_tail : {A : Type 0} (x y : A) (xs ys : List A) → x ∷ xs ≡ y ∷ ys → xs ≡ ys
-cons_tail x y xs ys e = cc
 
 -- ---- what a row's tests say
 
@@ -76,25 +69,24 @@ module _ (x : Call) where
       is : {l a b c : ℕ} {t : List ℕ} → x.letter ≡ l → x.a ≡ a → x.b ≡ b → x.c ≡ c → x.text ≡ t → x ≡ call_with l a b c t
       is el ea eb ec et i = record { letter = el i; a = ea i; b = eb i; c = ec i; text = et i }
 
-  of_row : (q p : Request) (here zero : Bool) (rest : Decoded) → (here ≡ true → zero ≡ true → Says p) → (rest ≡ WellFormed q → Says q)
-      → cond here (cond zero (WellFormed p) Corrupt) rest ≡ WellFormed q → Says q
-  of_row q p true true rest f g h = subst Says (same p q h) (f refl refl)
-    where
-      same : (p q : Request) → ◌≡◌ (WellFormed p) (WellFormed q) → p ≡ q
-      same p q e = cc
-  of_row q p true false rest f g h = let z : ◌≡◌ {A = ℕ} 0 1 = cc in absurd (omega arith)
+  of_row : (q p : Request) (here zero : Bool) (rest : Decoded) → (here ≡ true → zero ≡ true → Says p) → (rest ≡ Some q → Says q)
+      → cond here (cond zero (Some p) None) rest ≡ Some q → Says q
+  of_row q p true true rest f g h = let e : p ≡ q = cc in subst Says e (f refl refl)
+  of_row q p true false rest f g h = cc
   of_row q p false zero rest f g h = g h
 
   found : (rs : List TableRow) (q : Request) → Rows x.a x.b x.c rs
-      → decoded_in rs x.letter x.a x.b x.c (length x.text) ≡ WellFormed q → Says q
-  found [] q w h = let z : ◌≡◌ {A = ℕ} 0 1 = cc in absurd (omega arith)
+      → decoded_in rs x.letter x.a x.b x.c (length x.text) ≡ Some q → Says q
+  found [] q w h = cc
   found (r ∷ rs) q w h =
+      let first : without_text r.request ≡ row_call x.a x.b x.c r = cc in
+      let rest : Rows x.a x.b x.c rs = cc in
       of_row q r.request (eqb x.letter r.letter) (passes r.named) (decoded_in rs x.letter x.a x.b x.c (length x.text))
-      (λ e z. row_says r (cons_head _ _ _ _ w) (eqb-true x.letter r.letter e) z) (found rs q (cons_tail _ _ _ _ w)) h
+      (λ e z. row_says r first (eqb-true x.letter r.letter e) z) (found rs q rest) h
 
 -- ---- the call of a request
 
-pub back : (q : Request) (t : List ℕ) → decoded (call_of q t) ≡ WellFormed q
+pub back : (q : Request) (t : List ℕ) → decoded (call_of q t) ≡ Some q
 unfolding decoded_of
 back request.NewUser t = refl
 back (request.StartThread a) t = refl
@@ -113,5 +105,5 @@ pub requests_exactly : RequestsExactly
 unfolding decoded_of
 requests_exactly x q = (
   λ h. found x (table x.a x.b x.c) q (rows x.a x.b x.c) h,
-  λ e. subst (λ (y : Call). decoded y ≡ WellFormed q) (sym e) (back q x.text),
+  λ e. subst (λ (y : Call). decoded y ≡ Some q) (sym e) (back q x.text),
 )

@@ -1,16 +1,14 @@
 -- A record's text is short; and once the text has the right length, the fields are judged as without one.
-use mathlib.Core.Path.{◌≡◌, refl, sym, ap, ◌∙◌}
+use mathlib.Core.Path.{◌≡◌, refl, sym, ◌∙◌}
 use mathlib.Core.Bool.{Bool, true, false, cond, ◌&&◌, ◌||◌, or-true, and-false}
 use mathlib.Core.List.{List, [], ◌∷◌}
 use Prim.Native.Nat.{ℕ, ◌≤◌}
 use native.Mathlib.Omega.{arith}
 use lib.Dec.{eqb, leb}
 use borrow.Author.Tests.{eqb-true, leb-true}
-use Rattle.call.specs.declared.request.Request.{Request}
-use Rattle.call.specs.declared.request.Decoded.{Decoded}
-use Rattle.call.specs.declared.request.Decoded.TheVariants.{WellFormed, Corrupt}
+use Rattle.std.specs.Option.{is_some}
 use Rattle.base.proofs.Truth.{and_right}
-use Rattle.call.specs.Calls.{TableRow, table, text_named, decoded_in, is_well_formed, decoded_of, text_fits, record_fits}
+use Rattle.call.specs.Calls.{Decoded, TableRow, table, text_named, decoded_in, is_well_formed, decoded_of, text_fits, record_fits}
 
 short : (lock : Bool) (n : ℕ) → cond lock (leb 1 n && leb n 96) (eqb n 0) ≡ true → n ≤ 96
 short true n h = leb-true n 96 (and_right (leb 1 n) (leb n 96) h)
@@ -40,9 +38,5 @@ fields_alone l a b c n = go (text_fits l n) refl
     go true e = rw (as_without l a b c n (named (eqb l 76) n e) (table a b c))
     go false e = and-false (is_well_formed (decoded_in (table a b c) l a b c 0)) ∙ sym (and-false (is_well_formed (decoded_in (table a b c) l a b c n)))
 
-module _ (l a b c n : ℕ) where
-  pub not_well : Corrupt ≡ decoded_of l a b c 0 → false ≡ record_fits l a b c n
-  not_well e = ap (λ (d : Decoded). is_well_formed d && text_fits l n) e ∙ fields_alone l a b c n
-
-  pub well : (q : Request) → WellFormed q ≡ decoded_of l a b c 0 → (t : Bool) → t ≡ text_fits l n → t ≡ record_fits l a b c n
-  well q e t h = h ∙ ap (λ (d : Decoded). is_well_formed d && text_fits l n) e ∙ fields_alone l a b c n
+pub judged_alone : (l a b c n : ℕ) (d : Decoded) → d ≡ decoded_of l a b c 0 → is_some d && text_fits l n ≡ record_fits l a b c n
+judged_alone l a b c n d e = rw e (fields_alone l a b c n)

@@ -3,9 +3,8 @@ use mathlib.Core.Path.{◌≡◌, refl, sym, ap}
 use mathlib.Core.List.{List, [], ◌∷◌}
 use Prim.Native.Nat.{ℕ}
 use native.Mathlib.Omega.{arith}
-use Rattle.call.specs.declared.request.Decoded.{Decoded}
-use Rattle.call.specs.declared.request.Decoded.TheVariants.{WellFormed, Corrupt}
-use Rattle.call.specs.Calls.{Call, decoded}
+use Rattle.std.specs.Prelude.{None, Some}
+use Rattle.call.specs.Calls.{Decoded, Call, decoded}
 use Rattle.call.specs.Numbers.{decoded_number, decoded_values}
 use Rattle.call.specs.Theorems.Requests.{ValuesKept}
 use Rattle.call.proofs.Requests.{requests_exactly}
@@ -17,5 +16,5 @@ pub values_kept : ValuesKept
 values_kept x h = go (decoded x) refl h
   where
     go : (d : Decoded) → decoded x ≡ d → decoded_number d ≡ 0 → decoded_values d ≡ values_of x
-    go (WellFormed q) e h = ap values_of (sym ((requests_exactly x q).0 e))
-    go Corrupt e h = absurd (omega arith)
+    go (Some q) e h = ap values_of (sym ((requests_exactly x q).0 e))
+    go None e h = absurd (omega arith)

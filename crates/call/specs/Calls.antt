@@ -1,10 +1,10 @@
 -- Document 01, 'Twelve calls': a call is a letter, three fields and a text; the table of the letters with the fields
 -- that each names; and, from 'Desk file', the calls that a record can hold.
-use Rattle.std.specs.Prelude.{Bool, true, false, cond, ◌&&◌, ◌||◌, List, [], ◌∷◌, ℕ, eqb, leb, length}
+use Rattle.std.specs.Prelude.{Bool, cond, ◌&&◌, ◌||◌, List, [], ◌∷◌, ℕ, eqb, leb, length, Option, None, Some}
+use Rattle.std.specs.Option.{is_some}
+use Rattle.call.specs.declared.request.Fields.{Fields}
 use Rattle.call.specs.declared.request.Request.{Request}
 use Rattle.call.specs.declared.request.Request.TheVariants as request
-use Rattle.call.specs.declared.request.Decoded.{Decoded}
-use Rattle.call.specs.declared.request.Decoded.TheVariants.{WellFormed, Corrupt}
 use Rattle.call.specs.Letters as letters
 
 -- a call: its letter's byte, its fields and its text
@@ -17,6 +17,10 @@ pub record Call : Type 0 where
 
 abbrev pub call_with : ℕ → ℕ → ℕ → ℕ → List ℕ → Call
 call_with l a b c t = record { letter = l; a = a; b = b; c = c; text = t }
+
+-- the call with these fields and this text
+abbrev pub call_from : Fields → List ℕ → Call
+call_from f t = call_with f.letter f.a f.b f.c t
 
 -- the most bytes of an L's text, the lock text, in a record
 abbrev pub most_text : ℕ
@@ -58,12 +62,16 @@ unnamed_zero k a b c = (leb 1 k || eqb a 0) && (leb 2 k || eqb b 0) && (leb 3 k 
 abbrev pub text_named : ℕ → ℕ → Bool
 text_named letter n = eqb letter letters.L || eqb n 0
 
+-- the answer to a call: its request where it is well formed; none is document 01's 18
+abbrev pub Decoded : Type 0
+Decoded = Option Request
+
 -- 18 for 'an unknown letter, an unnamed field not 0 or a text outside L', else the letter's request
 abbrev pub decoded_in : List TableRow → ℕ → ℕ → ℕ → ℕ → ℕ → Decoded
-decoded_in [] letter a b c n = Corrupt
+decoded_in [] letter a b c n = None
 decoded_in (r ∷ rs) letter a b c n =
     cond (eqb letter r.letter)
-    (cond (unnamed_zero r.named a b c && text_named letter n) (WellFormed r.request) Corrupt)
+    (cond (unnamed_zero r.named a b c && text_named letter n) (Some r.request) None)
     (decoded_in rs letter a b c n)
 
 -- a call handed straight to the guard
@@ -74,8 +82,7 @@ abbrev pub decoded : Call → Decoded
 decoded x = decoded_of x.letter x.a x.b x.c (length x.text)
 
 abbrev pub is_well_formed : Decoded → Bool
-is_well_formed (WellFormed q) = true
-is_well_formed Corrupt = false
+is_well_formed d = is_some d
 
 -- 'Only L has text, 1 to 96 bytes.'
 abbrev pub text_fits : ℕ → ℕ → Bool

@@ -1,4 +1,5 @@
-// Document 01, 'Twelve calls': the letters, each by the name of its request.
+// Document 01, 'Twelve calls': the letters, each by the name of its request. They are bytes and no enum, since a file
+// or C may hold any byte; what a byte means is a `Request`.
 pub const NEW_USER: u8 = b'U';
 
 pub const START_THREAD: u8 = b'S';

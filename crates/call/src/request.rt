@@ -7,7 +7,7 @@ use crate::letters;
 
 // A well formed call, with the fields that its letter names; beside each stands its letter and document 01's word.
 // The text of a lock is not in it.
-#[derive(Clone, Copy)]
+#[derive(Clone, Copy, PartialEq, Eq)]
 pub enum Request {
     // U, new user
     NewUser,
@@ -35,61 +35,57 @@ pub enum Request {
     Access(u16, u16, u16),
 }
 
-// Corrupt, document 01's 18: an unknown letter, an unnamed field that is not 0, or a text where the letter takes none.
-#[derive(Clone, Copy)]
-pub enum Decoded {
-    WellFormed(Request),
-    Corrupt,
+// A call without its text: its letter and its fields.
+#[derive(Clone, Copy, PartialEq, Eq)]
+pub struct Fields {
+    pub letter: u8,
+    pub a: u16,
+    pub b: u16,
+    pub c: u16,
 }
 
-// The request of a call whose text has `size` bytes. The answer's number is `decoded_number`, and its values are
-// `decoded_values`.
-pub fn decode(letter: u8, a: u16, b: u16, c: u16, size: usize) -> Decoded
-    ensures { result ≡ decoded_of letter a b c size }
-{
-    match find_line(letter, a, b, c) {
-        Line::Unknown => Decoded::Corrupt,
-        Line::Of(request, named) => {
-            if unnamed_zero(named, a, b, c) & ((letter == letters::ADD_LOCK) | (size == 0)) {
-                Decoded::WellFormed(request)
-            } else {
-                Decoded::Corrupt
-            }
+impl Fields {
+    // The request of the call whose text has `size` bytes. None, document 01's 18: an unknown letter, an unnamed field
+    // that is not 0, or a text where the letter takes none. The answer's number is `decoded_number`, and its values are
+    // `decoded_values`.
+    #[tactic(auto, using(crate::proofs::TableLines::unknown, crate::proofs::TableLines::known))]
+    pub fn decode(self, size: usize) -> Option<Request>
+        ensures { result ≡ decoded_of self.letter self.a self.b self.c size }
+    {
+        let (request, named) = self.line()?;
+        let judged = self.unnamed_zero(named) & ((self.letter == letters::ADD_LOCK) | (size == 0));
+        judged.then_some(request)
+    }
+
+    // The line of document 01's table: the request, and how many of a, b and c it names.
+    #[tactic(auto, unfolding(crate::specs::Internal::line_of))]
+    fn line(self) -> Option<(Request, u8)>
+        ensures { result ≡ line_of self.letter self.a self.b self.c }
+    {
+        let Fields { letter, a, b, c } = self;
+        match letter {
+            letters::NEW_USER => Some((Request::NewUser, 0)),
+            letters::START_THREAD => Some((Request::StartThread(a), 1)),
+            letters::END_THREAD => Some((Request::EndThread(a), 1)),
+            letters::NEW_SEGMENT => Some((Request::NewSegment(a, b), 2)),
+            letters::NEW_KEY => Some((Request::NewKey(a), 1)),
+            letters::GIVE_KEY => Some((Request::GiveKey(a, b, c), 3)),
+            letters::TAKE_KEY => Some((Request::TakeKey(a, b, c), 3)),
+            letters::ADD_LOCK => Some((Request::AddLock(a, b, c), 3)),
+            letters::DROP_LOCK => Some((Request::DropLock(a, b), 2)),
+            letters::CALL_SEGMENT => Some((Request::CallSegment(a, b), 2)),
+            letters::RETURN_CALL => Some((Request::ReturnCall(a), 1)),
+            letters::ACCESS => Some((Request::Access(a, b, c), 3)),
+            _ => None,
         }
     }
-}
 
-// A line of document 01's table: the request, and how many of a, b and c it names.
-#[derive(Clone, Copy)]
-enum Line {
-    Of(Request, u8),
-    Unknown,
-}
-
-#[tactic(auto, unfolding(crate::specs::Internal::line_of))]
-fn find_line(letter: u8, a: u16, b: u16, c: u16) -> Line
-    ensures { result ≡ line_of letter a b c }
-{
-    match letter {
-        letters::NEW_USER => Line::Of(Request::NewUser, 0),
-        letters::START_THREAD => Line::Of(Request::StartThread(a), 1),
-        letters::END_THREAD => Line::Of(Request::EndThread(a), 1),
-        letters::NEW_SEGMENT => Line::Of(Request::NewSegment(a, b), 2),
-        letters::NEW_KEY => Line::Of(Request::NewKey(a), 1),
-        letters::GIVE_KEY => Line::Of(Request::GiveKey(a, b, c), 3),
-        letters::TAKE_KEY => Line::Of(Request::TakeKey(a, b, c), 3),
-        letters::ADD_LOCK => Line::Of(Request::AddLock(a, b, c), 3),
-        letters::DROP_LOCK => Line::Of(Request::DropLock(a, b), 2),
-        letters::CALL_SEGMENT => Line::Of(Request::CallSegment(a, b), 2),
-        letters::RETURN_CALL => Line::Of(Request::ReturnCall(a), 1),
-        letters::ACCESS => Line::Of(Request::Access(a, b, c), 3),
-        _ => Line::Unknown,
+    // Whether all but the first `named` of the fields are 0.
+    fn unnamed_zero(self, named: u8) -> bool
+        ensures { result ≡ unnamed_zero named self.a self.b self.c }
+    {
+        ((1 <= named) | (self.a == 0))
+            & ((2 <= named) | (self.b == 0))
+            & ((3 <= named) | (self.c == 0))
     }
-}
-
-// Whether all but the first `named` of the fields are 0.
-fn unnamed_zero(named: u8, a: u16, b: u16, c: u16) -> bool
-    ensures { result ≡ unnamed_zero named a b c }
-{
-    ((1 <= named) | (a == 0)) & ((2 <= named) | (b == 0)) & ((3 <= named) | (c == 0))
 }

@@ -1,9 +1,9 @@
 -- The row that decides is the model's: its lock is that of the first product that opens among the deny locks', else of
 -- the longest among the grant locks'.
+use Rattle.std.specs.Prelude.{Option, None, Some, Ok, Err}
 use mathlib.Core.Path.{◌≡◌, refl, sym, ap, subst, ◌∙◌}
 use mathlib.Core.Bool.{Bool, true, false, ◌&&◌, not, cond}
 use mathlib.Core.List.{List, [], ◌∷◌, map}
-use mathlib.Core.Option.{Option, none, some}
 use Prim.Native.Nat.{ℕ, ◌/◌, ◌%◌}
 use native.Mathlib.Omega.{arith}
 use lib.Dec.{eqb, ltb}
@@ -17,9 +17,8 @@ use Rattle.model.specs.Cells.{Row, Table, cell, is_used, used_rows, literal_in, 
 use Rattle.base.proofs.Lists.{All, case_bool, clash, All-keep, keep_map, keep_same, keep_passes, first_map, length_each, some_inj, some≢none}
 use Rattle.base.proofs.Greatest.{greatest_has, greatest_map}
 use Rattle.model.proofs.Refinement.OperationSets.{Bit, executes, reads, writes, denying, shares_one}
-use Rattle.checking.specs.declared.Checked.{Checked}
-use Rattle.checking.specs.declared.Checked.TheVariants.{Granted, Denied, NotGranted}
-use Rattle.checking.specs.Deciding.{keys_of, first_opening, tightest_opening, decide, check_of}
+use Rattle.checking.specs.declared.Ungranted.TheVariants.{Denied, NotGranted}
+use Rattle.checking.specs.Deciding.{Checked, keys_of, first_opening, tightest_opening, decide, check_of}
 use Rattle.checking.specs.Theorems.SameNumbers.{SameNumbers}
 use Rattle.checking.specs.Internal.{is_deny, opens_row, head_of, literals_in, tightest_from, decided_from, opening_of, head_checked, code_checked}
 
@@ -87,16 +86,16 @@ module _ {n : ℕ} (t : Table) (b : Bit n) where
       ap (greatest literal_count)
       (keep_map (opens_for grants n (keys_of t)) product_in (used_rows w)
       ∙ ap (map product_in) (keep_same (λ v. opens_for grants n (keys_of t) (product_in v)) (grant_row t n) is_grant_row (used_rows w)))
-      ∙ sym (greatest_map literal_count product_in none (grant_rows t w n))
+      ∙ sym (greatest_map literal_count product_in None (grant_rows t w n))
       ∙ ap (map_option product_in) (same_size (λ v. literal_count (product_in v)) row_size row_literals (grant_rows t w n))
 
 -- a row that is found is used, and passes
-first_used : (p : Row → Bool) (w : Table) (v : Row) → first p (used_rows w) ≡ some v → (is_used v ≡ true) × (p v ≡ true)
+first_used : (p : Row → Bool) (w : Table) (v : Row) → first p (used_rows w) ≡ Some v → (is_used v ≡ true) × (p v ≡ true)
 first_used p [] v e = absurd (some≢none (sym e))
 first_used p (u ∷ w) v e =
     case_bool (is_used u)
     (λ f. case_bool (p u)
-    (λ g. let q : some u ≡ some v = sym (simp (f, g)) ∙ e in
+    (λ g. let q : Some u ≡ Some v = sym (simp (f, g)) ∙ e in
     let r : u ≡ v = some_inj q in (ap is_used (sym r) ∙ f, ap p (sym r) ∙ g))
     (λ g. first_used p w v (sym (simp (f, g)) ∙ e)))
     (λ f. absurd (some≢none (sym (sym (simp f) ∙ e))))
@@ -112,7 +111,7 @@ all_used [] = tt
 all_used (v ∷ w) = case_bool (is_used v) (λ e. simp e (used_head v e, all_used w)) (λ e. simp e tt)
 
 -- the heads' fold is the rows', since a used row's head is not 0
-heads_after : (y : Row) (vs : List Row) → InUse y → All InUse vs → tightest_from (cell y 0) vs ≡ head_of (greatest_from row_size (some y) vs)
+heads_after : (y : Row) (vs : List Row) → InUse y → All InUse vs → tightest_from (cell y 0) vs ≡ head_of (greatest_from row_size (Some y) vs)
 heads_after y [] u us = refl
 heads_after y (v ∷ vs) u us =
     case_bool (ltb (row_size y) (row_size v))
@@ -126,9 +125,9 @@ heads (v ∷ vs) us = heads_after v vs us.0 us.1
 -- ---- the three ways in which the check ends
 
 data Decision (d g : Option Row) (r : ℕ) : Type 0 where
-  denied : (v : Row) → d ≡ some v → (cell v 0 ≡ 0 → ⊥) → is_deny v ≡ true → r ≡ cell v 0 → Decision d g r
-  granted : (v : Row) → d ≡ none → g ≡ some v → (cell v 0 ≡ 0 → ⊥) → is_deny v ≡ false → r ≡ cell v 0 → Decision d g r
-  neither : d ≡ none → g ≡ none → r ≡ 0 → Decision d g r
+  denied : (v : Row) → d ≡ Some v → (cell v 0 ≡ 0 → ⊥) → is_deny v ≡ true → r ≡ cell v 0 → Decision d g r
+  granted : (v : Row) → d ≡ None → g ≡ Some v → (cell v 0 ≡ 0 → ⊥) → is_deny v ≡ false → r ≡ cell v 0 → Decision d g r
+  neither : d ≡ None → g ≡ None → r ≡ 0 → Decision d g r
 
 module _ (t w : Table) (n : ℕ) where
   grants_used : All InUse (grant_rows t w n)
@@ -140,13 +139,13 @@ module _ (t w : Table) (n : ℕ) where
     where
       go : (d g : Option Row) → first_deny t w n ≡ d → longest_grant t w n ≡ g → tightest_from 0 (grant_rows t w n) ≡ head_of g
           → Decision d g (cond (is_some d) (head_of d) (tightest_from 0 (grant_rows t w n)))
-      go (some v) g p q e =
+      go (Some v) g p q e =
           let f = first_used (deny_row t n) w v p in denied v refl (used_head v f.0) (and_right (opens_row (keys_of t) n v) (is_deny v) f.1) refl
-      go none (some v) p q e =
+      go None (Some v) p q e =
           let passed = greatest_has row_size (λ u. grant_row t n u ≡ true) (grant_rows t w n) (keep_passes (grant_row t n) (used_rows w)) v q in
           granted v refl refl (greatest_has row_size InUse (grant_rows t w n) grants_used v q)
           (not-true (is_deny v) (and_right (opens_row (keys_of t) n v) (not (is_deny v)) passed)) e
-      go none none p q e = neither refl refl e
+      go None None p q e = neither refl refl e
 
 module _ {n : ℕ} (t w : Table) (b : Bit n) where
   abbrev Denies : Type 0
@@ -169,7 +168,7 @@ module _ {n : ℕ} (t w : Table) (b : Bit n) where
   opening_denies e = go (decision t w n)
     where
       go : Decision (first_deny t w n) (longest_grant t w n) (opening_of t w n) → Denies
-      go (denied v p z y q) = (ap is_some (deny_is (some v) p), ap lock_of (deny_is (some v) p) ∙ ap (λ (k : ℕ). k / 65536) (sym q))
+      go (denied v p z y q) = (ap is_some (deny_is (Some v) p), ap lock_of (deny_is (Some v) p) ∙ ap (λ (k : ℕ). k / 65536) (sym q))
       go (granted v p g z y q) = clash e (ap (λ (k : ℕ). shares k deny) q ∙ y)
       go (neither p g q) = clash e (ap (λ (k : ℕ). shares k deny) q)
 
@@ -179,7 +178,7 @@ module _ {n : ℕ} (t w : Table) (b : Bit n) where
       go : Decision (first_deny t w n) (longest_grant t w n) (opening_of t w n) → Neither
       go (denied v p z y q) = absurd (z (sym q ∙ e))
       go (granted v p g z y q) = absurd (z (sym q ∙ e))
-      go (neither p g q) = (ap is_some (deny_is none p), ap is_some (grant_is none g))
+      go (neither p g q) = (ap is_some (deny_is None p), ap is_some (grant_is None g))
 
   pub opening_grants : (opening_of t w n ≡ 0 → ⊥) → shares (opening_of t w n) deny ≡ false → Grants
   opening_grants z e = go (decision t w n)
@@ -187,7 +186,7 @@ module _ {n : ℕ} (t w : Table) (b : Bit n) where
       go : Decision (first_deny t w n) (longest_grant t w n) (opening_of t w n) → Grants
       go (denied v p u y q) = clash (ap (λ (k : ℕ). shares k deny) q ∙ y) e
       go (granted v p g u y q) =
-          (ap is_some (deny_is none p), ap is_some (grant_is (some v) g), ap lock_of (grant_is (some v) g) ∙ ap (λ (k : ℕ). k / 65536) (sym q))
+          (ap is_some (deny_is None p), ap is_some (grant_is (Some v) g), ap lock_of (grant_is (Some v) g) ∙ ap (λ (k : ℕ). k / 65536) (sym q))
       go (neither p g q) = absurd (z q)
 
   -- so the answer by the head is the check's
@@ -217,7 +216,7 @@ module _ (t w : Table) (n : ℕ) where
   unfolding check_of
   check_is e = rw e (decided t w (operation_bit n e))
 
-  pub no_check : is_operation n ≡ false → NotGranted ≡ check_of t w n
+  pub no_check : is_operation n ≡ false → ◌≡◌ {A = Checked} (Err NotGranted) (check_of t w n)
   unfolding check_of
   no_check e = rw e
 
@@ -227,6 +226,6 @@ pub answered : (t w : Table) (n code : ℕ) (r : Checked) → is_operation n ≡
 answered t w n code r o h v = v ∙ h ∙ check_is t w n o
 
 pub same_numbers : SameNumbers
-same_numbers (Granted lock) = (refl, refl)
-same_numbers (Denied lock) = (refl, refl)
-same_numbers NotGranted = (refl, refl)
+same_numbers (Ok lock) = (refl, refl)
+same_numbers (Err (Denied lock)) = (refl, refl)
+same_numbers (Err NotGranted) = (refl, refl)

@@ -1,12 +1,12 @@
 -- By computing.
 use mathlib.Core.Path.{refl}
-use Rattle.product.specs.Atom.{order_of, compare_atoms}
+use Rattle.product.specs.Atom.{compare_atoms}
 use Rattle.product.specs.Product.{opens}
 use Rattle.checking.specs.Deciding.{check_of}
 use Rattle.checking.specs.Theorems.Examples.{Examples}
 
 pub examples : Examples
-unfolding order_of compare_atoms opens check_of
+unfolding compare_atoms opens check_of
 examples =
     record {
       reads = refl;
@@ -18,7 +18,7 @@ examples =
       read_and_write = refl;
       deny = refl;
       sixteen = refl;
-      lock_unit_lem = refl;
+      lock_unit = refl;
       tightest = refl;
       lowest_deny = refl;
       no_literal = refl;

@@ -1,54 +1,27 @@
 -- The codes that the check compares stand for the keys of the thread's key set: a code of a list tells its key from
 -- every other, no list has a U or R key, and a row has a key exactly where a cell has its code.
+use Rattle.std.specs.Prelude.{Option}
 use mathlib.Core.Path.{◌≡◌, refl, sym, ap, ap₂, ◌∙◌}
 use mathlib.Core.Bool.{Bool, true, false, ◌&&◌, ◌||◌, not, cond}
 use mathlib.Core.List.{List, [], ◌∷◌}
-use Prim.Native.Nat.{ℕ, zero, suc, ◌+◌, ◌-◌, ◌/◌, ◌%◌, ◌≤◌, ◌<◌}
+use Prim.Native.Nat.{ℕ, zero, suc, ◌+◌, ◌-◌, ◌/◌, ◌%◌, ◌<◌}
 use native.Mathlib.Omega.{arith}
 use lib.Dec.{eqb, ltb}
-use lib.ListN.{length}
-use borrow.Author.Tests.{lt-ltb, le-ltb, ltb-true, ltb-false, eq-eqb, ne_eqb, eqb-true}
+use borrow.Author.Tests.{lt-ltb, ltb-true, ltb-false, eq-eqb, ne_eqb, eqb-true}
 use Rattle.product.specs.declared.literal.Key.{Key}
 use Rattle.product.specs.declared.literal.Key.TheVariants.{User, Thread as ThreadKey, Segment as SegmentKey, Defined}
 use Rattle.product.specs.declared.literal.Literal.{Literal}
 use Rattle.product.specs.declared.literal.Literal.TheVariants.{Plain, Barred}
-use Rattle.product.specs.Atom.{agrees, atom_of, number_of, compare_atoms, order_of}
-use Rattle.base.specs.Lists.{any, keep, each}
+use Rattle.product.specs.Atom.{agrees, atom_of, number_of, compare_atoms}
+use Rattle.base.specs.Lists.{any, keep, is_some}
 use Rattle.model.specs.Limits.{most_segments}
 use Rattle.model.specs.Threads.{same_key, is_in}
 use Rattle.model.specs.Cells.{Row, Table, cell, row_at, number_cell, user_cell, no_key, key_in, has_key, keys_in, key_cell, defined_cell, signed, literal_in, frames_of}
 use Rattle.model.proofs.Keys.{same_key_lem, key_same}
 use Rattle.model.proofs.Refinement.Literals.{key_in_segment, key_in_defined}
-use Rattle.base.proofs.Lists.{case_bool, same_truth, any_map, any_keep, each_suc}
+use Rattle.base.proofs.Lists.{case_bool, same_truth, any_map, any_keep}
 use Rattle.checking.specs.Deciding.{keys_at}
 use Rattle.checking.specs.Internal.{has_code, newest_row, listable}
-
--- ---- the eight comparisons of a row
-
-each_cell : (w : Row) → each (cell w) 0 (length w) ≡ w
-each_cell [] = refl
-each_cell (x ∷ w) = ap (λ (v : Row). x ∷ v) (each_suc (cell (x ∷ w)) 0 (length w) ∙ each_cell w)
-
-ors : (a b c d e f g h : Bool)
-    → (((((((a || b) || c) || d) || e) || f) || g) || h) ≡ (a || (b || (c || (d || (e || (f || (g || (h || false))))))))
-ors true b c d e f g h = refl
-ors false true c d e f g h = refl
-ors false false true d e f g h = refl
-ors false false false true e f g h = refl
-ors false false false false true f g h = refl
-ors false false false false false true g h = refl
-ors false false false false false false true h = refl
-ors false false false false false false false true = refl
-ors false false false false false false false false = refl
-
-pub eight_cells_lem : (w : Row) (code : ℕ) → length w ≡ 8
-    → (((((((eqb (cell w 0) code || eqb (cell w 1) code) || eqb (cell w 2) code) || eqb (cell w 3) code) || eqb (cell w 4) code) || eqb (cell w 5) code)
-    || eqb (cell w 6) code) || eqb (cell w 7) code) ≡ has_code w code
-eight_cells_lem w code l =
-    let is : ℕ → Bool = λ j. eqb (cell w j) code in
-    ors (is 0) (is 1) (is 2) (is 3) (is 4) (is 5) (is 6) (is 7)
-    ∙ ap (λ (n : ℕ). has_code (each (cell w) 0 n) code) (sym l)
-    ∙ ap (λ (v : Row). has_code v code) (each_cell w)
 
 -- ---- equal keys
 
@@ -75,34 +48,34 @@ same_threads n r =
 
 module _ (x n : ℕ) where
   listed_not_user : same_key (key_in x) (User n) ≡ false
-  unfolding compare_atoms order_of
+  unfolding compare_atoms
   listed_not_user = case_bool (ltb x most_segments) (λ e. simp e) (λ e. simp e)
 
   listed_not_thread : same_key (key_in x) (ThreadKey n) ≡ false
-  unfolding compare_atoms order_of
+  unfolding compare_atoms
   listed_not_thread = case_bool (ltb x most_segments) (λ e. simp e) (λ e. simp e)
 
   pub user_not_listed : same_key (User n) (key_in x) ≡ false
-  unfolding compare_atoms order_of
+  unfolding compare_atoms
   user_not_listed = case_bool (ltb x most_segments) (λ e. simp e) (λ e. simp e)
 
   pub thread_not_listed : same_key (ThreadKey n) (key_in x) ≡ false
-  unfolding compare_atoms order_of
+  unfolding compare_atoms
   thread_not_listed = case_bool (ltb x most_segments) (λ e. simp e) (λ e. simp e)
 
 user_not_thread : (n r : ℕ) → same_key (User n) (ThreadKey r) ≡ false
-unfolding compare_atoms order_of
+unfolding compare_atoms
 user_not_thread n r = refl
 
 thread_not_user : (n r : ℕ) → same_key (ThreadKey n) (User r) ≡ false
-unfolding compare_atoms order_of
+unfolding compare_atoms
 thread_not_user n r = refl
 
 -- ---- the frames' lists
 
 -- one of the oldest n frames has the code
 abbrev inherited : Table → ℕ → ℕ → Bool
-inherited t n code = not (eqb (newest_row t n code) 0)
+inherited t n code = is_some (newest_row t n code)
 
 any_agree : {A : Type 0} (p q : A → Bool) → ((x : A) → p x ≡ q x) → (xs : List A) → any p xs ≡ any q xs
 any_agree p q h [] = refl
@@ -138,10 +111,7 @@ module _ (code : ℕ) (low : code < no_key) where
   in_frames t zero = refl
   in_frames t (suc n) =
       ap₂ (λ (a b : Bool). a || b) (in_row (row_at t (suc n))) (in_frames t n)
-      ∙ case_bool (has_code (row_at t (suc n)) code) (λ e. let some-row = ne_eqb (suc n) 0 (λ z. omega arith) in rw (e, some-row) refl) (λ e. rw e refl)
-
-held : (t : Table) (n code : ℕ) {row : ℕ} → row ≡ newest_row t n code → not (eqb row 0) ≡ inherited t n code
-held t n code h = ap (λ (r : ℕ). not (eqb r 0)) h
+      ∙ case_bool (has_code (row_at t (suc n)) code) (λ e. rw e refl) (λ e. rw e refl)
 
 -- ---- the key set
 
@@ -181,14 +151,14 @@ module _ (t : Table) (n : ℕ) where
     pub thread_key : k ≡ ThreadKey number → eqb (cell (row_at t 0) number_cell) number ≡ keys_at t n k
     thread_key e = sym (ap (keys_at t n) e ∙ holds_thread number)
 
-    module _ {code row : ℕ} (l : listable k ≡ true) (h : row ≡ newest_row t n code) where
-      pub segment_key : k ≡ SegmentKey number → code ≡ number → not (eqb row 0) ≡ keys_at t n k
-      segment_key e c = held t n code h ∙ ap (inherited t n) c ∙ sym (ap (keys_at t n) e ∙ holds_segment number (ap listable (sym e) ∙ l))
+    module _ {code : ℕ} {row : Option ℕ} (l : listable k ≡ true) (h : row ≡ newest_row t n code) where
+      pub segment_key : k ≡ SegmentKey number → code ≡ number → is_some row ≡ keys_at t n k
+      segment_key e c = ap is_some h ∙ ap (inherited t n) c ∙ sym (ap (keys_at t n) e ∙ holds_segment number (ap listable (sym e) ∙ l))
 
-      pub defined_key : k ≡ Defined number → code ≡ number + most_segments → not (eqb row 0) ≡ keys_at t n k
+      pub defined_key : k ≡ Defined number → code ≡ number + most_segments → is_some row ≡ keys_at t n k
       defined_key e c =
           let same : code ≡ defined_cell number = omega (arith, c) in
-          held t n code h ∙ ap (inherited t n) same ∙ sym (ap (keys_at t n) e ∙ holds_defined number (ap listable (sym e) ∙ l))
+          ap is_some h ∙ ap (inherited t n) same ∙ sym (ap (keys_at t n) e ∙ holds_defined number (ap listable (sym e) ∙ l))
 
   module _ {l : Literal} {k : Key} {b : Bool} (h : b ≡ keys_at t n k) where
     pub plain_agrees : l ≡ Plain k → b ≡ agrees (keys_at t n) l
@@ -226,41 +196,3 @@ literal_listable x =
     (λ e.
     let own : Key = cond (ltb x 262144) (User (x % 65536)) (ThreadKey (x % 65536)) in
     simp e (ap listable (signed_key (eqb (x / 65536 % 2) 0) own) ∙ case_bool (ltb x 262144) (λ f. simp f) (λ f. simp f)))
-
--- ---- the literal of a cell, by the cell's range
-
-module _ (x : ℕ) where
-  pub plain_segment : x < 32768 → x < most_segments → Plain (SegmentKey x) ≡ literal_in x
-  plain_segment h l =
-      let rest : x % 32768 ≡ x = omega arith in
-      sym (simp (lt-ltb x 65536 (omega arith), lt-ltb x 32768 h, rest, lt-ltb x most_segments l))
-
-  pub plain_defined : x < 32768 → most_segments ≤ x → Plain (Defined (x - most_segments)) ≡ literal_in x
-  plain_defined h l =
-      let rest : x % 32768 ≡ x = omega arith in
-      sym (simp (lt-ltb x 65536 (omega arith), lt-ltb x 32768 h, rest, le-ltb x most_segments l))
-
-  module _ (h : 32768 ≤ x) (g : x < 65536) where
-    rest : x % 32768 ≡ x - 32768
-    rest = omega arith
-
-    pub barred_segment : x - 32768 < most_segments → Barred (SegmentKey (x - 32768)) ≡ literal_in x
-    barred_segment l = sym (simp (lt-ltb x 65536 g, le-ltb x 32768 h, rest, lt-ltb (x - 32768) most_segments l))
-
-    pub barred_defined : most_segments ≤ x - 32768 → Barred (Defined (x - 32768 - most_segments)) ≡ literal_in x
-    barred_defined l = sym (simp (lt-ltb x 65536 g, le-ltb x 32768 h, rest, le-ltb (x - 32768) most_segments l))
-
-  module _ (h : 65536 ≤ x) where
-    module _ (s : x / 65536 % 2 ≡ 0) where
-      pub plain_user : x < 262144 → Plain (User (x % 65536)) ≡ literal_in x
-      plain_user l = sym (simp (le-ltb x 65536 h, eq-eqb (x / 65536 % 2) 0 s, lt-ltb x 262144 l))
-
-      pub plain_thread : 262144 ≤ x → Plain (ThreadKey (x % 65536)) ≡ literal_in x
-      plain_thread l = sym (simp (le-ltb x 65536 h, eq-eqb (x / 65536 % 2) 0 s, le-ltb x 262144 l))
-
-    module _ (s : x / 65536 % 2 ≡ 0 → ⊥) where
-      pub barred_user : x < 262144 → Barred (User (x % 65536)) ≡ literal_in x
-      barred_user l = sym (simp (le-ltb x 65536 h, ne_eqb (x / 65536 % 2) 0 s, lt-ltb x 262144 l))
-
-      pub barred_thread : 262144 ≤ x → Barred (ThreadKey (x % 65536)) ≡ literal_in x
-      barred_thread l = sym (simp (le-ltb x 65536 h, ne_eqb (x / 65536 % 2) 0 s, le-ltb x 262144 l))

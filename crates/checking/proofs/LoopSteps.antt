@@ -1,9 +1,10 @@
 -- One turn of each loop: what is left to ask answers what the whole does. Frames and literals are asked downwards, rows
 -- upwards with the longest grant row found on the way.
+use Rattle.std.specs.Prelude.{Option, None, Some}
 use mathlib.Core.Path.{◌≡◌, refl, sym, ap, subst, ◌∙◌}
 use mathlib.Core.Bool.{Bool, true, false, ◌&&◌, ◌||◌, cond}
 use mathlib.Core.List.{[], ◌∷◌, ◌++◌}
-use Prim.Native.Nat.{ℕ, suc, ◌+◌, ◌-◌, ◌≤◌, ◌<◌, min}
+use Prim.Native.Nat.{ℕ, suc, ◌+◌, ◌-◌, ◌≤◌, ◌<◌}
 use native.Mathlib.Omega.{arith}
 use lib.Dec.{eqb, ltb}
 use lib.ListN.{length, drop}
@@ -12,39 +13,38 @@ use Rattle.product.specs.declared.literal.Literal.{Literal}
 use Rattle.product.specs.Atom.{agrees, atom_of}
 use Rattle.product.specs.Product.{Product, opens}
 use Rattle.base.specs.Lists.{each}
-use Rattle.model.specs.Limits.{most_frames}
 use Rattle.model.specs.Threads.{KeySet}
 use Rattle.model.specs.Operations.{shares, deny}
-use Rattle.model.specs.Cells.{Row, Table, cell, row_at, frame_count, literal_in, product_in}
+use Rattle.model.specs.Cells.{Row, Table, cell, row_at, literal_in, product_in}
 use Rattle.base.proofs.Truth.{neither}
 use Rattle.base.proofs.Lists.{case_bool, clash, each_snoc}
 use Rattle.base.proofs.Scans.{Rest, rest_end, rest_next}
-use Rattle.checking.specs.Deciding.{keys_at}
-use Rattle.checking.specs.Internal.{has_code, newest_row, listable, is_deny, opens_row, literals_in, decided_from, opening_of, GrantHead, can_change}
+use Rattle.checking.specs.Deciding.{keys_of}
 use Rattle.checking.proofs.KeyCells.{literal_listable}
+use Rattle.checking.specs.Internal.{has_code, newest_row, is_deny, opens_row, literals_in, decided_from, opening_of, GrantHead, can_change, listable}
 
 step_down : (i : ℕ) → 0 < i → i ≡ suc (i - 1)
 step_down i h = omega arith
 
 -- ---- frames
 
-pub record Asked (r : ℕ) (t : Table) (code i : ℕ) : Type 0 where
+pub record Asked (r : Option ℕ) (t : Table) (code i : ℕ) : Type 0 where
   pub rest : r ≡ newest_row t i code
 
 pub asked_start : (t : Table) (n code : ℕ) → Asked (newest_row t n code) t code n
 asked_start t n code = record { rest = refl }
 
-module _ {r : ℕ} {t : Table} {code i : ℕ} (a : Asked r t code i) where
-  pub asked_end : i ≤ 0 → 0 ≡ r
+module _ {r : Option ℕ} {t : Table} {code i : ℕ} (a : Asked r t code i) where
+  pub asked_end : i ≤ 0 → None ≡ r
   unfolding newest_row
   asked_end h = let z : i ≡ 0 = omega arith in sym (a.rest ∙ ap (λ (k : ℕ). newest_row t k code) z)
 
   module _ (h : 0 < i) where
-    split : newest_row t i code ≡ cond (has_code (row_at t i) code) i (newest_row t (i - 1) code)
+    split : newest_row t i code ≡ cond (has_code (row_at t i) code) (Some i) (newest_row t (i - 1) code)
     unfolding newest_row
-    split = ap (λ (k : ℕ). newest_row t k code) (step_down i h) ∙ ap (λ (k : ℕ). cond (has_code (row_at t k) code) k (newest_row t (i - 1) code)) (sym (step_down i h))
+    split = ap (λ (k : ℕ). newest_row t k code) (step_down i h) ∙ ap (λ (k : ℕ). cond (has_code (row_at t k) code) (Some k) (newest_row t (i - 1) code)) (sym (step_down i h))
 
-    pub asked_hit : (b : Bool) → b ≡ has_code (row_at t i) code → b ≡ true → i ≡ r
+    pub asked_hit : (b : Bool) → b ≡ has_code (row_at t i) code → b ≡ true → Some i ≡ r
     asked_hit b e q = sym (a.rest ∙ split ∙ rw (sym e ∙ q))
 
     pub asked_miss : (b : Bool) → b ≡ has_code (row_at t i) code → b ≡ false → Asked r t code (i - 1)
@@ -136,10 +136,9 @@ module _ (keys : KeySet) (n found : ℕ) (v : Row) (w : Table) where
 pub record Deciding (r : ℕ) (keys : KeySet) (n : ℕ) (w : Table) (found p : ℕ) : Type 0 where
   pub rest : r ≡ decided_from keys n found (drop p w)
 
-pub deciding_start : (t w : Table) (n depth : ℕ) → depth ≡ min (cell (row_at t 0) frame_count) most_frames
-    → Deciding (opening_of t w n) (keys_at t depth) n w 0 0
+pub deciding_start : {s t : Table} (w : Table) (n : ℕ) → s ≡ t → Deciding (opening_of t w n) (keys_of s) n w 0 0
 unfolding opening_of
-deciding_start t w n depth e = record { rest = rw e }
+deciding_start w n same = record { rest = rw same }
 
 pub deciding_as : {r : ℕ} {keys : KeySet} {n : ℕ} {w : Table} {found found' p : ℕ} → found' ≡ found → Deciding r keys n w found p → Deciding r keys n w found' p
 deciding_as {r} {keys} {n} {w} {found} {found'} {p} e a = subst (λ (f : ℕ). Deciding r keys n w f p) (sym e) a

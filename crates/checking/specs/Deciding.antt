@@ -1,18 +1,21 @@
 -- Document 01, 'Operations and the check', on a thread's table and the table of a segment's product rows: what the
 -- check answers.
-use Rattle.std.specs.Prelude.{Bool, cond, map, ℕ}
-use Rattle.std.proofs.Math.Option.{Option}
+use Rattle.std.specs.Prelude.{Bool, cond, map, ℕ, Result, Ok, Err, Option}
+use Rattle.model.specs.declared.answer.Refusal.{Refusal}
 use Rattle.model.specs.declared.answer.Refusal.TheVariants.{Denied as DeniedBy, NotGranted as NoneGrants}
-use Rattle.model.specs.declared.answer.Answer.{Answer}
-use Rattle.model.specs.declared.answer.Answer.TheVariants.{Accepted, Refused}
+use Rattle.model.specs.Answers.{Answer}
 use Rattle.base.specs.Lists.{keep, first, greatest, is_some}
 use Rattle.model.specs.Operations.{denies, grants, is_operation}
 use Rattle.model.specs.Threads.{KeySet, key_set}
 use Rattle.model.specs.State.{LockProduct}
 use Rattle.model.specs.Refusals.{opens_for, literal_count, lock_of}
 use Rattle.model.specs.Cells.{Table, cell, row_at, number_cell, user_cell, frames_of, depth_of, used_rows, product_in}
-use Rattle.checking.specs.declared.Checked.{Checked}
-use Rattle.checking.specs.declared.Checked.TheVariants.{Granted, Denied, NotGranted}
+use Rattle.checking.specs.declared.Ungranted.{Ungranted}
+use Rattle.checking.specs.declared.Ungranted.TheVariants.{Denied, NotGranted}
+
+-- what the check answers
+abbrev pub Checked : Type 0
+Checked = Result ℕ Ungranted
 
 -- the key set of the thread, with its oldest n frames
 abbrev pub keys_at : Table → ℕ → KeySet
@@ -33,26 +36,29 @@ tightest_opening t w n = greatest literal_count (keep (opens_for grants n (keys_
 -- 'If a deny lock opens, the lowest one's number goes with refusal 14. Otherwise' comes a grant lock's, 'and 15 if none
 -- opens.'
 abbrev pub decide : Option LockProduct → Option LockProduct → Checked
-decide d g = cond (is_some d) (Denied (lock_of d)) (cond (is_some g) (Granted (lock_of g)) NotGranted)
+decide d g = cond (is_some d) (Err (Denied (lock_of d))) (cond (is_some g) (Ok (lock_of g)) (Err NotGranted))
 
 -- Request P6: 'The answer becomes the lock whose longest opening product has most signed keys. .. Deny locks keep their
 -- order.' No lock stands for a number that is no operation.
 unfoldable pub check_of : Table → Table → ℕ → Checked
-check_of t w n = cond (is_operation n) (decide (first_opening denies t w n) (tightest_opening t w n)) NotGranted
+check_of t w n = cond (is_operation n) (decide (first_opening denies t w n) (tightest_opening t w n)) (Err NotGranted)
 
 -- document 01's number of each case, 0 where nothing is refused, and its value: the lock
 abbrev pub checked_number : Checked → ℕ
-checked_number (Granted lock) = 0
-checked_number (Denied lock) = 14
-checked_number NotGranted = 15
+checked_number (Ok lock) = 0
+checked_number (Err (Denied lock)) = 14
+checked_number (Err NotGranted) = 15
 
 abbrev pub checked_value : Checked → ℕ
-checked_value (Granted lock) = lock
-checked_value (Denied lock) = lock
-checked_value NotGranted = 0
+checked_value (Ok lock) = lock
+checked_value (Err (Denied lock)) = lock
+checked_value (Err NotGranted) = 0
 
--- as the answer of the call or access that is checked
+-- as the refusal, and the answer, of the call or access that is checked
+abbrev pub refusal_of : Ungranted → Refusal
+refusal_of (Denied lock) = DeniedBy lock
+refusal_of NotGranted = NoneGrants
+
 abbrev pub answer_of : Checked → Answer
-answer_of (Granted lock) = Accepted lock
-answer_of (Denied lock) = Refused (DeniedBy lock)
-answer_of NotGranted = Refused NoneGrants
+answer_of (Ok lock) = Ok lock
+answer_of (Err u) = Err (refusal_of u)

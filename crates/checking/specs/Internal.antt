@@ -1,6 +1,5 @@
 -- What the crate's private functions promise each other. Nothing here is part of what a reader must believe.
-use Rattle.std.specs.Prelude.{◌≡◌, Bool, true, false, ◌&&◌, ◌||◌, not, cond, List, [], ◌∷◌, ℕ, zero, suc, ◌-◌, ◌/◌, ◌%◌, ◌≤◌, ◌<◌, eqb, ltb}
-use Rattle.std.proofs.Math.Option.{Option}
+use Rattle.std.specs.Prelude.{◌≡◌, ◌-◌, Bool, true, false, ◌&&◌, ◌||◌, not, cond, List, [], ◌∷◌, ℕ, zero, suc, ◌/◌, ◌%◌, ◌≤◌, ◌<◌, eqb, ltb, Ok, Err, Option, None, Some}
 use Rattle.product.specs.Code.{number_limit}
 use Rattle.product.specs.Product.{opens}
 use Rattle.base.specs.Lists.{any, keep, first, is_some, or_default}
@@ -9,26 +8,25 @@ use Rattle.product.specs.declared.literal.Key.TheVariants.{User, Thread as Threa
 use Rattle.model.specs.Limits.{most_segments}
 use Rattle.model.specs.Operations.{deny, shares}
 use Rattle.model.specs.Threads.{KeySet}
-use Rattle.model.specs.Cells.{Row, Table, cell, row_at, used_rows, product_in, no_key, defined_cell, literal_unit, literal_counts}
-use Rattle.checking.specs.declared.Checked.{Checked}
-use Rattle.checking.specs.declared.Checked.TheVariants.{Granted, Denied, NotGranted}
-use Rattle.checking.specs.Deciding.{keys_of}
+use Rattle.model.specs.Cells.{Row, Table, cell, row_at, used_rows, product_in, no_key, defined_cell, thread_cells, barred_own, literal_unit, literal_counts}
+use Rattle.checking.specs.declared.Ungranted.TheVariants.{Denied, NotGranted}
+use Rattle.checking.specs.Deciding.{Checked, keys_of}
 
 -- a cell of the row has the code
 abbrev pub has_code : Row → ℕ → Bool
 has_code w code = any (λ x. eqb x code) w
 
--- the row of the newest of the oldest n frames that has it, 0 for none
-unfoldable pub newest_row : Table → ℕ → ℕ → ℕ
-newest_row t zero code = 0
-newest_row t (suc n) code = cond (has_code (row_at t (suc n)) code) (suc n) (newest_row t n code)
+-- the row of the newest of the oldest n frames that has it
+unfoldable pub newest_row : Table → ℕ → ℕ → Option ℕ
+newest_row t zero code = None
+newest_row t (suc n) code = cond (has_code (row_at t (suc n)) code) (Some (suc n)) (newest_row t n code)
 
--- a key's code in key lists, `no_key` for a key that no list can hold
-abbrev pub list_code : Key → ℕ
-list_code (User n) = no_key
-list_code (ThreadKey n) = no_key
-list_code (SegmentKey n) = cond (ltb n most_segments) n no_key
-list_code (Defined n) = cond (ltb (defined_cell n) no_key) (defined_cell n) no_key
+-- a key's code in key lists, none for a key that no list can hold
+abbrev pub list_code : Key → Option ℕ
+list_code (User n) = None
+list_code (ThreadKey n) = None
+list_code (SegmentKey n) = cond (ltb n most_segments) (Some n) None
+list_code (Defined n) = cond (ltb (defined_cell n) no_key) (Some (defined_cell n)) None
 
 -- each cell is a number of 16 bits, and so in each of the oldest n frames
 abbrev pub RowFits : Row → Type 0
@@ -36,6 +34,10 @@ RowFits w = (j : ℕ) → cell w j < number_limit
 
 abbrev pub FramesFit : Table → ℕ → Type 0
 FramesFit t n = (i : ℕ) → 0 < i → i ≤ n → RowFits (row_at t i)
+
+-- the U or R key of a cell, whatever its sign
+abbrev pub own_key : ℕ → Key
+own_key x = cond (ltb x thread_cells) (User (x % barred_own)) (ThreadKey (x % barred_own))
 
 -- an S or a D key has a code of its own in key lists
 abbrev pub listable : Key → Bool
@@ -101,7 +103,8 @@ lock_unit = 65536
 -- what the check answers by it
 unfoldable pub head_checked : ℕ → Checked
 head_checked head =
-    cond (eqb head 0) NotGranted (cond (shares head deny) (Denied (head / lock_unit)) (Granted (head / lock_unit)))
+    let lock = head / lock_unit in
+    cond (eqb head 0) (Err NotGranted) (cond (shares head deny) (Err (Denied lock)) (Ok lock))
 
 -- an answer as one number: a grant lock's own, a deny lock's from the first of these on, and the other for none
 abbrev pub denied_codes : ℕ
@@ -112,5 +115,5 @@ not_granted_code = 131072
 
 unfoldable pub code_checked : ℕ → Checked
 code_checked code =
-    cond (ltb code denied_codes) (Granted code)
-    (cond (ltb code not_granted_code) (Denied (code - denied_codes)) NotGranted)
+    cond (ltb code denied_codes) (Ok code)
+    (cond (ltb code not_granted_code) (Err (Denied (code - denied_codes))) (Err NotGranted))

@@ -3,7 +3,7 @@ ghost use Rattle.std.specs.Prelude.{◌≡◌, true};
 ghost use Rattle.model.specs.Operations.{deny, shares};
 ghost use Rattle.checking.specs.Internal.{Literals, GrantHead, head_checked, code_checked};
 
-use crate::Checked;
+use crate::{Checked, Ungranted};
 use model::arrays::{LITERAL_COUNTS, LITERAL_UNIT, LOCK_UNIT};
 
 pub(crate) fn literals(head: u32) -> usize
@@ -12,21 +12,23 @@ pub(crate) fn literals(head: u32) -> usize
     (head / LITERAL_UNIT % LITERAL_COUNTS) as usize
 }
 
-// An answer as one number: a grant lock's own, a deny lock's from here on, and one for none.
+// An answer as one number: a grant lock's own, a deny lock's from here on, and one for none. It is kept for speed:
+// tried as a `Checked`, which goes through memory, it takes 11 instructions more a check, and C then misses its limit.
 const DENIED: u32 = 65536;
 
 pub(crate) const NOT_GRANTED: u32 = 131072;
 
+// No `From`: only such a number is read so.
 pub(crate) fn checked_in(code: u32) -> Checked
     ensures { result ≡ code_checked code }
 {
     if code < DENIED {
-        return Checked::Granted(code as u16);
+        return Ok(code as u16);
     }
     if NOT_GRANTED <= code {
-        return Checked::NotGranted;
+        return Err(Ungranted::NotGranted);
     }
-    Checked::Denied((code - DENIED) as u16)
+    Err(Ungranted::Denied((code - DENIED) as u16))
 }
 
 // The number of the answer where the row with that head decides, as a deny lock's or as a grant lock's.

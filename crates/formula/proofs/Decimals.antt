@@ -1,9 +1,9 @@
 -- The reader of a number and the spelling of one undo each other. Read digit by digit, a number is ten times what was
 -- read and the next digit; spelt, it is what is spelt of its tenth part and the last digit.
+use Rattle.std.specs.Prelude.{None, Some}
 use mathlib.Core.Path.{◌≡◌, refl, ap, sym, ◌∙◌}
 use mathlib.Core.Bool.{Bool, true, false, not, cond, ◌&&◌}
 use mathlib.Core.List.{List, [], ◌∷◌, ◌++◌, append_assoc}
-use mathlib.Core.Option.{none, some}
 use Prim.Native.Nat.{ℕ, zero, suc, ◌+◌, ◌*◌, ◌-◌, ◌/◌, ◌%◌, ◌≤◌, ◌<◌}
 use native.Mathlib.Omega.{arith}
 use lib.Dec.{ltb, leb, eqb}
@@ -23,7 +23,7 @@ range_digit d h = rw (le-leb 48 (48 + d) (omega arith), le-leb (48 + d) 57 (omeg
 
 read_spelt : (f n : ℕ) (r : List ℕ) → n < f → read_digits 0 (digits f n ++ r) ≡ read_digits n r
 unfolding digits read_digits
-read_spelt zero n r h = let z : ⊥ = omega arith in absurd z
+read_spelt zero n r h = absurd (omega arith)
 read_spelt (suc f) n r h = go (read_spelt f) (ltb n 10) refl
   where
     one : 10 * 0 + (48 + n - 48) ≡ n
@@ -50,7 +50,7 @@ First b n = (d : ℕ) × (b ≡ 48 + d) × (d < 10) × (1 ≤ n → 1 ≤ d)
 
 first_digit : (f n : ℕ) (r : List ℕ) → n < f → First (get_or (digits f n ++ r) 0 0) n
 unfolding digits
-first_digit zero n r h = let z : ⊥ = omega arith in absurd z
+first_digit zero n r h = absurd (omega arith)
 first_digit (suc f) n r h = go (first_digit f (n / 10) ((48 + n % 10) ∷ r)) (ltb n 10) refl
   where
     go : (n / 10 < f → First (get_or (digits f (n / 10) ++ (48 + n % 10) ∷ r) 0 0) (n / 10)) → (b : Bool) → ltb n 10 ≡ b
@@ -66,7 +66,7 @@ unfolding read_digits
 digits_end n [] h = refl
 digits_end n (b ∷ r) h = rw h
 
-pub number_read : (n : ℕ) (r : List ℕ) → digit (get_or r 0 0) ≡ false → read_number (decimal n ++ r) ≡ some (n, r)
+pub number_read : (n : ℕ) (r : List ℕ) → digit (get_or r 0 0) ≡ false → read_number (decimal n ++ r) ≡ Some (n, r)
 unfolding read_number decimal digits
 number_read zero r h = rw (read_spelt 1 0 r (omega arith), digits_end 0 r h, h)
 number_read (suc m) r h =
@@ -85,8 +85,8 @@ number_read (suc m) r h =
 
 digits_fuel : (f g n : ℕ) → n < f → n < g → digits f n ≡ digits g n
 unfolding digits
-digits_fuel zero g n h k = let z : ⊥ = omega arith in absurd z
-digits_fuel (suc f) zero n h k = let z : ⊥ = omega arith in absurd z
+digits_fuel zero g n h k = absurd (omega arith)
+digits_fuel (suc f) zero n h k = absurd (omega arith)
 digits_fuel (suc f) (suc g) n h k = go (digits_fuel f g (n / 10)) (ltb n 10) refl
   where
     go : (n / 10 < f → n / 10 < g → digits f (n / 10) ≡ digits g (n / 10)) → (b : Bool) → ltb n 10 ≡ b
@@ -134,17 +134,17 @@ digits_start : (b : ℕ) (s : List ℕ) → digit b ≡ true → read_digits 0 (
 unfolding read_digits
 digits_start b s e = let q : 10 * 0 + (b - 48) ≡ b - 48 = omega arith in rw (e, q)
 
-number_empty : read_number [] ≡ none
+number_empty : read_number [] ≡ None
 unfolding read_number
 number_empty = refl
 
-pub number_spelt : (s : List ℕ) (n : ℕ) (r : List ℕ) → read_number s ≡ some (n, r) → s ≡ decimal n ++ r
+pub number_spelt : (s : List ℕ) (n : ℕ) (r : List ℕ) → read_number s ≡ Some (n, r) → s ≡ decimal n ++ r
 unfolding read_number
 number_spelt [] n r h = cc number_empty
 number_spelt (b ∷ s) n r h = go (digit b) (eqb b 48) (digit (get_or s 0 0)) refl refl refl h
   where
     go : (x y z : Bool) → digit b ≡ x → eqb b 48 ≡ y → digit (get_or s 0 0) ≡ z
-        → cond (x && not (y && z)) (some (read_digits 0 (b ∷ s))) none ≡ some (n, r) → b ∷ s ≡ decimal n ++ r
+        → cond (x && not (y && z)) (Some (read_digits 0 (b ∷ s))) None ≡ Some (n, r) → b ∷ s ≡ decimal n ++ r
     go true true true d e f h = cc
     go true true false d e f h =
         let i : b ≡ 48 = eqb-true b 48 e in

@@ -1,11 +1,11 @@
 -- The products of a node: for which valuations they open, that none is contradictory, that each is in order, and that
 -- their atoms are the tree's. Each is an induction on the tree over the law for AND and OR. And a node's list, or none,
 -- is made of its parts' lists.
+use Rattle.std.specs.Prelude.{None, Some}
 use mathlib.Core.Path.{◌≡◌, refl, sym, ◌∙◌}
 use mathlib.Core.Bool.{Bool, true, false, not, cond, ◌&&◌, ◌||◌, and-true, or-false, not-not}
 use mathlib.Core.List.{[], ◌∷◌, ◌++◌}
 use mathlib.Core.Logic.{◌↔◌}
-use mathlib.Core.Option.{none, some}
 use Prim.Native.Nat.{◌≤◌}
 use native.Mathlib.Omega.{arith}
 use lib.ListN.{length}
@@ -147,7 +147,7 @@ products_witness t h =
     (w.0, sym (opening w.0 false t) ∙ w.1)
   where
     go : (ps : Sum) → All Consistent ps → 1 ≤ length ps → (ρ : Atom → Bool) × (opens_any ρ ps ≡ true)
-    go [] c n = let z : ⊥ = omega arith in absurd z
+    go [] c n = absurd (omega arith)
     go (p ∷ ps) (and_more c k) n = (plains p, any_own p ps c)
 
 -- where every node fits, the first one does
@@ -164,13 +164,13 @@ fits_node_lem odd (or t u) h = and_last (fits odd t) (fits odd u) (fits_node (pr
 -- the list of each node, or none, of the lists of its parts
 
 joined_fit : (g : Sum → Sum → Sum) (ps qs : Sum) (a b : Bool)
-    → cond (a && (b && fits_node (g ps qs))) (some (g ps qs)) none ≡ joined g (cond a (some ps) none) (cond b (some qs) none)
+    → cond (a && (b && fits_node (g ps qs))) (Some (g ps qs)) None ≡ joined g (cond a (Some ps) None) (cond b (Some qs) None)
 joined_fit g ps qs true true = refl
 joined_fit g ps qs true false = refl
 joined_fit g ps qs false b = refl
 
 module _ (odd : Bool) where
-  pub list_atom : (a : Atom) → list_of odd (atom a) ≡ some ((literal odd a ∷ []) ∷ [])
+  pub list_atom : (a : Atom) → list_of odd (atom a) ≡ Some ((literal odd a ∷ []) ∷ [])
   unfolding list_of fits products
   list_atom a = refl
 

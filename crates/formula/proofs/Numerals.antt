@@ -1,16 +1,17 @@
 -- Reading a number at a place of a text: the digits one by one, and the ways that a number begins.
-use mathlib.Core.Path.{◌≡◌}
-use mathlib.Core.Bool.{Bool, true, false, cond, ◌&&◌}
+use Rattle.std.specs.Prelude.{None, Some}
+use mathlib.Core.Path.{◌≡◌, refl}
+use mathlib.Core.Bool.{Bool, true, false, not, cond, ◌&&◌}
 use mathlib.Core.List.{List, [], ◌∷◌}
-use mathlib.Core.Option.{none, some}
-use Prim.Native.Nat.{ℕ, suc, ◌+◌, ◌*◌, ◌-◌, ◌≤◌, ◌<◌}
-use native.Mathlib.Numerals.{add-one}
+use Prim.Native.Nat.{ℕ, ◌+◌, ◌*◌, ◌-◌, ◌≤◌, ◌<◌}
 use native.Mathlib.Omega.{arith}
 use lib.Dec.{eqb}
 use lib.ListN.{length, get_or, drop}
-use lib.Seq.{drop-cons, get_or-drop}
+use lib.Seq.{get_or-drop}
+use Rattle.std.proofs.lemmas.List.{drop_more}
 use Rattle.base.proofs.Parts.{head_drop}
 use Rattle.formula.specs.Internal.Reader.{digit, read_digits, read_number}
+use Rattle.formula.specs.Internal.Readers.{most_number}
 use Rattle.formula.proofs.Decimals.{digits_end as digits-over}
 
 -- a number does not fall with its digits
@@ -29,26 +30,27 @@ digits_more sofar b s h = rw h
 
 module _ (s : List ℕ) (i : ℕ) where
   -- one digit further, and the end of the digits
-  pub digits_step : (sofar : ℕ) → i < length s → digit (get_or s i 0) ≡ true
-      → read_digits sofar (drop i s) ≡ read_digits (10 * sofar + (get_or s i 0 - 48)) (drop (i + 1) s)
-  digits_step sofar h e = rw (drop-cons s i 0 h, add-one i) (digits_more sofar (get_or s i 0) (drop (suc i) s) e)
+  pub digits_step : (sofar : ℕ) {more : ℕ} → i < length s → digit (get_or s i 0) ≡ true → more ≡ 10 * sofar + (get_or s i 0 - 48)
+      → read_digits sofar (drop i s) ≡ read_digits more (drop (i + 1) s)
+  digits_step sofar h e m = rw (drop_more s i 0 h, m) (digits_more sofar (get_or s i 0) (drop (i + 1) s) e)
+
+  pub digits_large : (sofar : ℕ) → i < length s → digit (get_or s i 0) ≡ true → most_number < 10 * sofar + (get_or s i 0 - 48)
+      → most_number < (read_digits sofar (drop i s)).0
+  digits_large sofar h e m =
+      let more = 10 * sofar + (get_or s i 0 - 48) in
+      rw (digits_step sofar {more = more} h e refl) (omega (arith, digits_grow more (drop (i + 1) s)))
 
   pub digits_end : (sofar : ℕ) → digit (get_or s i 0) ≡ false → read_digits sofar (drop i s) ≡ (sofar, drop i s)
   digits_end sofar e = digits-over sofar (drop i s) (rw (head_drop i s 0) e)
 
-  -- the ways that a number begins
-  pub number_none : digit (get_or s i 0) ≡ false → read_number (drop i s) ≡ none
-  unfolding read_number
-  number_none h = rw (head_drop i s 0, h)
+  -- whether a number begins here
+  abbrev begins : Bool
+  begins = digit (get_or s i 0) && not (eqb (get_or s i 0) 48 && digit (get_or s (i + 1) 0))
 
-  -- a digit, and whether it is a 0 with another digit after it
-  abbrev padded : Bool
-  padded = eqb (get_or s i 0) 48 && digit (get_or s (i + 1) 0)
-
-  pub number_padded : digit (get_or s i 0) ≡ true → padded ≡ true → read_number (drop i s) ≡ none
+  pub number_none : begins ≡ false → read_number (drop i s) ≡ None
   unfolding read_number
-  number_padded d h = rw (head_drop i s 0, get_or-drop i s 1 0, d, h)
+  number_none h = rw (head_drop i s 0, get_or-drop i s 1 0, h)
 
-  pub number_some : digit (get_or s i 0) ≡ true → padded ≡ false → read_number (drop i s) ≡ some (read_digits 0 (drop i s))
+  pub number_some : begins ≡ true → read_number (drop i s) ≡ Some (read_digits 0 (drop i s))
   unfolding read_number
-  number_some d h = rw (head_drop i s 0, get_or-drop i s 1 0, d, h)
+  number_some h = rw (head_drop i s 0, get_or-drop i s 1 0, h)

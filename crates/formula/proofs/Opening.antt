@@ -1,8 +1,8 @@
 -- The opening law of an accepted text, its bounds, and with them the laws of the compiler.
+use Rattle.std.specs.Prelude.{Some}
 use mathlib.Core.Path.{◌≡◌, refl, sym, ap, ◌∙◌}
 use mathlib.Core.Bool.{true, false}
 use mathlib.Core.List.{List, [], ◌∷◌}
-use mathlib.Core.Option.{some}
 use Prim.Native.Nat.{ℕ, ◌≤◌}
 use native.Mathlib.Omega.{arith}
 use lib.Dec.{leb, ltb}
@@ -93,7 +93,7 @@ pub accepted_where : AcceptedWhere
 unfolding opens_any
 accepted_where i s t h f ρ e = outcome_text i s h ∙ rw (list_fits t f) (go (products false t) (opening ρ false t ∙ e))
   where
-    go : (ps : Sum) → opens_any ρ ps ≡ true → judge_list (some ps) ≡ accepted ps
+    go : (ps : Sum) → opens_any ρ ps ≡ true → judge_list (Some ps) ≡ accepted ps
     go [] o = cc
     go (p ∷ ps) o = refl
 

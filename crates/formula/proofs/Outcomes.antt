@@ -1,9 +1,9 @@
 -- How the outcome of a text comes about: the text is in the grammar as some formula, whose list is judged, or as none,
 -- and then it is malformed. Each of the theorems reads this off one way and the other.
+use Rattle.std.specs.Prelude.{Option, None, Some}
 use mathlib.Core.Path.{◌≡◌, refl, sym, ap, ◌∙◌}
 use mathlib.Core.Bool.{Bool, true, false, cond}
 use mathlib.Core.List.{List, [], ◌∷◌}
-use mathlib.Core.Option.{Option, none, some}
 use Prim.Native.Nat.{ℕ, ◌≤◌, ◌<◌}
 use native.Mathlib.Omega.{arith}
 use lib.Dec.{leb}
@@ -46,12 +46,12 @@ module _ (i : Issued) (s : List ℕ) where
   judged = sized (leb (length s) most_bytes) refl
     where
       read : length s ≤ most_bytes → (o : Option (Tree ors)) → read_text (issued_to i) s ≡ o → Judged (judge o)
-      read l none e =
+      read l None e =
           none_such (λ t h.
           let r = reader_complete (issued_to i) s t (text_spells h) in
           let z : ◌≡◌ {A = ℕ} 0 1 = cc in
           omega arith)
-      read l (some t) e = formula t (spells_text t (reader_sound (issued_to i) s t e) l)
+      read l (Some t) e = formula t (spells_text t (reader_sound (issued_to i) s t e) l)
 
       sized : (b : Bool) → leb (length s) most_bytes ≡ b → Judged (cond b (judge (read_text (issued_to i) s)) malformed)
       sized true e = read (leb-true (length s) most_bytes e) (read_text (issued_to i) s) refl
@@ -60,23 +60,23 @@ module _ (i : Issued) (s : List ℕ) where
 -- what an outcome says of the list that was judged
 
 pub judged_formed : (x : Sum?) → judge_list x ≡ malformed → ⊥
-judged_formed none e = let z : ◌≡◌ {A = ℕ} 0 1 = cc in omega arith
-judged_formed (some []) e = let z : ◌≡◌ {A = ℕ} 0 1 = cc in omega arith
-judged_formed (some (p ∷ ps)) e = let z : ◌≡◌ {A = ℕ} 0 1 = cc in omega arith
+judged_formed None e = let z : ◌≡◌ {A = ℕ} 0 1 = cc in omega arith
+judged_formed (Some []) e = let z : ◌≡◌ {A = ℕ} 0 1 = cc in omega arith
+judged_formed (Some (p ∷ ps)) e = let z : ◌≡◌ {A = ℕ} 0 1 = cc in omega arith
 
 module _ (t : Tree ors) where
-  pub list_fits : fits false t ≡ true → list_of false t ≡ some (products false t)
+  pub list_fits : fits false t ≡ true → list_of false t ≡ Some (products false t)
   unfolding list_of
   list_fits h = rw h
 
-  pub list_wide : fits false t ≡ false → list_of false t ≡ none
+  pub list_wide : fits false t ≡ false → list_of false t ≡ None
   unfolding list_of
   list_wide h = rw h
 
   pub judged_wide : judge_list (list_of false t) ≡ too_wide → fits false t ≡ false
   judged_wide j = never_true (fits false t) (λ f. fitting (products false t) (rw (list_fits f) at j))
     where
-      fitting : (ps : Sum) → judge_list (some ps) ≡ too_wide → ⊥
+      fitting : (ps : Sum) → judge_list (Some ps) ≡ too_wide → ⊥
       fitting [] e = let z : ◌≡◌ {A = ℕ} 0 1 = cc in omega arith
       fitting (p ∷ ps) e = let z : ◌≡◌ {A = ℕ} 0 1 = cc in omega arith
 
@@ -86,7 +86,7 @@ module _ (t : Tree ors) where
   pub judged_unsatisfiable : judge_list (list_of false t) ≡ unsatisfiable → fits false t ≡ true → products false t ≡ []
   judged_unsatisfiable j f = go (products false t) (rw (list_fits f) at j)
     where
-      go : (ps : Sum) → judge_list (some ps) ≡ unsatisfiable → ps ≡ []
+      go : (ps : Sum) → judge_list (Some ps) ≡ unsatisfiable → ps ≡ []
       go [] e = refl
       go (p ∷ ps) e = cc
 
@@ -94,6 +94,6 @@ module _ (t : Tree ors) where
       → (ps ≡ products false t) × (1 ≤ length ps)
   judged_accepted ps j f = go (products false t) (rw (list_fits f) at j)
     where
-      go : (qs : Sum) → judge_list (some qs) ≡ accepted ps → (ps ≡ qs) × (1 ≤ length ps)
+      go : (qs : Sum) → judge_list (Some qs) ≡ accepted ps → (ps ≡ qs) × (1 ≤ length ps)
       go [] e = let z : ◌≡◌ {A = ℕ} 0 1 = cc in absurd (omega arith)
       go (q ∷ qs) e = let i : ps ≡ q ∷ qs = cc in (i, rw i (omega arith))

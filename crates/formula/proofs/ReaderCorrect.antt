@@ -1,15 +1,17 @@
 -- The reader is right. Sound: a tree that it answers is spelt in front of the text, is no deeper than allowed and has
 -- known atoms alone. Complete: a tree that is spelt in front of a text is read there, at any fuel that its length asks
 -- for; of a row of ANDs or ORs the reader comes to the place after it with the row read so far.
+use Rattle.std.specs.Prelude.{Option, None, Some}
 use mathlib.Core.Path.{◌≡◌, refl, ap, sym, ◌∙◌}
 use mathlib.Core.Bool.{Bool, true, false, cond}
 use mathlib.Core.List.{List, [], ◌∷◌, ◌++◌, append_assoc, append-nil}
-use mathlib.Core.Option.{Option, none, some}
 use Prim.Native.Nat.{ℕ, zero, suc, ◌+◌, ◌*◌, ◌≤◌}
 use native.Mathlib.Omega.{arith}
 use lib.Dec.{eqb}
 use lib.ListN.{length, get_or, drop, length-append}
 use borrow.Author.Tests.{eqb-true}
+use Rattle.std.proofs.lemmas.Bool.{cond_both}
+use Rattle.std.proofs.lemmas.List.{nil_from_length}
 use Rattle.product.specs.declared.literal.Key.TheVariants.{User, Thread, Segment, Defined}
 use Rattle.product.specs.Atom.{Atom}
 use Rattle.base.proofs.Truth.{and_both, both_and}
@@ -19,13 +21,9 @@ use Rattle.formula.specs.Text.{every_atom, most_deep}
 use Rattle.formula.specs.Internal.Reader.{digit, read_number, Found, found, next, close, whole_of, keep, named, read_atom, read_nots, read_bracket, read_ands, more_ands, read_ors, more_ors, read_text}
 use Rattle.formula.proofs.Decimals.{number_read, number_spelt}
 
-cond_cases : {A : Type 0} (P : A → Type 0) (b : Bool) {x y : A} → (b ≡ true → P x) → (b ≡ false → P y) → P (cond b x y)
-cond_cases P true f g = f refl
-cond_cases P false f g = g refl
-
 -- a text whose first byte is not 0 has that byte in front
 pub front : (s : List ℕ) (b : ℕ) → 1 ≤ b → eqb (get_or s 0 0) b ≡ true → s ≡ b ∷ drop 1 s
-front [] b p h = let e = eqb-true 0 b h in let z : ⊥ = omega arith in absurd z
+front [] b p h = let e = eqb-true 0 b h in absurd (omega arith)
 front (x ∷ s) b p h = ap (λ (y : ℕ). y ∷ s) (eqb-true x b h)
 
 pub spell_size : {l : Level} (t : Tree l) → 1 ≤ length (spell t)
@@ -46,8 +44,8 @@ longer b t u s r h e p =
 
 module _ (known : Atom → Bool) where
   pub data Sound (k : ℕ) {l : Level} (s : List ℕ) : Found l → Type 0 where
-    nothing : Sound k s none
-    reads : {t : Tree l} {r : List ℕ} → s ≡ spell t ++ r → depth t ≤ k → every_atom known t ≡ true → Sound k s (some (t, r))
+    nothing : Sound k s None
+    reads : {t : Tree l} {r : List ℕ} → s ≡ spell t ++ r → depth t ≤ k → every_atom known t ≡ true → Sound k s (Some (t, r))
 
   sound_at : {k : ℕ} {l : Level} {s u : List ℕ} {x : Found l} → u ≡ s → Sound k s x → Sound k u x
   sound_at e nothing = nothing
@@ -58,17 +56,17 @@ module _ (known : Atom → Bool) where
   sound_next g nothing f = nothing
   sound_next g (reads {t} {r} p d n) f = f t r p d n
 
-  sound_kept : (k : ℕ) (s : List ℕ) (a : Atom) (r : List ℕ) → s ≡ spell_atom a ++ r → Sound k s (keep known (some a) r)
+  sound_kept : (k : ℕ) (s : List ℕ) (a : Atom) (r : List ℕ) → s ≡ spell_atom a ++ r → Sound k s (keep known (Some a) r)
   unfolding spell depth every_atom
-  sound_kept k s a r e = cond_cases (Sound k s) (known a) (λ h. reads e (omega arith) h) (λ h. nothing)
+  sound_kept k s a r e = cond_both (known a) _ _ (Sound k s) (λ h. reads e (omega arith) h) (λ h. nothing)
 
   sound_named : (k : ℕ) (s : List ℕ) (x : Option (ℕ × List ℕ)) → read_number (drop 1 s) ≡ x → Sound k s (named known (get_or s 0 0) x)
-  sound_named k s none e = nothing
-  sound_named k s (some p) e =
-      cond_cases Kept (eqb (get_or s 0 0) 85) (λ h. sound_kept k s (User p.0) p.1 (after 85 (omega arith) h))
-      (λ _. cond_cases Kept (eqb (get_or s 0 0) 82) (λ h. sound_kept k s (Thread p.0) p.1 (after 82 (omega arith) h))
-      (λ _. cond_cases Kept (eqb (get_or s 0 0) 83) (λ h. sound_kept k s (Segment p.0) p.1 (after 83 (omega arith) h))
-      (λ _. cond_cases Kept (eqb (get_or s 0 0) 68) (λ h. sound_kept k s (Defined p.0) p.1 (after 68 (omega arith) h)) (λ _. nothing))))
+  sound_named k s None e = nothing
+  sound_named k s (Some p) e =
+      cond_both (eqb (get_or s 0 0) 85) _ _ Kept (λ h. sound_kept k s (User p.0) p.1 (after 85 (omega arith) h))
+      (λ _. cond_both (eqb (get_or s 0 0) 82) _ _ Kept (λ h. sound_kept k s (Thread p.0) p.1 (after 82 (omega arith) h))
+      (λ _. cond_both (eqb (get_or s 0 0) 83) _ _ Kept (λ h. sound_kept k s (Segment p.0) p.1 (after 83 (omega arith) h))
+      (λ _. cond_both (eqb (get_or s 0 0) 68) _ _ Kept (λ h. sound_kept k s (Defined p.0) p.1 (after 68 (omega arith) h)) (λ _. nothing))))
     where
       Kept : Option Atom → Type 0
       Kept o = Sound k s (keep known o p.1)
@@ -84,7 +82,7 @@ module _ (known : Atom → Bool) where
       → Sound (suc k) (40 ∷ s) (close t r)
   unfolding spell depth every_atom
   sound_close k s t r p d n =
-      cond_cases (Sound (suc k) (40 ∷ s)) (eqb (get_or r 0 0) 41)
+      cond_both (eqb (get_or r 0 0) 41) _ _ (Sound (suc k) (40 ∷ s))
       (λ e.
       let w = p ∙ ap (λ (u : List ℕ). spell t ++ u) (front r 41 (omega arith) e) ∙ sym (append_assoc (spell t) (41 ∷ []) (drop 1 r)) in
       reads (ap (λ (u : List ℕ). 40 ∷ u) w) (omega arith) n)
@@ -101,9 +99,9 @@ module _ (known : Atom → Bool) where
     pub sound_nots : (f k : ℕ) (s : List ℕ) → Sound k s (read_nots known f k s)
     sound_nots zero k s = nothing
     sound_nots (suc f) k s =
-        cond_cases (Sound k s) (eqb (get_or s 0 0) 33)
+        cond_both (eqb (get_or s 0 0) 33) _ _ (Sound k s)
         (λ e. sound_next _ (sound_nots f k (drop 1 s)) (sound_negate k s e))
-        (λ _. cond_cases (Sound k s) (eqb (get_or s 0 0) 40)
+        (λ _. cond_both (eqb (get_or s 0 0) 40) _ _ (Sound k s)
         (λ e. sound_at (front s 40 (omega arith) e) (sound_bracket f k (drop 1 s)))
         (λ _. sound_atom k s))
 
@@ -120,7 +118,7 @@ module _ (known : Atom → Bool) where
         → Sound k (spell t ++ s) (more_ands known f k t s)
     sound_more_ands zero k t s d n = nothing
     sound_more_ands (suc f) k t s d n =
-        cond_cases (Sound k (spell t ++ s)) (eqb (get_or s 0 0) 38)
+        cond_both (eqb (get_or s 0 0) 38) _ _ (Sound k (spell t ++ s))
         (λ e. sound_next _ (sound_nots f k (drop 1 s))
         (λ u r p b m. sound_at (longer 38 t u s r (omega arith) e p) (sound_more_ands f k (and t u) r (omega arith) (both_and n m))))
         (λ e. reads refl d n)
@@ -133,7 +131,7 @@ module _ (known : Atom → Bool) where
         → Sound k (spell t ++ s) (more_ors known f k t s)
     sound_more_ors zero k t s d n = nothing
     sound_more_ors (suc f) k t s d n =
-        cond_cases (Sound k (spell t ++ s)) (eqb (get_or s 0 0) 124)
+        cond_both (eqb (get_or s 0 0) 124) _ _ (Sound k (spell t ++ s))
         (λ e. sound_next _ (sound_ands f k (drop 1 s))
         (λ u r p b m. sound_at (longer 124 t u s r (omega arith) e p) (sound_more_ors f k (or t u) r (omega arith) (both_and n m))))
         (λ e. reads refl d n)
@@ -149,17 +147,17 @@ module _ (known : Atom → Bool) where
 
   ands_stop : (g k : ℕ) (t : Tree ands) (r : List ℕ) → 1 ≤ g → eqb (get_or r 0 0) 38 ≡ false → more_ands known g k t r ≡ found t r
   unfolding read_nots
-  ands_stop zero k t r p e = let z : ⊥ = omega arith in absurd z
+  ands_stop zero k t r p e = absurd (omega arith)
   ands_stop (suc g) k t r p e = rw e
 
   ors_stop : (g k : ℕ) (t : Tree ors) (r : List ℕ) → 1 ≤ g → eqb (get_or r 0 0) 124 ≡ false → more_ors known g k t r ≡ found t r
   unfolding read_nots
-  ors_stop zero k t r p e = let z : ⊥ = omega arith in absurd z
+  ors_stop zero k t r p e = absurd (omega arith)
   ors_stop (suc g) k t r p e = rw e
 
   complete_atom : (a : Atom) → Complete nots (atom a)
   unfolding read_nots read_atom spell depth every_atom
-  complete_atom a k zero r d n e h = let z : ⊥ = omega arith in absurd z
+  complete_atom a k zero r d n e h = absurd (omega arith)
   complete_atom (User m) k (suc f) r d n e h = rw (number_read m r e, n)
   complete_atom (Thread m) k (suc f) r d n e h = rw (number_read m r e, n)
   complete_atom (Segment m) k (suc f) r d n e h = rw (number_read m r e, n)
@@ -167,14 +165,14 @@ module _ (known : Atom → Bool) where
 
   complete_negate : (t : Tree nots) → Complete nots t → Complete nots (negate t)
   unfolding read_nots spell depth every_atom
-  complete_negate t i k zero r d n e h = let z : ⊥ = omega arith in absurd z
+  complete_negate t i k zero r d n e h = absurd (omega arith)
   complete_negate t i k (suc f) r d n e h = rw (i k f r d n e (omega arith))
 
   complete_bracket : (t : Tree ors) → Complete ors t → Complete nots (bracket t)
   unfolding read_nots spell depth every_atom
-  complete_bracket t i k zero r d n e h = let z : ⊥ = omega arith in absurd z
-  complete_bracket t i k (suc zero) r d n e h = let z : ⊥ = omega arith in absurd z
-  complete_bracket t i zero (suc (suc f)) r d n e h = let z : ⊥ = omega arith in absurd z
+  complete_bracket t i k zero r d n e h = absurd (omega arith)
+  complete_bracket t i k (suc zero) r d n e h = absurd (omega arith)
+  complete_bracket t i zero (suc (suc f)) r d n e h = absurd (omega arith)
   complete_bracket t i (suc k) (suc (suc f)) r d n e h =
       let a = append_assoc (spell t) (41 ∷ []) r in
       let c = i k f (41 ∷ r) (omega arith) n refl refl (omega (arith, ap length a)) in
@@ -182,13 +180,13 @@ module _ (known : Atom → Bool) where
 
   complete_factor : (t : Tree nots) → Complete nots t → Complete ands (factor t)
   unfolding read_nots spell depth every_atom
-  complete_factor t i k zero r d n e h = let z : ⊥ = omega arith in absurd z
+  complete_factor t i k zero r d n e h = absurd (omega arith)
   complete_factor t i k (suc f) r d n e h =
       (f, omega (arith, spell_size t, length-append (spell t) r), rw (i k f r d n e (omega arith)))
 
   complete_term : (t : Tree ands) → Complete ands t → Complete ors (term t)
   unfolding read_nots spell depth every_atom
-  complete_term t i k zero r d n e s h = let z : ⊥ = omega arith in absurd z
+  complete_term t i k zero r d n e s h = absurd (omega arith)
   complete_term t i k (suc f) r d n e s h =
       let c = i k f r d n e (omega arith) in
       (f, omega (arith, spell_size t, length-append (spell t) r), rw (c.2, ands_stop c.0 k t r (omega (arith, c.1)) s))
@@ -198,7 +196,7 @@ module _ (known : Atom → Bool) where
       → digit (get_or r 0 0) ≡ false → 4 * length (38 ∷ (spell u ++ r)) + 2 ≤ g
       → (h : ℕ) × (4 * length r + 2 ≤ h) × (more_ands known g k t (38 ∷ (spell u ++ r)) ≡ more_ands known h k (and t u) r)
   unfolding read_nots
-  ands_step t u j k zero r d n e h = let z : ⊥ = omega arith in absurd z
+  ands_step t u j k zero r d n e h = absurd (omega arith)
   ands_step t u j k (suc g) r d n e h = (g, omega (arith, length-append (spell u) r), rw (j k g r d n e (omega arith)))
 
   complete_and : (t : Tree ands) (u : Tree nots) → Complete ands t → Complete nots u → Complete ands (and t u)
@@ -215,7 +213,7 @@ module _ (known : Atom → Bool) where
       → digit (get_or r 0 0) ≡ false → eqb (get_or r 0 0) 38 ≡ false → 4 * length (124 ∷ (spell u ++ r)) + 3 ≤ g
       → (h : ℕ) × (4 * length r + 3 ≤ h) × (more_ors known g k t (124 ∷ (spell u ++ r)) ≡ more_ors known h k (or t u) r)
   unfolding read_nots
-  ors_step t u j k zero r d n e s h = let z : ⊥ = omega arith in absurd z
+  ors_step t u j k zero r d n e s h = absurd (omega arith)
   ors_step t u j k (suc g) r d n e s h =
       let c = j k g r d n e (omega arith) in
       (g, omega (arith, length-append (spell u) r), rw (c.2, ands_stop c.0 k u r (omega (arith, c.1)) s))
@@ -244,27 +242,23 @@ module _ (known : Atom → Bool) where
     pub shallow : depth t ≤ most_deep
     pub known_atoms : every_atom known t ≡ true
 
-  sound_whole : {s : List ℕ} {x : Found ors} (t : Tree ors) → Sound most_deep s x → whole_of x ≡ some t → Spells s t
+  sound_whole : {s : List ℕ} {x : Found ors} (t : Tree ors) → Sound most_deep s x → whole_of x ≡ Some t → Spells s t
   sound_whole t nothing e = let z : ◌≡◌ {A = ℕ} 0 1 = cc in absurd (omega arith)
   sound_whole {s} t (reads {t = u} {r} p d n) e = go r p (eqb (length r) 0) refl e
     where
-      none_left : (r : List ℕ) → length r ≡ 0 → r ≡ []
-      none_left [] h = refl
-      none_left (b ∷ r) h = let z : ⊥ = omega arith in absurd z
-
-      go : (r : List ℕ) → s ≡ spell u ++ r → (b : Bool) → eqb (length r) 0 ≡ b → cond b (some u) none ≡ some t → Spells s t
+      go : (r : List ℕ) → s ≡ spell u ++ r → (b : Bool) → eqb (length r) 0 ≡ b → cond b (Some u) None ≡ Some t → Spells s t
       go r p true f e =
           let i : u ≡ t = cc in
-          let q : s ≡ spell u = p ∙ rw (none_left r (eqb-true (length r) 0 f)) (append-nil (spell u)) in
+          let q : s ≡ spell u = p ∙ rw (nil_from_length r (eqb-true (length r) 0 f)) (append-nil (spell u)) in
           rw (← i) (record { spelt = q; shallow = d; known_atoms = n })
       go r p false f e = let z : ◌≡◌ {A = ℕ} 0 1 = cc in absurd (omega arith)
 
   -- the reader answers a tree exactly where the text spells it
-  pub reader_sound : (s : List ℕ) (t : Tree ors) → read_text known s ≡ some t → Spells s t
+  pub reader_sound : (s : List ℕ) (t : Tree ors) → read_text known s ≡ Some t → Spells s t
   unfolding read_text
   reader_sound s t e = sound_whole t (sound_ors (4 * length s + 3) most_deep s) e
 
-  pub reader_complete : (s : List ℕ) (t : Tree ors) → Spells s t → read_text known s ≡ some t
+  pub reader_complete : (s : List ℕ) (t : Tree ors) → Spells s t → read_text known s ≡ Some t
   unfolding read_text
   reader_complete s t h =
       let a : s ≡ spell t ++ [] = h.spelt ∙ sym (append-nil (spell t)) in

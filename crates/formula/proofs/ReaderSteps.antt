@@ -1,9 +1,9 @@
 -- The steps of the readers in code: what a reader promises follows from what its callees promise, a law for each way
 -- through a reader.
-use mathlib.Core.Path.{◌≡◌, refl, ap}
+use Rattle.std.specs.Prelude.{Option, None, Some}
+use mathlib.Core.Path.{◌≡◌, refl, sym, ap}
 use mathlib.Core.Bool.{Bool, true, false, not, cond}
 use mathlib.Core.List.{List, [], ◌∷◌}
-use mathlib.Core.Option.{Option, none, some}
 use Prim.Native.Nat.{ℕ, zero, suc, ◌+◌, ◌*◌, ◌-◌, ◌≤◌, ◌<◌}
 use native.Mathlib.Omega.{arith}
 use lib.Dec.{eqb}
@@ -17,18 +17,13 @@ use Rattle.product.specs.Sum.{Sum, Sum?, joined}
 use Rattle.product.specs.Cells.{sum_of, HoldsSum}
 use Rattle.base.proofs.Parts.{head_drop}
 use Rattle.formula.specs.declared.text.Issued.{Issued}
-use Rattle.formula.specs.declared.number.Numeral.{Numeral}
-use Rattle.formula.specs.declared.number.Numeral.TheVariants.{Missing, Value}
-use Rattle.formula.specs.declared.reader.Read.{Read}
-use Rattle.formula.specs.declared.reader.Read.TheVariants.{Malformed, Node}
-use Rattle.formula.specs.declared.reader.Lookup.{Lookup}
-use Rattle.formula.specs.declared.reader.Lookup.TheVariants.{Named, Nothing}
+use Rattle.formula.specs.declared.reader.Node.{Node}
 use Rattle.formula.specs.Tree.{Level, nots, ands, ors, Tree, atom, negate, bracket, factor, and, term, or}
 use Rattle.formula.specs.Spelling.{spell}
 use Rattle.formula.specs.Text.{issued_to}
 use Rattle.formula.specs.Nodes.{literal, join_and, list_of}
 use Rattle.formula.specs.Internal.Reader.{Found, found, next, close, key_named, keep, named, read_number, read_atom, read_nots, read_ands, more_ands, read_ors, more_ors}
-use Rattle.formula.specs.Internal.Readers.{NumberReads, no_digits, too_large, number, lookup_of, Reads, failed, parsed, AtomAt, NotAt, BracketAt, OrAt}
+use Rattle.formula.specs.Internal.Readers.{NumberReads, no_digits, too_large, number, node, Reads, failed, parsed, AtomAt, NotAt, BracketAt, OrAt}
 use Rattle.formula.proofs.ReaderCorrect.{Sound, nothing, reads, sound_nots, sound_ands, spell_size}
 use Rattle.formula.proofs.Nodes.{list_atom, list_negate, list_bracket, list_factor, list_and, list_term, list_or}
 
@@ -45,8 +40,8 @@ list_at e w = rw e w
 
 -- what was read is not empty, so what is left of a text is shorter
 abbrev pub Shorter : {l : Level} → List ℕ → Found l → Type 0
-Shorter s none = Unit {0}
-Shorter s (some p) = length p.1 < length s
+Shorter s None = Unit {0}
+Shorter s (Some p) = length p.1 < length s
 
 pub shorter : {known : Atom → Bool} {k : ℕ} {l : Level} {s : List ℕ} {x : Found l} → Sound known k s x → Shorter s x
 shorter nothing = tt
@@ -54,77 +49,69 @@ shorter (reads {t} {r} p d n) = omega (arith, ap length p, length-append (spell 
 
 -- what was read
 
--- by the answer's variant
-pub reads_as : {odd : Bool} {s : List ℕ} {l : Level} {rows : List (List ℕ)} {r q : Read} {x : Found l} → r ≡ q → Reads odd s rows r x → Reads odd s rows q x
-reads_as e p = rw e at p
-
 module _ (odd : Bool) (s : List ℕ) where
-  next_failed : {l m : Level} {rows new : List (List ℕ)} {x : Found l} (g : Tree l → List ℕ → Found m) → Reads odd s rows Malformed x → Reads odd s new Malformed (next x g)
+  next_failed : {l m : Level} {rows new : List (List ℕ)} {x : Found l} (g : Tree l → List ℕ → Found m) → Reads odd s rows None x → Reads odd s new None (next x g)
   next_failed g failed = failed
 
-  negated : {r : Read} {rows : List (List ℕ)} {x : Found nots} → Reads (not odd) s rows r x → Reads odd s rows r (next x (λ t u. found (negate t) u))
+  negated : {r : Option Node} {rows : List (List ℕ)} {x : Found nots} → Reads (not odd) s rows r x → Reads odd s rows r (next x (λ t u. found (negate t) u))
   negated failed = failed
   negated (parsed {t} w h) = parsed w (list_at (list_negate odd t) h)
 
-  closed : {a n : ℕ} {rows : List (List ℕ)} {x : Found ors} → get_or s a 0 ≡ 41 → Reads odd s rows (Node a n) x → Reads odd s rows (Node (a + 1) n) (next x close)
+  closed : {a n : ℕ} {rows : List (List ℕ)} {x : Found ors} → get_or s a 0 ≡ 41 → Reads odd s rows (node a n) x → Reads odd s rows (node (a + 1) n) (next x close)
   closed {a} b (parsed {t} u h) = rw (u, head_drop a s 0, b) (parsed {t = bracket t} (drop-drop 1 a s) (list_at (list_bracket odd t) h))
 
-  unclosed : {a n : ℕ} {rows new : List (List ℕ)} {x : Found ors} → (get_or s a 0 ≡ 41 → ⊥) → Reads odd s rows (Node a n) x → Reads odd s new Malformed (next x close)
+  unclosed : {a n : ℕ} {rows new : List (List ℕ)} {x : Found ors} → (get_or s a 0 ≡ 41 → ⊥) → Reads odd s rows (node a n) x → Reads odd s new None (next x close)
   unclosed {a} b (parsed u h) = rw (u, head_drop a s 0, ne_eqb (get_or s a 0) 41 b) failed
 
-  further : {l : Level} {a n : ℕ} {rows : List (List ℕ)} {x : Found l} (at : ℕ) → Reads odd s rows (Node a n) x → Shorter (drop at s) x → length s - a < length s - at
+  further : {l : Level} {a n : ℕ} {rows : List (List ℕ)} {x : Found l} (at : ℕ) → Reads odd s rows (node a n) x → Shorter (drop at s) x → length s - a < length s - at
   further {a = a} at (parsed w h) g = omega (arith, ap length w, g, length-drop at s, length-drop a s)
 
 -- NOT
 
-module _ (i : Issued) (s : List ℕ) (level : ℕ) (odd : Bool) (at : ℕ) {r : Read} {rows : List (List ℕ)} where
+module _ (i : Issued) (s : List ℕ) (level : ℕ) (odd : Bool) (at : ℕ) {r : Option Node} {rows : List (List ℕ)} where
   pub not_negated : get_or s at 0 ≡ 33 → NotAt i s level (not odd) r rows (at + 1) → NotAt i s level odd r rows at
   unfolding read_nots
-  not_negated b p zero h = let z : ⊥ = omega arith in absurd z
+  not_negated b p zero h = absurd (omega arith)
   not_negated b p (suc f) h =
       let j = inside s at 33 (omega arith) b in
       rw (head_drop at s 0, b, drop-drop 1 at s) (negated odd s (p f (omega arith)))
 
   pub not_bracketed : get_or s at 0 ≡ 40 → BracketAt i s level odd r rows (at + 1) → NotAt i s level odd r rows at
   unfolding read_nots
-  not_bracketed b p zero h = let z : ⊥ = omega arith in absurd z
+  not_bracketed b p zero h = absurd (omega arith)
   not_bracketed b p (suc f) h =
       let j = inside s at 40 (omega arith) b in
       rw (head_drop at s 0, b, drop-drop 1 at s) (p f (omega arith))
 
   pub not_atom : (get_or s at 0 ≡ 33 → ⊥) → (get_or s at 0 ≡ 40 → ⊥) → AtomAt i s odd r rows at → NotAt i s level odd r rows at
   unfolding read_nots
-  not_atom b d p zero h = let z : ⊥ = omega arith in absurd z
+  not_atom b d p zero h = absurd (omega arith)
   not_atom b d p (suc f) h = rw (head_drop at s 0, ne_eqb (get_or s at 0) 33 b, ne_eqb (get_or s at 0) 40 d) p
 
 -- Brackets: `level` may still be opened.
 
-less_one : (k : ℕ) → suc k - 1 ≡ k
-less_one k = omega arith
-
 module _ (i : Issued) (s : List ℕ) (odd : Bool) (at : ℕ) {new : List (List ℕ)} where
-  pub bracket_deep : (level : ℕ) → level ≡ 0 → BracketAt i s level odd Malformed new at
+  pub bracket_deep : (level : ℕ) → level ≡ 0 → BracketAt i s level odd None new at
   unfolding read_nots
-  bracket_deep level e zero h = let z : ⊥ = omega arith in absurd z
+  bracket_deep level e zero h = absurd (omega arith)
   bracket_deep level e (suc f) h = rw e failed
 
-  -- what was read inside, and what follows it
-  inner : (level : ℕ) {r q u : Read} {rows : List (List ℕ)} → (level ≡ 0 → ⊥) → r ≡ q → OrAt i s (level - 1) odd r rows at
-      → ((x : Found ors) → Reads odd s rows q x → Reads odd s new u (next x close)) → BracketAt i s level odd u new at
-  unfolding read_nots
-  inner level e d p g zero h = let z : ⊥ = omega arith in absurd z
-  inner zero e d p g (suc f) h = absurd (e refl)
-  inner (suc k) {r} {rows = rows} e d p g (suc f) h = let o : OrAt i s k odd r rows at = rw (less_one k) at p in g _ (reads_as d (o f (omega arith)))
+  module _ {level below : ℕ} (e : level ≡ suc below) where
+    -- what was read inside, and what follows it
+    inner : {q u : Option Node} {rows : List (List ℕ)} → OrAt i s below odd q rows at
+        → ((x : Found ors) → Reads odd s rows q x → Reads odd s new u (next x close)) → BracketAt i s level odd u new at
+    unfolding read_nots
+    inner p g zero h = absurd (omega arith)
+    inner p g (suc f) h = rw e (g _ (p f (omega arith)))
 
-  pub bracket_failed : (level : ℕ) {r : Read} {rows : List (List ℕ)} → (level ≡ 0 → ⊥) → r ≡ Malformed → OrAt i s (level - 1) odd r rows at → BracketAt i s level odd Malformed new at
-  bracket_failed level e d p = inner level e d p (λ x q. next_failed odd s close q)
+    pub bracket_failed : {rows : List (List ℕ)} → OrAt i s below odd None rows at → BracketAt i s level odd None new at
+    bracket_failed p = inner p (λ x q. next_failed odd s close q)
 
-  module _ (level : ℕ) {r : Read} {a n : ℕ} (e : level ≡ 0 → ⊥) (d : r ≡ Node a n) where
-    pub bracket_unclosed : {rows : List (List ℕ)} → OrAt i s (level - 1) odd r rows at → (get_or s a 0 ≡ 41 → ⊥) → BracketAt i s level odd Malformed new at
-    bracket_unclosed p b = inner level e d p (λ x q. unclosed odd s b q)
+    pub bracket_unclosed : {a n : ℕ} {rows : List (List ℕ)} → OrAt i s below odd (node a n) rows at → (get_or s a 0 ≡ 41 → ⊥) → BracketAt i s level odd None new at
+    bracket_unclosed p b = inner p (λ x q. unclosed odd s b q)
 
-    pub bracket_closed : OrAt i s (level - 1) odd r new at → get_or s a 0 ≡ 41 → BracketAt i s level odd (Node (a + 1) n) new at
-    bracket_closed p b = inner level e d p (λ x q. closed odd s b q)
+    pub bracket_closed : {a n : ℕ} → OrAt i s below odd (node a n) new at → get_or s a 0 ≡ 41 → BracketAt i s level odd (node (a + 1) n) new at
+    bracket_closed p b = inner p (λ x q. closed odd s b q)
 
 -- AND and OR: parts joined by a byte, read one after the other. Both readers are one chain, at different levels.
 
@@ -142,59 +129,80 @@ pub record Chain (odd : Bool) (part whole : Level) (cost byte : ℕ) (join : Sum
   pub parts_shorter : (f : ℕ) (s : List ℕ) → Shorter s (parts f s)
 
 module _ {odd : Bool} {part whole : Level} {cost byte : ℕ} {join : Sum → Sum → Sum} (c : Chain odd part whole cost byte join) (s : List ℕ) where
-  abbrev pub PartAt : Read → List (List ℕ) → ℕ → Type 0
+  abbrev pub PartAt : Option Node → List (List ℕ) → ℕ → Type 0
   PartAt r rows at = (f : ℕ) → 4 * (length s - at) + cost ≤ f → Reads odd s rows r (c.parts f (drop at s))
 
-  abbrev pub WholeAt : Read → List (List ℕ) → ℕ → Type 0
+  abbrev pub WholeAt : Option Node → List (List ℕ) → ℕ → Type 0
   WholeAt r rows at = (f : ℕ) → 4 * (length s - at) + (cost + 1) ≤ f → Reads odd s rows r (c.wholes f (drop at s))
 
-  abbrev pub MoreAt : Read → List (List ℕ) → ℕ → ℕ → List (List ℕ) → Type 0
+  abbrev pub MoreAt : Option Node → List (List ℕ) → ℕ → ℕ → List (List ℕ) → Type 0
   MoreAt r rows at n old = (t : Tree whole) → HoldsSum (list_of odd t) old n → (f : ℕ) → 4 * (length s - at) + (cost + 1) ≤ f → Reads odd s rows r (c.more f t (drop at s))
 
-  pub chain_further : (at : ℕ) {r : Read} {a n : ℕ} {rows : List (List ℕ)} → r ≡ Node a n → PartAt r rows at → length s - a < length s - at
-  chain_further at e p = further odd s at (reads_as e (p (4 * (length s - at) + cost) (omega arith))) (c.parts_shorter (4 * (length s - at) + cost) (drop at s))
+  pub chain_further : (at : ℕ) {a n : ℕ} {rows : List (List ℕ)} → PartAt (node a n) rows at → length s - a < length s - at
+  chain_further at p = further odd s at (p (4 * (length s - at) + cost) (omega arith)) (c.parts_shorter (4 * (length s - at) + cost) (drop at s))
 
-  pub chain_failed : (at : ℕ) {r : Read} {rows new : List (List ℕ)} → r ≡ Malformed → PartAt r rows at → WholeAt Malformed new at
-  chain_failed at e p zero h = let z : ⊥ = omega arith in absurd z
-  chain_failed at e p (suc f) h = rw (c.wholes_suc f (drop at s)) (next_failed odd s _ (reads_as e (p f (omega arith))))
+  -- a first part that fails
+  pub chain_failed : (at : ℕ) {rows new : List (List ℕ)} → PartAt None rows at → WholeAt None new at
+  chain_failed at p zero h = absurd (omega arith)
+  chain_failed at p (suc f) h = rw (c.wholes_suc f (drop at s)) (next_failed odd s _ (p f (omega arith)))
+
+  -- parts that were read and joined: what is promised of what follows them makes the promise of the whole
+  pub record Joined (at : ℕ) (left : Node) (rows : List (List ℕ)) : Type 0 where
+    pub shorter : length s - left.end < length s - at
+    pub rest : {r : Option Node} {new : List (List ℕ)} → MoreAt r new left.end left.count rows → WholeAt r new at
 
   -- the first part, and what follows it
-  begun : {a n : ℕ} {r : Read} {rows new : List (List ℕ)} {x : Found part} (f : ℕ) → 4 * (length s - a) + (cost + 1) ≤ f → Reads odd s rows (Node a n) x → MoreAt r new a n rows
+  begun : {a n : ℕ} {r : Option Node} {rows new : List (List ℕ)} {x : Found part} (f : ℕ) → 4 * (length s - a) + (cost + 1) ≤ f → Reads odd s rows (node a n) x → MoreAt r new a n rows
       → Reads odd s new r (next x (λ t u. c.more f (c.one t) u))
   begun f h (parsed {t} w k) m = rw w (m (c.one t) (list_at (c.list_one t) k) f h)
 
-  pub chain_begun : (at : ℕ) {r q : Read} {a n : ℕ} {rows new : List (List ℕ)} → q ≡ Node a n → PartAt q rows at → MoreAt r new a n rows → WholeAt r new at
-  chain_begun at e p m zero h = let z : ⊥ = omega arith in absurd z
-  chain_begun at e p m (suc f) h =
-      let g = chain_further at e p in
-      rw (c.wholes_suc f (drop at s)) (begun f (omega arith) (reads_as e (p f (omega arith))) m)
+  pub chain_begun : (at : ℕ) {left : Node} {rows : List (List ℕ)} → PartAt (Some left) rows at → Joined at left rows
+  chain_begun at {left} {rows} p = record { shorter = chain_further at p; rest = λ m. go m }
+    where
+      go : {r : Option Node} {new : List (List ℕ)} → MoreAt r new left.end left.count rows → WholeAt r new at
+      go m zero h = absurd (omega arith)
+      go m (suc f) h =
+          let g = chain_further at p in
+          rw (c.wholes_suc f (drop at s)) (begun f (omega arith) (p f (omega arith)) m)
 
-  -- no further part
-  pub chain_stop : {at n : ℕ} {rows : List (List ℕ)} → (get_or s at 0 ≡ byte → ⊥) → MoreAt (Node at n) rows at n rows
-  chain_stop b t k zero h = let z : ⊥ = omega arith in absurd z
-  chain_stop {at} b t k (suc f) h = rw (c.more_suc f t (drop at s), head_drop at s 0, ne_eqb (get_or s at 0) byte b) (parsed refl k)
+  module _ {at : ℕ} {left : Node} {rows : List (List ℕ)} (j : Joined at left rows) where
+    -- no further part
+    pub chain_ended : (get_or s left.end 0 ≡ byte → ⊥) → WholeAt (Some left) rows at
+    chain_ended b = j.rest (λ t k f h. go t k f h)
+      where
+        go : MoreAt (Some left) rows left.end left.count rows
+        go t k zero h = absurd (omega arith)
+        go t k (suc f) h = rw (c.more_suc f t (drop left.end s), head_drop left.end s 0, ne_eqb (get_or s left.end 0) byte b) (parsed refl k)
 
-  -- a further part that fails
-  pub chain_broken : (at : ℕ) {n : ℕ} {r : Read} {old right new : List (List ℕ)} → get_or s at 0 ≡ byte → r ≡ Malformed → PartAt r right (at + 1) → MoreAt Malformed new at n old
-  chain_broken at b e p t k zero h = let z : ⊥ = omega arith in absurd z
-  chain_broken at b e p t k (suc f) h =
-      let i = inside s at byte c.printable b in
-      rw (c.more_suc f t (drop at s), head_drop at s 0, eq-eqb (get_or s at 0) byte b, drop-drop 1 at s) (next_failed odd s _ (reads_as e (p f (omega arith))))
+    module _ (b : get_or s left.end 0 ≡ byte) {right : List (List ℕ)} where
+      -- a further part that fails
+      pub chain_broken : {new : List (List ℕ)} → PartAt None right (left.end + 1) → WholeAt None new at
+      chain_broken {new} p = j.rest (λ t k f h. go t k f h)
+        where
+          go : MoreAt None new left.end left.count rows
+          go t k zero h = absurd (omega arith)
+          go t k (suc f) h =
+              let i = inside s left.end byte c.printable b in
+              rw (c.more_suc f t (drop left.end s), head_drop left.end s 0, eq-eqb (get_or s left.end 0) byte b, drop-drop 1 left.end s) (next_failed odd s _ (p f (omega arith)))
 
-  -- a further part, joined to what stands to its left
-  grown : {a n m j : ℕ} {r : Read} {old right both new : List (List ℕ)} {x : Found part} (t : Tree whole) (f : ℕ) → 4 * (length s - a) + (cost + 1) ≤ f → HoldsSum (list_of odd t) old n → Reads odd s right (Node a m) x
-      → HoldsSum (joined join (sum_of n old) (sum_of m right)) both j → MoreAt r new a j both → Reads odd s new r (next x (λ u v. c.more f (c.two t u) v))
-  grown {j = j} {both = both} t f h k (parsed {t = u} d v) w m =
-      let z : HoldsSum (joined join (list_of odd t) (list_of odd u)) both j = rw (k.reads, v.reads) at w in
-      rw d (m (c.two t u) (list_at (c.list_two t u) z) f h)
+      -- a further part, joined to what stands to its left
+      grown : {a n m : ℕ} {r : Option Node} {both new : List (List ℕ)} {x : Found part} (t : Tree whole) (f : ℕ) → 4 * (length s - a) + (cost + 1) ≤ f → HoldsSum (list_of odd t) rows left.count
+          → Reads odd s right (node a m) x → HoldsSum (joined join (sum_of left.count rows) (sum_of m right)) both n → MoreAt r new a n both → Reads odd s new r (next x (λ u v. c.more f (c.two t u) v))
+      grown {n = n} {both = both} t f h k (parsed {t = u} d v) w m =
+          let z : HoldsSum (joined join (list_of odd t) (list_of odd u)) both n = rw (k.reads, v.reads) at w in
+          rw d (m (c.two t u) (list_at (c.list_two t u) z) f h)
 
-  pub chain_grown : (at : ℕ) {a n m j : ℕ} {r q : Read} {old right both new : List (List ℕ)} → get_or s at 0 ≡ byte → q ≡ Node a m → PartAt q right (at + 1)
-      → HoldsSum (joined join (sum_of n old) (sum_of m right)) both j → MoreAt r new a j both → MoreAt r new at n old
-  chain_grown at b e p w m t k zero h = let z : ⊥ = omega arith in absurd z
-  chain_grown at b e p w m t k (suc f) h =
-      let i = inside s at byte c.printable b in
-      let g = chain_further (at + 1) e p in
-      rw (c.more_suc f t (drop at s), head_drop at s 0, eq-eqb (get_or s at 0) byte b, drop-drop 1 at s) (grown t f (omega arith) k (reads_as e (p f (omega arith))) w m)
+      pub chain_grown : {one longer : Node} {both : List (List ℕ)} → PartAt (Some one) right (left.end + 1) → longer.end ≡ one.end
+          → HoldsSum (joined join (sum_of left.count rows) (sum_of one.count right)) both longer.count → Joined at longer both
+      chain_grown {one} {longer} {both} p e w = record { shorter = omega (arith, e, j.shorter, chain_further (left.end + 1) p); rest = λ m. j.rest (λ t k f h. go m t k f h) }
+        where
+          go : {r : Option Node} {new : List (List ℕ)} → MoreAt r new longer.end longer.count both → MoreAt r new left.end left.count rows
+          go m t k zero h = absurd (omega arith)
+          go {r} {new} m t k (suc f) h =
+              let i = inside s left.end byte c.printable b in
+              let g = chain_further (left.end + 1) p in
+              let n : MoreAt r new one.end longer.count both = rw e at m in
+              rw (c.more_suc f t (drop left.end s), head_drop left.end s 0, eq-eqb (get_or s left.end 0) byte b, drop-drop 1 left.end s) (grown t f (omega arith) k (p f (omega arith)) w n)
 
 -- the chains of AND and of OR
 
@@ -252,21 +260,15 @@ module _ (i : Issued) (level : ℕ) (odd : Bool) where
 
 -- keys
 
-same_key_lem : (o p : Option Atom) → lookup_of o ≡ lookup_of p → o ≡ p
-same_key_lem none none e = refl
-same_key_lem none (some a) e = cc
-same_key_lem (some a) none e = cc
-same_key_lem (some a) (some b) e = let j : a ≡ b = cc in ap some j
-
 module _ (i : Issued) where
-  large : (k : Atom) (r : List ℕ) → 65535 < number_of k → keep (issued_to i) (some k) r ≡ none
+  large : (k : Atom) (r : List ℕ) → 65535 < number_of k → keep (issued_to i) (Some k) r ≡ None
   unfolding issued_to
   large k r h = rw (le-ltb (number_of k) 65536 (omega arith))
 
-  large_named : (b n : ℕ) (r : List ℕ) → 65535 < n → keep (issued_to i) (key_named b n) r ≡ none
+  large_named : (b n : ℕ) (r : List ℕ) → 65535 < n → keep (issued_to i) (key_named b n) r ≡ None
   large_named b n r h = go (eqb b 85) (eqb b 82) (eqb b 83) (eqb b 68)
     where
-      go : (u v w x : Bool) → keep (issued_to i) (cond u (some (User n)) (cond v (some (Thread n)) (cond w (some (Segment n)) (cond x (some (Defined n)) none)))) r ≡ none
+      go : (u v w x : Bool) → keep (issued_to i) (cond u (Some (User n)) (cond v (Some (Thread n)) (cond w (Some (Segment n)) (cond x (Some (Defined n)) None)))) r ≡ None
       go true v w x = large (User n) r h
       go false true w x = large (Thread n) r h
       go false false true x = large (Segment n) r h
@@ -278,37 +280,34 @@ module _ (i : Issued) where
   atom_at s at = rw (head_drop at s 0, drop-drop 1 at s)
 
   module _ (s : List ℕ) (odd : Bool) (at : ℕ) {rows : List (List ℕ)} where
-    pub atom_past : length s ≤ at → AtomAt i s odd Malformed rows at
+    pub atom_past : length s ≤ at → AtomAt i s odd None rows at
     unfolding read_atom read_number
     atom_past h = rw (drop_of_length-le s h) failed
 
-    no_key_lem : {x : Option (ℕ × List ℕ)} (b : ℕ) → NumberReads s Missing x → Reads odd s rows Malformed (named (issued_to i) b x)
+    no_key_lem : {x : Option (ℕ × List ℕ)} (b : ℕ) → NumberReads s None x → Reads odd s rows None (named (issued_to i) b x)
     no_key_lem b no_digits = failed
     no_key_lem b (too_large {p} h) = rw (large_named b p.0 p.1 h) failed
 
-    pub atom_unread : {m : Numeral} → m ≡ Missing → NumberReads s m (read_number (drop (at + 1) s)) → AtomAt i s odd Malformed rows at
-    atom_unread e p =
-        let q : NumberReads s Missing (read_number (drop (at + 1) s)) = rw e at p in
-        rw (← atom_at s at) (no_key_lem (get_or s at 0) q)
+    pub atom_unread : NumberReads s None (read_number (drop (at + 1) s)) → AtomAt i s odd None rows at
+    atom_unread p = rw (← atom_at s at) (no_key_lem (get_or s at 0) p)
 
-    with_key : {v a : ℕ} {r : Read} {x : Option (ℕ × List ℕ)} (b : ℕ) (o : Option Atom) → NumberReads s (Value v a) x → key_named b v ≡ o
+    with_key : {v a : ℕ} {r : Option Node} {x : Option (ℕ × List ℕ)} (b : ℕ) {o : Option Atom} → NumberReads s (Some (v, a)) x → key_named b v ≡ o
         → Reads odd s rows r (keep (issued_to i) o (drop a s)) → Reads odd s rows r (named (issued_to i) b x)
-    with_key b o number q k = rw q k
+    with_key b number q k = rw q k
 
-    module _ {m : Numeral} {v a : ℕ} (e : m ≡ Value v a) (p : NumberReads s m (read_number (drop (at + 1) s))) {l : Lookup} (n : l ≡ lookup_of (key_named (get_or s at 0) v)) where
-      atom_keep : (o : Option Atom) {r : Read} → l ≡ lookup_of o → Reads odd s rows r (keep (issued_to i) o (drop a s)) → AtomAt i s odd r rows at
-      atom_keep o g k =
-          let q : NumberReads s (Value v a) (read_number (drop (at + 1) s)) = rw e at p in
-          rw (← atom_at s at) (with_key (get_or s at 0) o q (same_key_lem _ o (cc)) k)
+    module _ {b v a : ℕ} (l : b ≡ get_or s at 0) (p : NumberReads s (Some (v, a)) (read_number (drop (at + 1) s))) where
+      atom_keep : {o : Option Atom} {r : Option Node} → o ≡ key_named b v → Reads odd s rows r (keep (issued_to i) o (drop a s)) → AtomAt i s odd r rows at
+      atom_keep n k = rw (← atom_at s at, ← l) (with_key b p (sym n) k)
 
-      pub atom_unnamed : l ≡ Nothing → AtomAt i s odd Malformed rows at
-      atom_unnamed g = atom_keep none g failed
+      pub atom_unnamed : None ≡ key_named b v → AtomAt i s odd None rows at
+      atom_unnamed n = atom_keep n failed
 
-      pub atom_unknown : (k : Atom) → l ≡ Named k → issued_to i k ≡ false → AtomAt i s odd Malformed rows at
-      atom_unknown k g h = atom_keep (some k) g (rw h failed)
+      module _ (k : Atom) (n : Some k ≡ key_named b v) where
+        pub atom_unknown : issued_to i k ≡ false → AtomAt i s odd None rows at
+        atom_unknown h = atom_keep n (rw h failed)
 
-      pub atom_known : (k : Atom) {j : ℕ} → l ≡ Named k → issued_to i k ≡ true → HoldsSum (list_of odd (atom k)) rows j → AtomAt i s odd (Node a j) rows at
-      atom_known k g h w = atom_keep (some k) g (rw h (parsed refl w))
+        pub atom_known : {j : ℕ} → issued_to i k ≡ true → HoldsSum (list_of odd (atom k)) rows j → AtomAt i s odd (node a j) rows at
+        atom_known h w = atom_keep n (rw h (parsed refl w))
 
-pub atom_list : (odd : Bool) (k : Atom) {l : Literal} {rows : List (List ℕ)} {n : ℕ} → l ≡ literal odd k → HoldsSum (some ((l ∷ []) ∷ [])) rows n → HoldsSum (list_of odd (atom k)) rows n
+pub atom_list : (odd : Bool) (k : Atom) {l : Literal} {rows : List (List ℕ)} {n : ℕ} → l ≡ literal odd k → HoldsSum (Some ((l ∷ []) ∷ [])) rows n → HoldsSum (list_of odd (atom k)) rows n
 atom_list odd k e w = rw (list_atom odd k, ← e) w

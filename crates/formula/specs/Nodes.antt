@@ -1,7 +1,6 @@
 -- The list of products of each node of a formula, and whether every node fits. Document 01, 'Lock text'. Assumes
 -- nothing.
-use Rattle.std.specs.Prelude.{Bool, true, false, not, cond, ◌&&◌, [], ◌∷◌}
-use Rattle.std.proofs.Math.Option.{none, some}
+use Rattle.std.specs.Prelude.{Bool, true, false, not, cond, ◌&&◌, [], ◌∷◌, None, Some}
 use Rattle.product.specs.declared.literal.Literal.{Literal}
 use Rattle.product.specs.declared.literal.Literal.TheVariants.{Plain, Barred}
 use Rattle.product.specs.Atom.{Atom}
@@ -45,4 +44,4 @@ fits odd (or t u) = fits odd t && (fits odd u && fits_node (products odd (or t u
 
 -- the list, or none where some node does not fit
 unfoldable pub list_of : Bool → {l : Level} → Tree l → Sum?
-list_of odd t = cond (fits odd t) (some (products odd t)) none
+list_of odd t = cond (fits odd t) (Some (products odd t)) None

@@ -1,66 +1,47 @@
 // Decimal numbers without leading zeros, at a place of a text.
-ghost use Rattle.std.specs.Prelude.{◌≡◌, ◌≤◌, get_or, drop, length};
-ghost use Rattle.std.proofs.Math.Option.{some};
+ghost use Rattle.std.specs.Prelude.{◌≡◌, ◌≤◌, not, ◌&&◌, eqb, get_or, drop, length, Some};
+ghost use Rattle.formula.specs.Spelling.{digit_zero};
 ghost use Rattle.formula.specs.Internal.Reader.{digit, read_digits, read_number};
 ghost use Rattle.formula.specs.Internal.Readers.{NumberReads};
-
-// A number of 16 bits and the place after it, or none.
-#[derive(Clone, Copy)]
-pub(crate) enum Numeral {
-    Missing,
-    Value(u16, usize),
-}
-
-// The largest number of 16 bits.
-const MOST_NUMBER: u32 = 65535;
 
 // The byte at a place, 0 beyond the text.
 pub(crate) fn byte_at(text: &[u8], at: usize) -> u8
     ensures { result ≡ get_or text.now at 0 }
 {
-    if at < text.len() { text[at] } else { 0 }
+    text.get(at).copied().unwrap_or(0)
 }
 
-fn is_digit(b: u8) -> bool
-    ensures { result ≡ digit b }
-{
-    (b'0' <= b) & (b <= b'9')
-}
-
-// The digits from a place on.
-fn read_digits(text: &[u8], at: usize) -> Numeral
-    ensures { NumberReads text.now result (some (read_digits 0 (drop at text.now))) }
-{
-    let mut value: u32 = 0;
-    let mut i = at;
-    while i < text.len() {
-        let b = text[i];
-        if !is_digit(b) {
-            return Numeral::Value(value as u16, i);
-        }
-        let d = (b - b'0') as u32;
-        let next = 10 * value + d;
-        if MOST_NUMBER < next {
-            return Numeral::Missing;
-        }
-        value = next;
-        i += 1;
-    }
-    Numeral::Value(value as u16, i)
-}
-
-// The number from a place on: a digit, and no other after a 0.
-pub(crate) fn read_number(text: &[u8], at: usize) -> Numeral
+// The number from a place on and the place after it.
+pub(crate) fn read_number(text: &[u8], at: usize) -> Option<(u16, usize)>
     requires { at ≤ length text.now }
     ensures { NumberReads text.now result (read_number (drop at text.now)) }
 {
-    let first = byte_at(text, at);
-    let second = byte_at(text, at + 1);
-    if !is_digit(first) {
-        return Numeral::Missing;
+    if begins_number(byte_at(text, at), byte_at(text, at + 1)) {
+        read_digits(text, at)
+    } else {
+        None
     }
-    if (first == b'0') & is_digit(second) {
-        return Numeral::Missing;
+}
+
+// A digit, and no other after a 0.
+fn begins_number(first: u8, second: u8) -> bool
+    ensures { result ≡ digit first && not (eqb first digit_zero && digit second) }
+{
+    first.is_ascii_digit() && !(first == b'0' && second.is_ascii_digit())
+}
+
+// The digits from a place on, where they make a number of 16 bits.
+fn read_digits(text: &[u8], at: usize) -> Option<(u16, usize)>
+    requires { at ≤ length text.now }
+    ensures { NumberReads text.now result (Some (read_digits 0 (drop at text.now))) }
+{
+    let mut value: u16 = 0;
+    for i in at..text.len() {
+        let b = text[i];
+        if !b.is_ascii_digit() {
+            return Some((value, i));
+        }
+        value = value.checked_mul(10)?.checked_add(u16::from(b - b'0'))?;
     }
-    read_digits(text, at)
+    Some((value, text.len()))
 }

@@ -1,184 +1,116 @@
-// The readers of formula texts: OR, AND, NOT and bracket call each other, and each leaves the node's list of products
-// in rows that the caller lends. `odd` says that the node stands under an odd number of NOTs; `level` is how many
-// brackets may still be opened.
+// The readers of formula texts: OR, AND, NOT and bracket call each other, as document 01 asks. Those of OR and of AND
+// stay two: one for both would take the byte, the join and the next reader, a closure inside the cycle of readers. Each
+// leaves the node's list of products in rows that the caller lends.
 ghost use Rattle.std.specs.Prelude.{◌≡◌};
 ghost use Rattle.product.specs.Sum.{joined};
 ghost use Rattle.product.specs.Cells.{sum_of, HoldsSum};
-ghost use Rattle.formula.specs.Text.{issued_to};
 ghost use Rattle.formula.specs.Nodes.{literal, join_and};
 ghost use Rattle.formula.specs.Internal.Reader.{key_named};
-ghost use Rattle.formula.specs.Internal.Readers.{below, lookup_of};
-ghost use Rattle.formula.specs.Internal.Readers.{AtomAt, NotAt, BracketAt, AndAt, OrAt, MoreAnd, MoreOr};
+ghost use Rattle.formula.specs.Internal.Readers.{AtomAt, NotAt, BracketAt, AndAt, OrAt};
 
-use crate::number::{Numeral, byte_at, read_number};
+use crate::number::{byte_at, read_number};
 use crate::text::Issued;
 use product::literal::{Key, Literal};
 use product::sum;
 use product::sum::Rows;
 
-// Document 01: node. A formula that was read, by the place after it and how many products its list has; or nothing.
+// Document 01: node. A formula that was read: the place after it, and how many products its list has.
 #[derive(Clone, Copy)]
-pub(crate) enum Read {
-    Malformed,
-    Node(usize, usize),
+pub(crate) struct Node {
+    pub(crate) end: usize,
+    pub(crate) count: usize,
 }
 
-// A whole formula: parts joined by `|`.
-#[cycle(readers)]
-pub(crate) fn read_or(
-    text: &[u8],
-    at: usize,
-    level: usize,
-    odd: bool,
-    issued: Issued,
-    rows: &mut Rows,
-) -> Read
-    ensures { OrAt issued text.now level odd result rows.new at }
-{
-    let first = read_and(text, at, level, odd, issued, rows);
-    let Read::Node(next, count) = first else {
-        return Read::Malformed;
-    };
-    more_or(text, next, count, level, odd, issued, rows)
+// What a reader reads: a text under some counts of keys, where so many brackets may still be opened, and whether under
+// an odd number of NOTs.
+#[derive(Clone, Copy)]
+pub(crate) struct Reader<'a> {
+    pub(crate) text: &'a [u8],
+    pub(crate) issued: Issued,
+    pub(crate) level: usize,
+    pub(crate) odd: bool,
 }
 
-// The rest of it: the part to the left ends at `at`, and its products are the first `count` rows.
-#[cycle(readers)]
-fn more_or(
-    text: &[u8],
-    at: usize,
-    count: usize,
-    level: usize,
-    odd: bool,
-    issued: Issued,
-    rows: &mut Rows,
-) -> Read
-    ensures { MoreOr issued text.now level odd result rows.new at count rows.old }
-{
-    if byte_at(text, at) != b'|' {
-        return Read::Node(at, count);
+impl Reader<'_> {
+    // A whole formula: parts joined by `|`.
+    #[cycle(readers)]
+    pub(crate) fn read_or(self, at: usize, rows: &mut Rows) -> Option<Node>
+        ensures { OrAt self.entry.issued self.entry.text.now self.entry.level self.entry.odd result rows.new at }
+    {
+        let mut left = self.read_and(at, rows)?;
+        while byte_at(self.text, left.end) == b'|' {
+            let mut right = [[0u32; 8]; 8];
+            let part = self.read_and(left.end + 1, &mut right)?;
+            left = join(!self.odd, left, rows, part, &right);
+        }
+        Some(left)
     }
-    let mut right = [[0u32; 8]; 8];
-    let part = read_and(text, at + 1, level, odd, issued, &mut right);
-    let Read::Node(next, more) = part else {
-        return Read::Malformed;
-    };
-    let joined = join(!odd, rows, count, &right, more);
-    more_or(text, next, joined, level, odd, issued, rows)
-}
 
-// Parts joined by `&`.
-#[cycle(readers)]
-fn read_and(
-    text: &[u8],
-    at: usize,
-    level: usize,
-    odd: bool,
-    issued: Issued,
-    rows: &mut Rows,
-) -> Read
-    ensures { AndAt issued text.now level odd result rows.new at }
-{
-    let first = read_not(text, at, level, odd, issued, rows);
-    let Read::Node(next, count) = first else {
-        return Read::Malformed;
-    };
-    more_and(text, next, count, level, odd, issued, rows)
-}
+    // Parts joined by `&`.
+    #[cycle(readers)]
+    fn read_and(self, at: usize, rows: &mut Rows) -> Option<Node>
+        ensures { AndAt self.entry.issued self.entry.text.now self.entry.level self.entry.odd result rows.new at }
+    {
+        let mut left = self.read_not(at, rows)?;
+        while byte_at(self.text, left.end) == b'&' {
+            let mut right = [[0u32; 8]; 8];
+            let part = self.read_not(left.end + 1, &mut right)?;
+            left = join(self.odd, left, rows, part, &right);
+        }
+        Some(left)
+    }
 
-// The rest of it, in the same way.
-#[cycle(readers)]
-fn more_and(
-    text: &[u8],
-    at: usize,
-    count: usize,
-    level: usize,
-    odd: bool,
-    issued: Issued,
-    rows: &mut Rows,
-) -> Read
-    ensures { MoreAnd issued text.now level odd result rows.new at count rows.old }
-{
-    if byte_at(text, at) != b'&' {
-        return Read::Node(at, count);
+    // A key, a bracket or a NOT.
+    #[cycle(readers)]
+    fn read_not(self, at: usize, rows: &mut Rows) -> Option<Node>
+        ensures { NotAt self.entry.issued self.entry.text.now self.entry.level self.entry.odd result rows.new at }
+    {
+        let b = byte_at(self.text, at);
+        if b == b'!' {
+            let negated = Reader {
+                odd: !self.odd,
+                ..self
+            };
+            return negated.read_not(at + 1, rows);
+        }
+        if b == b'(' {
+            return self.read_bracket(at + 1, rows);
+        }
+        self.read_atom(at, rows)
     }
-    let mut right = [[0u32; 8]; 8];
-    let part = read_not(text, at + 1, level, odd, issued, &mut right);
-    let Read::Node(next, more) = part else {
-        return Read::Malformed;
-    };
-    let joined = join(odd, rows, count, &right, more);
-    more_and(text, next, joined, level, odd, issued, rows)
-}
 
-// A key, a bracket or a NOT.
-#[cycle(readers)]
-fn read_not(
-    text: &[u8],
-    at: usize,
-    level: usize,
-    odd: bool,
-    issued: Issued,
-    rows: &mut Rows,
-) -> Read
-    ensures { NotAt issued text.now level odd result rows.new at }
-{
-    let b = byte_at(text, at);
-    if b == b'!' {
-        return read_not(text, at + 1, level, !odd, issued, rows);
+    // A whole formula and its closing bracket, the opening one just read.
+    #[cycle(readers)]
+    fn read_bracket(self, at: usize, rows: &mut Rows) -> Option<Node>
+        ensures { BracketAt self.entry.issued self.entry.text.now self.entry.level self.entry.odd result rows.new at }
+    {
+        let inside = Reader {
+            level: self.level.checked_sub(1)?,
+            ..self
+        };
+        let inner = inside.read_or(at, rows)?;
+        if byte_at(self.text, inner.end) != b')' {
+            return None;
+        }
+        Some(Node {
+            end: inner.end + 1,
+            ..inner
+        })
     }
-    if b == b'(' {
-        return read_bracket(text, at + 1, level, odd, issued, rows);
-    }
-    read_atom(text, at, odd, issued, rows)
-}
 
-// A whole formula and its closing bracket, the opening one just read.
-#[cycle(readers)]
-fn read_bracket(
-    text: &[u8],
-    at: usize,
-    level: usize,
-    odd: bool,
-    issued: Issued,
-    rows: &mut Rows,
-) -> Read
-    ensures { BracketAt issued text.now level odd result rows.new at }
-{
-    if level == 0 {
-        return Read::Malformed;
+    // A key that was handed out.
+    fn read_atom(self, at: usize, rows: &mut Rows) -> Option<Node>
+        ensures { AtomAt self.entry.issued self.entry.text.now self.entry.odd result rows.new at }
+    {
+        let letter = *self.text.get(at)?;
+        let (number, end) = read_number(self.text, at + 1)?;
+        let key = key_named(letter, number)?;
+        if !self.issued.has(key) {
+            return None;
+        }
+        let count = sum::single(signed(self.odd, key), rows);
+        Some(Node { end, count })
     }
-    let inner = read_or(text, at, level - 1, odd, issued, rows);
-    let Read::Node(end, count) = inner else {
-        return Read::Malformed;
-    };
-    if byte_at(text, end) != b')' {
-        return Read::Malformed;
-    }
-    Read::Node(end + 1, count)
-}
-
-// A key that was handed out.
-fn read_atom(text: &[u8], at: usize, odd: bool, issued: Issued, rows: &mut Rows) -> Read
-    ensures { AtomAt issued text.now odd result rows.new at }
-{
-    if text.len() <= at {
-        return Read::Malformed;
-    }
-    let letter = text[at];
-    let number = read_number(text, at + 1);
-    let Numeral::Value(n, end) = number else {
-        return Read::Malformed;
-    };
-    let found = key_named(letter, n);
-    let Lookup::Named(key) = found else {
-        return Read::Malformed;
-    };
-    if !is_issued(key, issued) {
-        return Read::Malformed;
-    }
-    let count = sum::single(signed(odd, key), rows);
-    Read::Node(end, count)
 }
 
 // Under an odd number of NOTs a key is barred.
@@ -192,56 +124,35 @@ fn signed(odd: bool, key: Key) -> Literal
     }
 }
 
-// A key, or none for a letter that is no kind's.
-#[derive(Clone, Copy)]
-pub(crate) enum Lookup {
-    Named(Key),
-    Nothing,
-}
-
-// The key of a letter and a number.
-fn key_named(letter: u8, n: u16) -> Lookup
-    ensures { result ≡ lookup_of (key_named letter n) }
+// The key of a letter and a number; none of a letter that is no kind's.
+fn key_named(letter: u8, n: u16) -> Option<Key>
+    ensures { result ≡ key_named letter n }
 {
-    if letter == b'U' {
-        Lookup::Named(Key::User(n))
-    } else if letter == b'R' {
-        Lookup::Named(Key::Thread(n))
-    } else if letter == b'S' {
-        Lookup::Named(Key::Segment(n))
-    } else if letter == b'D' {
-        Lookup::Named(Key::Defined(n))
-    } else {
-        Lookup::Nothing
+    match letter {
+        b'U' => Some(Key::User(n)),
+        b'R' => Some(Key::Thread(n)),
+        b'S' => Some(Key::Segment(n)),
+        b'D' => Some(Key::Defined(n)),
+        _ => None,
     }
 }
 
-fn is_below(n: u16, count: u32) -> bool
-    ensures { result ≡ below n count }
+// A formula, whose products are in the first rows, and the part after it: joined as an OR's or as an AND's. One test
+// and no closure: both functions are lent the same five things.
+fn join(or: bool, left: Node, rows: &mut Rows, part: Node, right: &Rows) -> Node
+    ensures end { result.end ≡ part.end }
+    ensures sum { HoldsSum
+        (joined (join_and or) (sum_of left.count rows.old) (sum_of part.count right.now))
+        rows.new result.count }
 {
-    (n as u32) < count
-}
-
-fn is_issued(k: Key, issued: Issued) -> bool
-    ensures { result ≡ issued_to issued k }
-{
-    match k {
-        Key::User(n) => is_below(n, issued.users),
-        Key::Thread(n) => is_below(n, issued.threads),
-        Key::Segment(n) => is_below(n, issued.segments),
-        Key::Defined(n) => is_below(n, issued.defined),
-    }
-}
-
-// The left sum, which is the first n rows, joined with the right one: as an OR's or as an AND's.
-fn join(or: bool, rows: &mut Rows, n: usize, right: &Rows, m: usize) -> usize
-    ensures { HoldsSum
-        (joined (join_and or) (sum_of n rows.old) (sum_of m right.now)) rows.new result }
-{
-    let left = *rows;
-    if or {
-        sum::disjoin(&left, n, right, m, rows)
+    let products = *rows;
+    let count = if or {
+        sum::disjoin(&products, left.count, right, part.count, rows)
     } else {
-        sum::conjoin(&left, n, right, m, rows)
+        sum::conjoin(&products, left.count, right, part.count, rows)
+    };
+    Node {
+        end: part.end,
+        count,
     }
 }

@@ -1,13 +1,12 @@
 -- From a call to its request and back.
+use Rattle.std.specs.Prelude.{Err, Some, None}
 use mathlib.Core.Path.{◌≡◌}
 use mathlib.Core.List.{List}
 use Prim.Native.Nat.{ℕ}
 use Rattle.call.specs.declared.request.Request.{Request}
-use Rattle.call.specs.declared.request.Decoded.TheVariants.{WellFormed, Corrupt as NotWellFormed}
 use Rattle.call.specs.Calls.{Call, decoded}
 use Rattle.model.specs.declared.answer.Refusal.TheVariants.{Corrupt}
-use Rattle.model.specs.declared.answer.Answer.{Answer}
-use Rattle.model.specs.declared.answer.Answer.TheVariants.{Refused}
+use Rattle.model.specs.Answers.{Answer}
 use Rattle.model.specs.Cells.{Cells}
 use Rattle.model.specs.Stores.{step_cells}
 use Rattle.model.specs.Serving.{Serves, Answers}
@@ -22,11 +21,11 @@ module _ (d d' : Cells) (r : Answer) where
     as_request s = with_text_lem (s text)
 
   -- a well formed call is its request
-  pub as_call : (x : Call) (q : Request) → decoded x ≡ WellFormed q → Serves d q x.text r d' → Answers d x r d'
+  pub as_call : (x : Call) (q : Request) → decoded x ≡ Some q → Serves d q x.text r d' → Answers d x r d'
   unfolding step_cells
   as_call x q e s = rw e s
 
 -- any other is refused before all else
-pub not_well_formed : (d : Cells) (x : Call) → decoded x ≡ NotWellFormed → Answers d x (Refused Corrupt) d
+pub not_well_formed : (d : Cells) (x : Call) → decoded x ≡ None → Answers d x (Err Corrupt) d
 unfolding step_cells
 not_well_formed d x e = record { answer = rw e; cells = rw e }

@@ -1,12 +1,11 @@
 // The guard: the one entry for the twelve calls, on the arrays that the host lends.
 #![tactic(auto)]
 
-ghost use Rattle.std.specs.Prelude.{◌≡◌};
-ghost use Rattle.call.specs.Calls.{call_with};
+ghost use Rattle.call.specs.Calls.{call_from};
 ghost use Rattle.model.specs.Cells.{cells_with};
 ghost use Rattle.model.specs.Serving.{Serves, Answers};
 
-use call::request::{Decoded, Request, decode};
+use call::request::{Fields, Request};
 use locks::calls::{add_lock, drop_lock};
 use model::answer::{Answer, Refusal};
 use model::arrays::{Locks, Makers, Registry, Segments, Threads};
@@ -15,32 +14,25 @@ use route::{access, call_segment};
 use segments::calls::{give_key, new_key, new_segment, take_key};
 use threads::calls::{end_thread, return_call, start_thread};
 
-// A call: its letter, fields and text. One that is not well formed is refused before all else.
+// A call: its letter and fields, and its text. One that is not well formed is refused before all else.
 pub fn call(
     registry: &mut Registry,
     makers: &mut Makers,
     segments: &mut Segments,
     locks: &mut Locks,
     threads: &mut Threads,
-    letter: u8,
-    a: u16,
-    b: u16,
-    c: u16,
+    fields: Fields,
     text: &[u8],
 ) -> Answer
     ensures { Answers
         (cells_with registry.old makers.old segments.old locks.old
         threads.old)
-        (call_with letter a b c text.now) result
+        (call_from fields text.now) result
         (cells_with registry.new makers.new segments.new locks.new
         threads.new) }
 {
-    match decode(letter, a, b, c, text.len()) {
-        Decoded::Corrupt => Answer::Refused(Refusal::Corrupt),
-        Decoded::WellFormed(request) => serve(
-            registry, makers, segments, locks, threads, request, text,
-        ),
-    }
+    let request = fields.decode(text.len()).ok_or(Refusal::Corrupt)?;
+    serve(registry, makers, segments, locks, threads, request, text)
 }
 
 // A well formed call. Each function is lent the arrays that it needs, and mutably those that it may write.

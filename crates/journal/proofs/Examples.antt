@@ -10,10 +10,9 @@ use lib.ListN.{length, take, replicate, length-append}
 use lib.Seq.{take-append_seam}
 use lib.Dec.{lit<}
 use borrow.Author.Tests.{le-leb, lt-ltb, le-ltb}
+use Rattle.std.specs.Prelude.{Ok, Err}
 use Rattle.call.specs.Calls.{Call, call_with}
 use Rattle.journal.specs.declared.file.Refusal.TheVariants.{Full, Corrupt}
-use Rattle.journal.specs.declared.file.Verdict.TheVariants.{Readable, Refused}
-use Rattle.journal.specs.declared.append.Appended.TheVariants.{Declined}
 use Rattle.journal.specs.Format.{all_bytes, file_head, file_bytes, most_bytes, is_fit, Recordable, AllRecordable}
 use Rattle.journal.specs.Reading.{verdict_of}
 use Rattle.journal.specs.Appending.{append_answer, with_record, empty_answer}
@@ -35,7 +34,7 @@ users_recordable zero rs v = v
 users_recordable (suc n) rs v =
     (record { fit = refl; letter_byte = lit< tt; a_word = lit< tt; b_word = lit< tt; c_word = lit< tt; text_bytes = all_are [] tt }, users_recordable n rs v)
 
-long_refused : (rs : List Call) → most_bytes < length (file_bytes rs) → verdict_of (file_bytes rs) ≡ Refused Corrupt
+long_refused : (rs : List Call) → most_bytes < length (file_bytes rs) → verdict_of (file_bytes rs) ≡ Err Corrupt
 unfolding computing
 long_refused rs h =
     let s = file_head (length rs) ++ all_bytes rs in
@@ -63,10 +62,10 @@ longest_is = file_length longest ∙ ap (λ (k : ℕ). 7 + k) (users_length 7279
 one_more_is : length (file_bytes one_more) ≡ 65536
 one_more_is = file_length one_more ∙ ap (λ (k : ℕ). 7 + k) (users_length 7279 _)
 
-longest_reads : verdict_of (file_bytes longest) ≡ Readable
+longest_reads : verdict_of (file_bytes longest) ≡ Ok tt
 longest_reads = written_readable longest (users_recordable 7279 _ (lock_recordable, tt)) (omega (arith, longest_is))
 
-longest_full : append_answer (file_bytes longest ++ replicate 9 0) 65535 call_u ≡ Declined Full
+longest_full : append_answer (file_bytes longest ++ replicate 9 0) 65535 call_u ≡ Err Full
 longest_full =
     let d : List ℕ = file_bytes longest ++ replicate 9 0 in
     let inside : 65535 ≤ length d = omega (arith, length-append (file_bytes longest) (replicate 9 0), longest_is) in

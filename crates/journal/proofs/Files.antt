@@ -1,9 +1,9 @@
 -- What a whole record, a readable file and an accepted append are, taken apart into facts with names.
+use Rattle.std.specs.Prelude.{Option, None, Some, Ok}
 use Prim.Native.Nat.{ℕ, zero, suc, ◌+◌, ◌*◌, ◌<◌, ◌≤◌}
 use mathlib.Core.Path.{◌≡◌, refl, ap}
 use mathlib.Core.Bool.{true, not, ◌&&◌}
 use mathlib.Core.List.{List}
-use mathlib.Core.Option.{Option, none, some}
 use native.Mathlib.Omega.{arith}
 use lib.ListN.{length, get_or, take}
 use lib.Dec.{leb, ltb, eqb}
@@ -12,8 +12,6 @@ use borrow.Author.Tests.{eqb-true, leb-true, ltb-false, eq-eqb, le-ltb, not-fals
 use Rattle.call.specs.Calls.{Call, record_fits}
 use Rattle.base.specs.Conditions.{first_refusal}
 use Rattle.journal.specs.declared.file.Refusal.{Refusal}
-use Rattle.journal.specs.declared.file.Verdict.TheVariants.{Readable}
-use Rattle.journal.specs.declared.append.Appended.TheVariants.{Length}
 use Rattle.journal.specs.Format.{file_version, most_bytes, is_fit}
 use Rattle.journal.specs.Reading.{word, next_of, whole_at, whole_from, marked, current, file_conditions, verdict, verdict_of}
 use Rattle.journal.specs.Appending.{length_with, own_conditions, append_conditions, answer, append_answer}
@@ -82,11 +80,11 @@ passed s a =
       records = not-false (whole_from (word s 5) s 7) a.1.1.1.1.0;
     }
 
-pub open_file : (s : List ℕ) → verdict_of s ≡ Readable → File s
+pub open_file : (s : List ℕ) → verdict_of s ≡ Ok tt → File s
 unfolding verdict_of
 open_file s h = passed s (all_fail (file_conditions s) (readable_none (first_refusal (file_conditions s)) h))
 
-pub shut_file : (s : List ℕ) → File s → verdict_of s ≡ Readable
+pub shut_file : (s : List ℕ) → File s → verdict_of s ≡ Ok tt
 unfolding verdict_of
 shut_file s f =
     ap verdict (none_first (file_conditions s)
@@ -100,15 +98,15 @@ count_small s f = omega (arith, count_bound (word s 5) s 7 f.records, f.most)
 pub word_take : (n : ℕ) (s : List ℕ) (i : ℕ) → i + 1 < n → word (take n s) i ≡ word s i
 word_take n s i h = rw (get_or-take n s i 0 (omega arith), get_or-take n s (i + 1) 0 h)
 
-length_none : (n e : ℕ) (o : Option Refusal) → answer n o ≡ Length e → o ≡ none
-length_none n e none h = refl
-length_none n e (some f) h = cc
+length_none : (n e : ℕ) (o : Option Refusal) → answer n o ≡ Ok e → o ≡ None
+length_none n e None h = refl
+length_none n e (Some f) h = cc
 
-length_is : (n e : ℕ) (o : Option Refusal) → answer n o ≡ Length e → e ≡ n
-length_is n e none h = cc
-length_is n e (some f) h = cc
+length_is : (n e : ℕ) (o : Option Refusal) → answer n o ≡ Ok e → e ≡ n
+length_is n e None h = cc
+length_is n e (Some f) h = cc
 
-pub new_length : (d : List ℕ) (len : ℕ) (r : Call) (e : ℕ) → append_answer d len r ≡ Length e → e ≡ length_with len r
+pub new_length : (d : List ℕ) (len : ℕ) (r : Call) (e : ℕ) → append_answer d len r ≡ Ok e → e ≡ length_with len r
 unfolding append_answer
 new_length d len r e h = length_is (length_with len r) e (first_refusal (append_conditions d len r)) h
 
@@ -121,7 +119,7 @@ pub record Accepted (d : List ℕ) (len : ℕ) (r : Call) : Type 0 where
   pub most : length_with len r ≤ 65535
   pub count : word (take len d) 5 ≡ word d 5
 
-pub accepted : (d : List ℕ) (len : ℕ) (r : Call) (e : ℕ) → append_answer d len r ≡ Length e → Accepted d len r
+pub accepted : (d : List ℕ) (len : ℕ) (r : Call) (e : ℕ) → append_answer d len r ≡ Ok e → Accepted d len r
 unfolding append_answer
 accepted d len r e h =
     let a = all_fail (append_conditions d len r) (length_none (length_with len r) e (first_refusal (append_conditions d len r)) h) in

@@ -8,10 +8,10 @@ use lib.ListN.{length, get_or, take, drop, length-append}
 use lib.Seq.{take-append_seam, drop-append-add, get_or-append-add, get_or-append_seam}
 use lib.Dec.{lit<}
 use borrow.Author.Tests.{eq-eqb, le-leb}
+use Rattle.std.specs.Prelude.{Ok}
 use Rattle.call.specs.Calls.{Call}
 use Rattle.journal.specs.Format.{low, high, record_bytes, all_bytes, file_head, file_bytes, Recordable, AllRecordable, most_bytes, is_fit}
 use Rattle.journal.specs.Reading.{word, record_of, next_of, whole_at, whole_from, records_from, records_of, verdict_of}
-use Rattle.journal.specs.declared.file.Verdict.TheVariants.{Readable}
 use Rattle.journal.specs.Theorems.ReadsBack.{WrittenReadable, WrittenBytes, RecordsBack}
 use Rattle.call.proofs.Texts.{text_short}
 use Rattle.base.proofs.Lists.{All-append}
@@ -90,7 +90,7 @@ records_all (r ∷ rs) p =
 
 -- ---- a file
 
-pub fit_readable : (rs : List Call) → AllFit rs → length (file_bytes rs) ≤ most_bytes → verdict_of (file_bytes rs) ≡ Readable
+pub fit_readable : (rs : List Call) → AllFit rs → length (file_bytes rs) ≤ most_bytes → verdict_of (file_bytes rs) ≡ Ok tt
 unfolding file_bytes
 fit_readable rs v h =
     let s = file_head (length rs) ++ all_bytes rs in

@@ -9,9 +9,8 @@ use lib.ListN.{length, take, drop, length-append, length-drop, take-append-drop}
 use lib.Seq.{sets, sets-eq, take_at, take-append_seam, drop-append-add, drop-drop, length-take-le}
 use lib.Dec.{ltb}
 use borrow.Author.Tests.{le-ltb}
+use Rattle.std.specs.Prelude.{Ok}
 use Rattle.call.specs.Calls.{Call}
-use Rattle.journal.specs.declared.file.Verdict.TheVariants.{Readable}
-use Rattle.journal.specs.declared.append.Appended.TheVariants.{Length}
 use Rattle.journal.specs.Format.{Bytes, record_bytes, all_bytes, file_head, file_bytes, most_bytes, is_fit}
 use Rattle.journal.specs.Reading.{records_of, verdict_of}
 use Rattle.journal.specs.Appending.{length_with, append_answer, with_record, empty_answer}
@@ -85,14 +84,14 @@ module _ (d : List ℕ) (ps : List Call) (r : Call) (room : length (file_bytes (
 
   -- it is accepted
   accepts_one : AllFit ps → is_fit r ≡ true → length (file_bytes (ps ++ r ∷ [])) ≤ most_bytes
-      → append_answer x.bytes x.len r ≡ Length (length (file_bytes (ps ++ r ∷ [])))
+      → append_answer x.bytes x.len r ≡ Ok (length (file_bytes (ps ++ r ∷ [])))
   accepts_one vs v most =
       let n : length x.bytes ≡ length d = length-append file (drop (length file) d) ∙ omega (arith, rest_length, snoc_length ps r) in
       let e : length_with (length file) r ≡ length (file_bytes (ps ++ r ∷ [])) = sym (snoc_length ps r) in
       let full : ltb (length x.bytes) (length_with (length file) r) || ltb most_bytes (length_with (length file) r) ≡ false =
       rw (le-ltb (length x.bytes) (length_with (length file) r) (omega arith), le-ltb most_bytes (length_with (length file) r) (omega arith)) in
-      let readable : verdict_of (take (length file) x.bytes) ≡ Readable = rw (take-append_seam file (drop (length file) d)) (fit_readable ps vs (omega (arith, snoc_length ps r))) in
-      sym (accepts x.bytes x.len r (omega (arith, snoc_length ps r)) (sym readable) (is_fit r) refl v full) ∙ ap Length e
+      let readable : verdict_of (take (length file) x.bytes) ≡ Ok tt = rw (take-append_seam file (drop (length file) d)) (fit_readable ps vs (omega (arith, snoc_length ps r))) in
+      sym (accepts x.bytes x.len r (omega (arith, snoc_length ps r)) (sym readable) (is_fit r) refl v full) ∙ ap Ok e
 
 -- ---- a list of records
 
@@ -134,7 +133,7 @@ pub adds_one : AddsOne
 adds_one d len r n bytes h =
     let ok = accepted d len r n h in
     let s : List ℕ = take len d in
-    let readable : verdict_of s ≡ Readable = shut_file s ok.file in
+    let readable : verdict_of s ≡ Ok tt = shut_file s ok.file in
     let few : Bytes s = bytes_take len d bytes in
     let ps : List Call = records_of s in
     let written : file_bytes ps ≡ s = writes_back s few readable in

@@ -1,6 +1,6 @@
 -- Every file is readable or one of the five cases, and each case has its verdict; so the verdict tells the case.
 use Prim.Native.Nat.{ℕ, ◌≤◌}
-use mathlib.Core.Path.{◌≡◌, refl, sym, subst, ◌∙◌}
+use mathlib.Core.Path.{◌≡◌, refl, sym, subst}
 use mathlib.Core.Bool.{Bool, true, false}
 use mathlib.Core.List.{List, ◌∷◌}
 use mathlib.Core.Logic.{◌⊎◌, inl, inr}
@@ -8,12 +8,11 @@ use native.Mathlib.Omega.{arith}
 use lib.ListN.{length, drop}
 use lib.Dec.{ltb, eqb}
 use borrow.Author.Tests.{lt-ltb, le-ltb, ltb-true, ltb-false, le-leb, eq-eqb, ne_eqb, eqb-true, eqb-false}
+use Rattle.std.specs.Prelude.{Ok, Err}
 use Rattle.journal.specs.declared.file.Refusal.{Refusal}
 use Rattle.journal.specs.declared.file.Refusal.TheVariants.{NotJournal, OtherVersion, Corrupt}
-use Rattle.journal.specs.declared.file.Verdict.{Verdict}
-use Rattle.journal.specs.declared.file.Verdict.TheVariants.{Readable, Refused}
 use Rattle.journal.specs.Format.{Bytes, file_version, most_bytes, Written}
-use Rattle.journal.specs.Reading.{word, whole_from, marked, verdict_of}
+use Rattle.journal.specs.Reading.{Verdict, word, whole_from, marked, verdict_of}
 use Rattle.journal.specs.Theorems.Refuses.{Marked, RefusedBy, unmarked, short, version, long, broken, RefusedExactly}
 use Rattle.journal.proofs.Files.{mark_of, shut_file}
 use Rattle.journal.proofs.WritesBack.{head_three, readable_exactly}
@@ -43,7 +42,7 @@ module _ (s : List ℕ) (bytes : Bytes s) where
 
   -- ---- each case has its verdict
 
-  refused : {f : Refusal} → RefusedBy s f → verdict_of s ≡ Refused f
+  refused : {f : Refusal} → RefusedBy s f → verdict_of s ≡ Err f
   unfolding verdict_of
   refused (unmarked n) = rw (unmarked_is n)
   refused (short m l) = rw (marked_is m, lt-ltb (length s) 7 l)
@@ -55,14 +54,11 @@ module _ (s : List ℕ) (bytes : Bytes s) where
   -- ---- every file is one of them, or readable
 
   abbrev Case : Type 0
-  Case = ((f : Refusal) × RefusedBy s f) ⊎ (verdict_of s ≡ Readable)
+  Case = ((f : Refusal) × RefusedBy s f) ⊎ (verdict_of s ≡ Ok tt)
 
   by_records : Marked s → 7 ≤ length s → word s 3 ≡ file_version → length s ≤ most_bytes → (v : Verdict) → verdict_of s ≡ v → Case
-  by_records m l v k Readable e = inr e
-  by_records m l v k (Refused f) e = inl (Corrupt, broken m l v k (λ w. clash (sym e ∙ (readable_exactly s bytes).1 w)))
-    where
-      clash : {f : Refusal} → Refused f ≡ Readable → ⊥
-      clash h = let z : ◌≡◌ {A = ℕ} 0 1 = cc in absurd (omega arith)
+  by_records m l v k (Ok tt) e = inr e
+  by_records m l v k (Err f) e = inl (Corrupt, broken m l v k (λ w. cc ((readable_exactly s bytes).1 w)))
 
   by_length : Marked s → 7 ≤ length s → word s 3 ≡ file_version → (b : Bool) → ltb most_bytes (length s) ≡ b → Case
   by_length m l v true e = inl (Corrupt, long m l v (ltb-true most_bytes (length s) e))
@@ -78,17 +74,11 @@ module _ (s : List ℕ) (bytes : Bytes s) where
 
   by_mark : (b : Bool) → marked s ≡ b → Case
   by_mark true e = by_head (is_marked e) (ltb (length s) 7) refl
-  by_mark false e = inl (NotJournal, unmarked (λ m. clash (sym e ∙ marked_is m)))
-    where
-      clash : false ≡ true → ⊥
-      clash h = let z : ◌≡◌ {A = ℕ} 0 1 = cc in absurd (omega arith)
+  by_mark false e = inl (NotJournal, unmarked (λ m. cc (marked_is m)))
 
 pub refused_exactly : RefusedExactly
 refused_exactly s bytes f = (λ h. by_verdict (by_mark s bytes (marked s) refl) h, refused s bytes)
   where
-    same : (g f : Refusal) → ◌≡◌ (Refused g) (Refused f) → g ≡ f
-    same g f e = cc
-
-    by_verdict : Case s bytes → verdict_of s ≡ Refused f → RefusedBy s f
-    by_verdict (inl (g, by)) h = subst (λ (x : Refusal). RefusedBy s x) (same g f (sym (refused s bytes by) ∙ h)) by
-    by_verdict (inr e) h = let z : Readable ≡ Refused f = sym e ∙ h in let no : ◌≡◌ {A = ℕ} 0 1 = cc in absurd (omega arith)
+    by_verdict : Case s bytes → verdict_of s ≡ Err f → RefusedBy s f
+    by_verdict (inl (g, by)) h = let e : g ≡ f = cc (refused s bytes by) in subst (λ (x : Refusal). RefusedBy s x) e by
+    by_verdict (inr e) h = cc

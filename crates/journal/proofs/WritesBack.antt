@@ -8,7 +8,7 @@ use native.Mathlib.Omega.{arith}
 use lib.ListN.{length, get_or, take, drop, length-drop, take-append-drop}
 use lib.Seq.{drop-cons, drop-length, drop-drop, length-take-le}
 use borrow.Author.Tests.{eqb-true}
-use Rattle.journal.specs.declared.file.Verdict.TheVariants.{Readable}
+use Rattle.std.specs.Prelude.{Ok}
 use Rattle.journal.specs.Format.{Bytes, low, high, record_bytes, all_bytes, file_bytes, most_bytes, AllRecordable}
 use Rattle.journal.specs.Reading.{word, record_of, next_of, whole_at, whole_from, records_from, records_of, verdict_of}
 use Rattle.journal.specs.Theorems.WritesBack.{WritesBack, ReadableExactly}
@@ -93,12 +93,12 @@ writes_back s bytes h =
     let f = open_file s h in
     rw (records_length (word s 5) s 7, all_again s bytes (word s 5) 7 f.records, word_again s bytes 5 7 (omega arith) (omega (arith, f.least))) (head_five s bytes f)
 
-pub records_recordable : (s : List ℕ) → Bytes s → verdict_of s ≡ Readable → AllRecordable (records_of s)
+pub records_recordable : (s : List ℕ) → Bytes s → verdict_of s ≡ Ok tt → AllRecordable (records_of s)
 unfolding records_of
 records_recordable s bytes h = all_recordable s bytes (word s 5) 7 (open_file s h).records
 
 pub readable_exactly : ReadableExactly
 readable_exactly s bytes = (
   λ h. record { records = records_of s; recordable = records_recordable s bytes h; bytes = sym (writes_back s bytes h); most = (open_file s h).most },
-  λ w. let e = w.bytes in subst (λ (t : List ℕ). verdict_of t ≡ Readable) (sym e) (written_readable w.records w.recordable (subst (λ (t : List ℕ). length t ≤ most_bytes) e w.most)),
+  λ w. let e = w.bytes in subst (λ (t : List ℕ). verdict_of t ≡ Ok tt) (sym e) (written_readable w.records w.recordable (subst (λ (t : List ℕ). length t ≤ most_bytes) e w.most)),
 )

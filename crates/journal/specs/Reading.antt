@@ -1,16 +1,12 @@
 -- The journal (document 01: desk file), as it is read: a file is a list of bytes, and a cursor is a place in it. What
 -- stands at a cursor, the records of a file, and the first refusal of a file. Document 01's section 'Desk file'.
-use Rattle.std.specs.Prelude.{Bool, cond, not, ◌&&◌, List, [], ◌∷◌, ℕ, zero, suc, ◌+◌, ◌*◌, length, get_or, take, drop, leb, ltb, eqb}
-use Rattle.std.proofs.Math.Option.{Option, none, some}
+use Rattle.std.specs.Prelude.{Bool, cond, not, ◌&&◌, List, [], ◌∷◌, ℕ, zero, suc, ◌+◌, ◌*◌, length, get_or, take, drop, leb, ltb, eqb, Option, None, Some, Result, Ok, Err}
+use Rattle.call.specs.declared.request.Fields.{Fields}
 use Rattle.call.specs.Calls.{Call, record_fits}
 use Rattle.base.specs.Conditions.{Condition, when, first_refusal}
 use Rattle.journal.specs.declared.record.Entry.{Entry}
-use Rattle.journal.specs.declared.record.Found.{Found}
-use Rattle.journal.specs.declared.record.Found.TheVariants.{Record, End, Damaged}
 use Rattle.journal.specs.declared.file.Refusal.{Refusal}
 use Rattle.journal.specs.declared.file.Refusal.TheVariants.{NotJournal, OtherVersion, Corrupt}
-use Rattle.journal.specs.declared.file.Verdict.{Verdict}
-use Rattle.journal.specs.declared.file.Verdict.TheVariants.{Readable, Refused}
 use Rattle.journal.specs.Format.{a_at, b_at, c_at, text_length_at, record_head_size, file_head_size, mark_k, mark_l, mark_d, file_version, version_at, count_at, most_bytes}
 
 -- the 16 bits at i, low byte first
@@ -42,27 +38,28 @@ whole_at s at =
     && (record_fits (get_or s at 0) (word s (at + a_at)) (word s (at + b_at)) (word s (at + c_at)) text_length
     && leb (next_of s at) (length s))
 
+-- the letter and fields
+abbrev pub fields_of : List ℕ → ℕ → Fields
+fields_of s at =
+    record { letter = get_or s at 0; a = word s (at + a_at); b = word s (at + b_at); c = word s (at + c_at) }
+
 -- the letter and fields, where the text starts, and the cursor after the record
 abbrev pub entry_of : List ℕ → ℕ → Entry
 entry_of s at =
-    record {
-      letter = get_or s at 0;
-      a = word s (at + a_at);
-      b = word s (at + b_at);
-      c = word s (at + c_at);
-      start = at + record_head_size;
-      next = next_of s at;
-    }
+    record { fields = fields_of s at; start = at + record_head_size; next = next_of s at }
 
--- what stands at a cursor
+-- what stands at a cursor: a record, the end of the records, or, with 18, neither
+abbrev pub Found : Type 0
+Found = Result (Option Entry) Refusal
+
 unfoldable pub found_at : List ℕ → ℕ → Found
-found_at s at = cond (leb (length s) at) End (cond (whole_at s at) (Record (entry_of s at)) Damaged)
+found_at s at = cond (leb (length s) at) (Ok None) (cond (whole_at s at) (Ok (Some (entry_of s at))) (Err Corrupt))
 
 -- the cursor after what stands there: past a record, else where it was
 abbrev pub cursor_after : Found → ℕ → ℕ
-cursor_after (Record e) at = e.next
-cursor_after End at = at
-cursor_after Damaged at = at
+cursor_after (Ok (Some e)) at = e.next
+cursor_after (Ok None) at = at
+cursor_after (Err f) at = at
 
 -- ---- the records of a file: as many as its count says, after its head
 
@@ -101,9 +98,12 @@ file_conditions s =
     ∷ []
 
 -- the file's first refusal, or that it is readable
+abbrev pub Verdict : Type 0
+Verdict = Result (Unit {0}) Refusal
+
 abbrev pub verdict : Option Refusal → Verdict
-verdict none = Readable
-verdict (some f) = Refused f
+verdict None = Ok tt
+verdict (Some f) = Err f
 
 unfoldable pub verdict_of : List ℕ → Verdict
 verdict_of s = verdict (first_refusal (file_conditions s))
@@ -111,5 +111,5 @@ verdict_of s = verdict (first_refusal (file_conditions s))
 -- ---- a reader: the cursor after the file's check, at the first record of a readable file, else where it was
 
 abbrev pub cursor_opened : Verdict → ℕ → ℕ
-cursor_opened Readable at = file_head_size
-cursor_opened (Refused f) at = at
+cursor_opened (Ok u) at = file_head_size
+cursor_opened (Err f) at = at

@@ -1,14 +1,10 @@
 -- Document 01's numbers and values of the journal's answers: the verdict on a file, what stands at a cursor, and the
 -- answer to an append. The number is that of the refusal, and 0 where nothing is refused.
-use Rattle.std.specs.Prelude.{List, [], ◌∷◌, ℕ}
+use Rattle.std.specs.Prelude.{List, [], ◌∷◌, ℕ, None, Some, Ok, Err}
 use Rattle.journal.specs.declared.file.Refusal.{Refusal}
 use Rattle.journal.specs.declared.file.Refusal.TheVariants.{Full, NotJournal, OtherVersion, Corrupt}
-use Rattle.journal.specs.declared.file.Verdict.{Verdict}
-use Rattle.journal.specs.declared.file.Verdict.TheVariants.{Readable, Refused}
-use Rattle.journal.specs.declared.record.Found.{Found}
-use Rattle.journal.specs.declared.record.Found.TheVariants.{Record, End, Damaged}
-use Rattle.journal.specs.declared.append.Appended.{Appended}
-use Rattle.journal.specs.declared.append.Appended.TheVariants.{Length, Declined}
+use Rattle.journal.specs.Reading.{Found, Verdict}
+use Rattle.journal.specs.Appending.{Appended}
 
 -- refusals: full, not a desk file, other version, broken file
 abbrev pub refusal_number : Refusal → ℕ
@@ -24,32 +20,31 @@ refusal_values f = 0 ∷ []
 -- ---- the verdict on a file
 
 abbrev pub verdict_number : Verdict → ℕ
-verdict_number Readable = 0
-verdict_number (Refused f) = refusal_number f
+verdict_number (Ok u) = 0
+verdict_number (Err f) = refusal_number f
 
 abbrev pub verdict_values : Verdict → List ℕ
-verdict_values Readable = []
-verdict_values (Refused f) = refusal_values f
+verdict_values (Ok u) = []
+verdict_values (Err f) = refusal_values f
 
 -- ---- what stands at a cursor: a record, the end of the records, or a broken file
 
 abbrev pub found_number : Found → ℕ
-found_number (Record e) = 0
-found_number End = 0
-found_number Damaged = refusal_number Corrupt
+found_number (Ok e) = 0
+found_number (Err f) = refusal_number f
 
 -- a record's letter, its fields a, b, c, where its text starts and where it ends
 abbrev pub found_values : Found → List ℕ
-found_values (Record e) = e.letter ∷ e.a ∷ e.b ∷ e.c ∷ e.start ∷ e.next ∷ []
-found_values End = []
-found_values Damaged = refusal_values Corrupt
+found_values (Ok (Some e)) = e.fields.letter ∷ e.fields.a ∷ e.fields.b ∷ e.fields.c ∷ e.start ∷ e.next ∷ []
+found_values (Ok None) = []
+found_values (Err f) = refusal_values f
 
 -- ---- the answer to an append: 'the answer is the new length'
 
 abbrev pub appended_number : Appended → ℕ
-appended_number (Length n) = 0
-appended_number (Declined f) = refusal_number f
+appended_number (Ok n) = 0
+appended_number (Err f) = refusal_number f
 
 abbrev pub appended_values : Appended → List ℕ
-appended_values (Length n) = n ∷ []
-appended_values (Declined f) = refusal_values f
+appended_values (Ok n) = n ∷ []
+appended_values (Err f) = refusal_values f

@@ -1,23 +1,28 @@
 // 16 bits in two bytes, low byte first, and runs of bytes.
 ghost use Rattle.std.specs.Prelude.{◌≡◌, ◌+◌, ◌<◌, ◌≤◌, length};
 ghost use Rattle.std.proofs.lemmas.List.Edits.{sets};
+ghost use Rattle.journal.specs.Format.{word_bytes};
 ghost use Rattle.journal.specs.Reading.{word};
 
 pub(crate) fn word_at(s: &[u8], i: usize) -> u16
     requires { i + 1 < length s.now }
     ensures { result ≡ word s.now i }
 {
-    (s[i] as u16) + (s[i + 1] as u16) * 256
+    u16::from_le_bytes([s[i], s[i + 1]])
+}
+
+pub(crate) fn store_word(d: &mut [u8], at: usize, word: u16)
+    requires { at + 2 ≤ length d.old }
+    ensures { d.new ≡ sets d.old at (word_bytes word) }
+{
+    store(d, at, &word.to_le_bytes());
 }
 
 // Stores `s` in `d` from a place on.
+#[tactic(auto, using(crate::proofs::StoredBytes::run_copied))]
 pub(crate) fn store(d: &mut [u8], at: usize, s: &[u8])
     requires { at + length s.now ≤ length d.old }
     ensures { d.new ≡ sets d.old at s.now }
 {
-    let mut i = 0;
-    while i < s.len() {
-        d[at + i] = s[i];
-        i += 1;
-    }
+    d[at..at + s.len()].copy_from_slice(s);
 }

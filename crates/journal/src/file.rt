@@ -2,14 +2,13 @@
 ghost use Rattle.std.specs.Prelude.{◌≡◌, ◌≤◌, length};
 ghost use Rattle.journal.specs.Format.{file_head_size, count_at};
 ghost use Rattle.journal.specs.Verdicts.{refusal_number};
-ghost use Rattle.journal.specs.Reading.{word, whole_from, marked, verdict_of};
-ghost use Rattle.journal.specs.Internal.{version_read, head_verdict};
+ghost use Rattle.journal.specs.Reading.{word, whole_from, verdict_of};
 
 use crate::bytes::word_at;
 use crate::record::record_size;
 
 // Document 01: full, not a desk file, other version, broken file.
-#[derive(Clone, Copy)]
+#[derive(Clone, Copy, PartialEq, Eq)]
 pub enum Refusal {
     Full,
     NotJournal,
@@ -17,18 +16,27 @@ pub enum Refusal {
     Corrupt,
 }
 
-// The verdict on a file. Its number is `verdict_number`, and its values are `verdict_values`.
-#[derive(Clone, Copy)]
-pub enum Verdict {
-    Readable,
-    Refused(Refusal),
+// Document 01's number of a refusal.
+impl From<Refusal> for u32 {
+    ghost from_gives = { λ refusal n. n ≡ refusal_number refusal };
+
+    fn from(refusal: Refusal) -> u32 {
+        match refusal {
+            Refusal::Full => 10,
+            Refusal::NotJournal => 16,
+            Refusal::OtherVersion => 17,
+            Refusal::Corrupt => 18,
+        }
+    }
 }
 
 // The bytes before the first record: the mark `KLD`, the version and the count. The first record's cursor.
 pub const FILE_HEAD: usize = 7;
 
+pub(crate) const MARK: &[u8; 3] = b"KLD";
+
 // Where the version and the record count stand in it, right after the mark and each other.
-const VERSION_AT: usize = 3;
+pub(crate) const VERSION_AT: usize = 3;
 
 pub(crate) const COUNT_AT: usize = 5;
 
@@ -38,87 +46,42 @@ pub(crate) const MOST_BYTES: usize = 65535;
 // The version.
 pub(crate) const VERSION: u16 = 2;
 
-// That a file is readable, or its first refusal; numbered by `verdict_number`.
-pub fn check(file: &[u8]) -> Verdict
+// Ok where the file is readable, or its first refusal. The answer's number is `verdict_number`, and its values are
+// `verdict_values`.
+#[tactic(auto, unfolding(crate::specs::Reading::verdict_of))]
+pub fn check(file: &[u8]) -> Result<(), Refusal>
     ensures { result ≡ verdict_of file.now }
 {
-    match head_verdict(file.len(), is_marked(file), is_current(file)) {
-        Verdict::Refused(refusal) => Verdict::Refused(refusal),
-        Verdict::Readable => {
-            if records_fill(file) {
-                Verdict::Readable
-            } else {
-                Verdict::Refused(Refusal::Corrupt)
-            }
-        }
+    if !file.starts_with(MARK) {
+        return Err(Refusal::NotJournal);
     }
-}
-
-// Document 01's number of a refusal.
-pub fn refusal_number(refusal: Refusal) -> u32
-    ensures { result ≡ refusal_number refusal }
-{
-    match refusal {
-        Refusal::Full => 10,
-        Refusal::NotJournal => 16,
-        Refusal::OtherVersion => 17,
-        Refusal::Corrupt => 18,
+    if file.len() < FILE_HEAD {
+        return Err(Refusal::Corrupt);
     }
-}
-
-// The refusals that come before the records, in document 01's order.
-fn head_verdict(n: usize, marked: bool, current: bool) -> Verdict
-    ensures { result ≡ head_verdict n marked current }
-{
-    if !marked {
-        return Verdict::Refused(Refusal::NotJournal);
+    if word_at(file, VERSION_AT) != VERSION {
+        return Err(Refusal::OtherVersion);
     }
-    if n < FILE_HEAD {
-        return Verdict::Refused(Refusal::Corrupt);
+    if MOST_BYTES < file.len() {
+        return Err(Refusal::Corrupt);
     }
-    if !current {
-        return Verdict::Refused(Refusal::OtherVersion);
+    if !records_fill(file) {
+        return Err(Refusal::Corrupt);
     }
-    if MOST_BYTES < n {
-        return Verdict::Refused(Refusal::Corrupt);
-    }
-    Verdict::Readable
-}
-
-// Whether the file starts with the mark.
-fn is_marked(file: &[u8]) -> bool
-    ensures { result ≡ marked file.now }
-{
-    if file.len() < VERSION_AT {
-        return false;
-    }
-    (file[0] == b'K') & (file[1] == b'L') & (file[2] == b'D')
-}
-
-// Whether the file's version is 2.
-fn is_current(file: &[u8]) -> bool
-    ensures { result ≡ version_read file.now }
-{
-    if file.len() < COUNT_AT {
-        return false;
-    }
-    word_at(file, VERSION_AT) == VERSION
+    Ok(())
 }
 
 // Whether the count's records, from the first on, fill the file exactly.
+#[tactic(auto, unfolding(crate::specs::Reading::whole_from, crate::specs::Internal::size_at, crate::specs::Reading::whole_at))]
 fn records_fill(file: &[u8]) -> bool
     requires { file_head_size ≤ length file.now }
     ensures { result ≡ whole_from (word file.now count_at) file.now file_head_size }
 {
-    let mut left = word_at(file, COUNT_AT);
     let mut at = FILE_HEAD;
-    while 0 < left {
-        let size = record_size(file, at);
-        if size == 0 {
+    for _ in 0..word_at(file, COUNT_AT) {
+        let Some(size) = record_size(file, at) else {
             return false;
-        }
+        };
         at += size;
-        left -= 1;
     }
     at == file.len()
 }

@@ -1,89 +1,81 @@
 // The record at a cursor (document 01: record): its letter, fields and text.
-ghost use Rattle.std.specs.Prelude.{◌≡◌};
-ghost use Rattle.journal.specs.Reading.{found_at};
+ghost use Rattle.std.specs.Prelude.{◌≡◌, ◌+◌, ◌≤◌, length};
+ghost use Rattle.journal.specs.Format.{record_head_size};
+ghost use Rattle.journal.specs.Reading.{fields_of, found_at};
 ghost use Rattle.journal.specs.Internal.{size_at};
 
 use crate::bytes::word_at;
-use call::record::fits;
+use crate::file::Refusal;
+use call::request::Fields;
 
 // A record's letter and fields, where its text starts, and the cursor after the record, where its text ends.
-#[derive(Clone, Copy)]
+#[derive(Clone, Copy, PartialEq, Eq)]
 pub struct Entry {
-    pub letter: u8,
-    pub a: u16,
-    pub b: u16,
-    pub c: u16,
+    pub fields: Fields,
     pub start: usize,
     pub next: usize,
 }
 
-// What stands at a cursor. Damaged, document 01's 18: no whole record, and not the end either. Its number is
-// `found_number`, and its values are `found_values`.
-#[derive(Clone, Copy)]
-pub enum Found {
-    Record(Entry),
-    End,
-    Damaged,
-}
-
 // Where the fields a, b, c, the text length and the text stand in a record.
-const A_AT: usize = 1;
+pub(crate) const A_AT: usize = 1;
 
-const B_AT: usize = 3;
+pub(crate) const B_AT: usize = 3;
 
-const C_AT: usize = 5;
+pub(crate) const C_AT: usize = 5;
 
-const TEXT_LENGTH_AT: usize = 7;
+pub(crate) const TEXT_LENGTH_AT: usize = 7;
 
 pub(crate) const RECORD_HEAD: usize = 9;
 
-// What stands at a cursor of a file, for any bytes and any cursor; numbered by `found_number`.
-pub(crate) fn record_at(file: &[u8], at: usize) -> Found
+// What stands at a cursor of a file, for any bytes and any cursor: a record, None at the end, or Corrupt, document 01's
+// 18, where there is neither. The answer's number is `found_number`, and its values are `found_values`.
+#[tactic(auto, unfolding(crate::specs::Reading::found_at, crate::specs::Internal::size_at, crate::specs::Reading::whole_at))]
+pub(crate) fn record_at(file: &[u8], at: usize) -> Result<Option<Entry>, Refusal>
     ensures { result ≡ found_at file.now at }
 {
     if file.len() <= at {
-        return Found::End;
+        return Ok(None);
     }
-    let size = record_size(file, at);
-    if size == 0 {
-        return Found::Damaged;
-    }
-    let a = word_at(file, at + A_AT);
-    let b = word_at(file, at + B_AT);
-    let c = word_at(file, at + C_AT);
+    let size = record_size(file, at).ok_or(Refusal::Corrupt)?;
+    let fields = fields_at(file, at);
     let start = at + RECORD_HEAD;
     let next = at + size;
-    Found::Record(Entry {
-        letter: file[at],
-        a,
-        b,
-        c,
+    Ok(Some(Entry {
+        fields,
         start,
         next,
-    })
+    }))
 }
 
-// The bytes of the whole record at a cursor; 0 where there is none.
-pub(crate) fn record_size(file: &[u8], at: usize) -> usize
+// The bytes of the whole record at a cursor, if there is one.
+#[tactic(auto, unfolding(crate::specs::Internal::size_at, crate::specs::Reading::whole_at))]
+pub(crate) fn record_size(file: &[u8], at: usize) -> Option<usize>
     ensures { result ≡ size_at file.now at }
 {
-    let n = file.len();
-    if n <= at {
-        return 0;
+    let left = file.len().checked_sub(at)?;
+    if left < RECORD_HEAD {
+        return None;
     }
-    if n - at < RECORD_HEAD {
-        return 0;
-    }
-    let a = word_at(file, at + A_AT);
-    let b = word_at(file, at + B_AT);
-    let c = word_at(file, at + C_AT);
     let text = word_at(file, at + TEXT_LENGTH_AT) as usize;
-    if !fits(file[at], a, b, c, text) {
-        return 0;
+    if !fields_at(file, at).fits(text) {
+        return None;
     }
     let size = RECORD_HEAD + text;
-    if n - at < size {
-        return 0;
+    if left < size {
+        return None;
     }
-    size
+    Some(size)
+}
+
+// The letter and fields of the record head at a cursor.
+fn fields_at(file: &[u8], at: usize) -> Fields
+    requires { at + record_head_size ≤ length file.now }
+    ensures { result ≡ fields_of file.now at }
+{
+    Fields {
+        letter: file[at],
+        a: word_at(file, at + A_AT),
+        b: word_at(file, at + B_AT),
+        c: word_at(file, at + C_AT),
+    }
 }

@@ -1,13 +1,12 @@
 -- By cases of the refusal: the rows that are filled are those before the lent ones that stay.
+use Rattle.std.specs.Prelude.{Ok, Option, None, Some}
 use mathlib.Core.Path.{◌≡◌, refl, sym, ap, ◌∙◌}
 use mathlib.Core.List.{List, ◌++◌, map}
-use mathlib.Core.Option.{Option, none, some}
 use Prim.Native.Nat.{ℕ}
 use lib.ListN.{length, drop, length-map}
 use lib.Seq.{take-append_seam}
 use Rattle.base.specs.Conditions.{first_refusal}
 use Rattle.model.specs.declared.answer.Refusal.{Refusal}
-use Rattle.model.specs.declared.answer.Answer.TheVariants.{Accepted}
 use Rattle.rows.specs.declared.row.Row.{Row}
 use Rattle.rows.specs.Rows.{rows_for}
 use Rattle.rows.specs.Listing.{list_conditions, listed_by, listed}
@@ -19,11 +18,11 @@ Lent = List (List (List ℕ))
 
 by_case : (rows lent : List Row) (lent' : Lent) (o : Option Refusal)
     → listed_by (map row_numbers rows) lent' o ≡ told lent' (listed_by rows lent o).rows (listed_by rows lent o).answer
-by_case rows lent lent' none =
+by_case rows lent lent' None =
     let n = length-map rows row_numbers in
     let t = sym (take-append_seam rows (drop (length rows) lent)) in
-    λ i. record { answer = Accepted (n i); rows = map row_numbers (t i) ++ drop (n i) lent' }
-by_case rows lent lent' (some r) = refl
+    λ i. record { answer = Ok (n i); rows = map row_numbers (t i) ++ drop (n i) lent' }
+by_case rows lent lent' (Some r) = refl
 
 pub in_numbers : InNumbers
 unfolding listed listed_numbers

@@ -1,17 +1,14 @@
 -- A row of a lock list in numbers, seven times three of them, and a listing in such rows.
-use Rattle.std.specs.Prelude.{cond, List, [], ◌∷◌, map, ℕ, length}
+use Rattle.std.specs.Prelude.{cond, List, [], ◌∷◌, map, ℕ, length, Option, None, Some}
 use Rattle.product.specs.declared.literal.Key.{Key}
 use Rattle.product.specs.declared.literal.Literal.{Literal}
 use Rattle.product.specs.declared.literal.Literal.TheVariants.{Plain, Barred}
 use Rattle.product.specs.Atom.{number_of}
 use Rattle.formula.specs.Spelling.{letter_of}
 use Rattle.base.specs.Conditions.{first_refusal}
-use Rattle.model.specs.declared.answer.Answer.{Answer}
+use Rattle.model.specs.Answers.{Answer}
 use Rattle.model.specs.State.{State}
 use Rattle.model.specs.Cells.{Cells, state_of}
-use Rattle.rows.specs.declared.row.Content.{Content}
-use Rattle.rows.specs.declared.row.Content.TheVariants.{Blank, Signed}
-use Rattle.rows.specs.declared.row.Slot.{Slot}
 use Rattle.rows.specs.declared.row.Row.{Row}
 use Rattle.rows.specs.Rows.{rows_for}
 use Rattle.rows.specs.Listing.{list_conditions, Listed, listed_by, Lists}
@@ -25,12 +22,9 @@ literal_numbers (Plain k) = key_numbers k 0
 literal_numbers (Barred k) = key_numbers k 1
 
 -- no letter is 0
-abbrev pub content_numbers : Content → List ℕ
-content_numbers Blank = 0 ∷ 0 ∷ 0 ∷ []
-content_numbers (Signed x) = literal_numbers x
-
-unfoldable pub slot_numbers : Slot → List ℕ
-slot_numbers x = content_numbers x.content
+abbrev pub slot_numbers : Option Literal → List ℕ
+slot_numbers None = 0 ∷ 0 ∷ 0 ∷ []
+slot_numbers (Some x) = literal_numbers x
 
 -- the lock, its operations and 1 where it is a deny lock, and then each slot
 abbrev pub row_numbers : Row → List (List ℕ)

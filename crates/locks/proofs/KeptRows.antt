@@ -68,10 +68,6 @@ module _ {lock : ℕ} {t t' : Table} {i to : ℕ} (inv : ClosedUp lock i t t' to
         low = omega (arith, inv.low);
       }
 
--- where two ways meet, the invariant of the values that one of them left
-pub packing_same : {lock n : ℕ} {t t₁ t₂ : Table} {k₁ k₂ : ℕ} → t₁ ≡ t₂ → k₁ ≡ k₂ → ClosedUp lock n t t₂ k₂ → ClosedUp lock n t t₁ k₁
-packing_same e f inv = rw (e, f) inv
-
 pub packing_whole : {lock n m k : ℕ} {t t' : Table} → m ≡ n → ClosedUp lock m t t' k → ClosedUp lock n t t' k
 packing_whole e inv = rw (← e) inv
 

@@ -1,3 +1,4 @@
+pub mod FirstFound
 pub mod LiteralCells
 pub mod AddedRows
 pub mod CompiledRows

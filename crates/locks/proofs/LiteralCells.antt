@@ -1,51 +1,59 @@
 -- The row of a compiled product: the literal of each of the compiler's numbers has its cell, and a product is stored as
 -- its row.
+use Rattle.std.proofs.lemmas.List.{set-append_left}
 use mathlib.Core.Path.{◌≡◌, refl, sym, ap, ap₂, ◌∙◌}
 use mathlib.Core.List.{[], ◌∷◌, ◌++◌, map, append_assoc}
 use Prim.Native.Nat.{ℕ, zero, suc, ◌+◌, ◌-◌, ◌*◌, ◌≤◌, ◌<◌}
+use native.Mathlib.Numerals.{add-one}
 use native.Mathlib.Omega.{arith}
 use lib.Dec.{ltb}
-use lib.ListN.{length, get_or, replicate, length-append, length-map, length-replicate, replicate-append-replicate}
+use lib.ListN.{length, get_or, set, replicate, length-append, length-map, length-replicate, replicate-append-replicate}
 use lib.Seq.{get_or_at}
 use borrow.Author.Tests.{lt-ltb, le-ltb, ltb-true, ltb-false}
-use Rattle.product.specs.declared.literal.Key.{Key}
-use Rattle.product.specs.declared.literal.Literal.{Literal}
-use Rattle.product.specs.declared.literal.Literal.TheVariants.{Barred}
 use Rattle.product.specs.Product.{Product, All, no_more, and_more}
 use Rattle.product.specs.Code.{code_of, literal_of, Numbered}
-use Rattle.product.specs.Sum.{most_literals}
 use Rattle.product.specs.Cells.{size_of, row_of}
 use Rattle.product.proofs.StoredSums.{literal_back}
 use Rattle.formula.specs.Compiler.{Kept}
 use Rattle.base.specs.Lists.{each}
-use Rattle.base.specs.Counts.{Counted}
-use Rattle.model.specs.Cells.{Row, cell, key_cell, barred_by, literal_cell, head}
+use Rattle.model.specs.Cells.{Row, cell, literal_cell, head}
 use Rattle.model.specs.Stores.{product_row}
-use Rattle.base.proofs.Lists.{case_bool, each_suc, each_same}
-use Rattle.locks.specs.Internal.{Below, cell_in, row_from}
+use Rattle.base.proofs.Lists.{case_bool, each_suc, each_same, each_set, length_each}
+use Rattle.locks.specs.Internal.{cell_in, row_from}
 
 -- ---- what the code makes
 
-pub key_below : {k l : Key} {r : ℕ} → l ≡ k → r ≡ key_cell k → r < 327680 → Below 327680 (key_cell l) r
-key_below e is low = record { is = is ∙ ap key_cell (sym e); low = low }
+-- a row with the cells of the first n literals
+abbrev pub with_literals : ℕ → Row → ℕ → Row
+with_literals first w n = first ∷ each (cell_in n w) 0 6 ++ 0 ∷ []
 
-pub barred_cell : {k : Key} {l : Literal} {a b : ℕ} → l ≡ Barred k → Below 327680 (key_cell k) a → Below 65537 (barred_by k) b → a + b ≡ literal_cell l
-barred_cell e a b = ap₂ (λ (x y : ℕ). x + y) a.is b.is ∙ ap literal_cell (sym e)
+pub no_literals : (first : ℕ) (w : Row) → first ∷ 0 ∷ 0 ∷ 0 ∷ 0 ∷ 0 ∷ 0 ∷ 0 ∷ [] ≡ with_literals first w 0
+unfolding cell_in
+no_literals first w = refl
 
-module _ (w : Row) (n : ℕ) where
-  pub no_cell : (i : ℕ) → n ≤ i → 0 ≡ cell_in n w i
-  unfolding cell_in
-  no_cell i h = simp (le-ltb i n h)
+one_more : (w : Row) (i j : ℕ) → (j ≡ i → ⊥) → cell_in (suc i) w j ≡ cell_in i w j
+unfolding cell_in
+one_more w i j h =
+    case_bool (ltb j i)
+    (λ e. let l = ltb-true j i e in simp (e, lt-ltb j (suc i) (omega arith)))
+    (λ e. let l = ltb-false j i e in simp (e, le-ltb j (suc i) (omega arith)))
 
-  pub a_cell : (i : ℕ) {l : Literal} {r : ℕ} → i < n → l ≡ literal_of (cell w i) → r ≡ literal_cell l → r ≡ cell_in n w i
-  unfolding cell_in
-  a_cell i h e q = q ∙ ap literal_cell e ∙ simp (lt-ltb i n h)
+pub next_literal : (first : ℕ) (w : Row) (i : ℕ) {row : Row} {x : ℕ} → row ≡ with_literals first w i → i < 6 → x ≡ literal_cell (literal_of (cell w i))
+    → set row (i + 1) x ≡ with_literals first w (i + 1)
+unfolding cell_in
+next_literal first w i {row} {x} e h c =
+    let own : x ≡ cell_in (suc i) w i = c ∙ simp (lt-ltb i (suc i) (omega arith)) in
+    let more : each (cell_in (suc i) w) 0 6 ≡ set (each (cell_in i w) 0 6) i (cell_in (suc i) w i) =
+    each_set (cell_in (suc i) w) (cell_in i w) 6 i 0 h (λ j l. one_more w i j l) in
+    rw (e, add-one i, own)
+    (ap (λ (r : Row). first ∷ r)
+    (set-append_left (each (cell_in i w) 0 6) (0 ∷ []) i (cell_in (suc i) w i) (omega (arith, length_each (cell_in i w) 0 6))
+    ∙ ap (λ (r : Row). r ++ 0 ∷ []) (sym more)))
 
-  pub row_made : (lock operations : ℕ) {a b c d e f : ℕ} → Counted (cell w 7) most_literals n → a ≡ cell_in n w 0 → b ≡ cell_in n w 1 → c ≡ cell_in n w 2
-      → d ≡ cell_in n w 3 → e ≡ cell_in n w 4 → f ≡ cell_in n w 5
-      → (lock * 65536 + n * 16 + operations) ∷ a ∷ b ∷ c ∷ d ∷ e ∷ f ∷ 0 ∷ [] ≡ row_from lock operations w
-  unfolding row_from
-  row_made lock operations z p q r s t u = rw (p, q, r, s, t, u, z.count)
+pub row_made : (lock operations : ℕ) (w : Row) {row : Row} {n i : ℕ} → n ≡ size_of w → row ≡ with_literals (lock * 65536 + n * 16 + operations) w i → i ≡ n
+    → row ≡ row_from lock operations w
+unfolding row_from
+row_made lock operations w size e h = rw (e, h, size)
 
 -- ---- which is a product's row
 

@@ -1,35 +1,42 @@
--- The used rows: those before the first that begins with 0, which the count of them scans for, and which end the
--- question whether a row is of a lock.
+-- The used rows: those before the first that begins with 0, which the count of them takes, and which are asked whether
+-- one is of a lock.
+use Rattle.std.specs.Prelude.{Option, None, Some}
+use Rattle.std.specs.Option.{unwrap_or}
+use Rattle.std.specs.List.{list_any, position}
 use mathlib.Core.Path.{◌≡◌, refl, ap, ◌∙◌}
-use mathlib.Core.Bool.{Bool}
-use mathlib.Core.List.{[], ◌∷◌, map-id}
-use Prim.Native.Nat.{ℕ, suc, ◌≤◌}
+use mathlib.Core.Bool.{Bool, ◌||◌}
+use mathlib.Core.List.{[], ◌∷◌}
+use Prim.Native.Nat.{ℕ, suc}
 use native.Mathlib.Omega.{arith}
-use lib.Dec.{eqb}
-use lib.ListN.{length}
-use Rattle.base.specs.Lists.{index_of, each}
+use lib.ListN.{length, take}
+use Rattle.base.specs.Lists.{any, index_of}
 use Rattle.model.specs.Limits.{most_standing}
-use Rattle.model.specs.Cells.{Row, Table, cell, row_at, used_rows}
+use Rattle.model.specs.Cells.{Table, used_rows}
 use Rattle.base.proofs.Lists.{case_bool}
-use Rattle.base.proofs.Scans.{each_read, Asks}
-use Rattle.locks.specs.Internal.{UsedCount, is_of, has_row}
-
-abbrev pub ends : Row → Bool
-ends w = eqb (cell w 0) 0
+use Rattle.model.proofs.Refinement.ProductRows.{take_used, length_used}
+use Rattle.locks.proofs.FirstFound.{first_some, first_none}
+use Rattle.locks.specs.Internal.{ends, UsedCount, is_of, has_row}
 
 used_index : (t : Table) → index_of ends t ≡ length (used_rows t)
 used_index [] = refl
 used_index (w ∷ t) = case_bool (ends w) (λ e. simp e) (λ e. simp e (ap suc (used_index t)))
 
--- where the scan ends
-pub used_count : {t : Table} {rows r : ℕ} → rows ≡ length t → rows ≡ most_standing → r ≤ rows → r ≡ index_of ends (each (row_at t) 0 rows)
-    → UsedCount t r
-used_count {t} size most low e =
-    record {
-      count = e ∙ ap (λ (n : ℕ). index_of ends (each (row_at t) 0 n)) size ∙ ap (index_of ends) (each_read (λ w. w) [] t ∙ map-id t) ∙ used_index t;
-      low = omega arith;
-      inside = omega arith;
-    }
+-- the place of the first that begins with 0, or as many as there are
+pub used_count : {t : Table} → length t ≡ most_standing → (o : Option ℕ) → o ≡ position ends t → {r : ℕ} → r ≡ unwrap_or o most_standing → UsedCount t r
+used_count {t} most None e f =
+    let i = used_index t in
+    let h = first_none ends t e in
+    let l = length_used t in
+    record { count = f ∙ omega arith; low = omega arith }
+used_count {t} most (Some n) e f =
+    let i = used_index t in
+    let (s, h) = first_some ends t e in
+    record { count = f ∙ s ∙ i; low = omega arith }
 
-pub row_asked : (lock : ℕ) → Asks (has_row lock) ends (is_of lock)
-row_asked lock = record { none = refl; stop = λ v w e. simp e; more = λ v w e. simp e }
+asked : (lock : ℕ) (t : Table) → list_any (is_of lock) t ≡ any (is_of lock) t
+asked lock [] = refl
+asked lock (w ∷ t) = ap (λ (b : Bool). is_of lock w || b) (asked lock t)
+
+pub row_asked : (lock n : ℕ) (t : Table) {r : Bool} → UsedCount t n → r ≡ list_any (is_of lock) (take n t) → r ≡ has_row lock t
+row_asked lock n t used e =
+    e ∙ ap (λ (m : ℕ). list_any (is_of lock) (take m t)) used.count ∙ ap (list_any (is_of lock)) (take_used t) ∙ asked lock (used_rows t)

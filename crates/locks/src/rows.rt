@@ -1,62 +1,53 @@
 // The product rows of one segment's standing locks, each with its lock number: the used ones are those before the first
 // that begins with 0.
-ghost use Rattle.std.specs.Prelude.{◌≡◌, ◌+◌, ◌≤◌, ◌<◌, length};
-ghost use Rattle.model.specs.Limits.{most_segments, most_standing};
+ghost use Rattle.std.specs.Prelude.{◌≡◌, ◌+◌, ◌≤◌, position};
+ghost use Rattle.std.specs.List.{list_any};
+ghost use Rattle.model.specs.Limits.{most_standing};
 ghost use Rattle.model.specs.Stores.{end_rows, store_rows};
-ghost use Rattle.locks.specs.Internal.{UsedCount, has_row, HomeFound, ClosedUp, Dropped, set_limit, rows_from};
+ghost use Rattle.locks.specs.Internal.{ends, UsedCount, is_of, has_row, segment_of_lock};
+ghost use Rattle.locks.specs.Internal.{ClosedUp, Dropped, rows_from};
 
-use crate::cells::product_row;
-use base::lengths::count_rows;
+use crate::cells::Lock;
 use formula::text::Compiled;
-use model::arrays::{LOCK_UNIT, Locks, Products};
+use model::arrays::{LOCK_UNIT, Products};
 
 // How many rows are used.
 pub(crate) fn used(products: &Products) -> usize
     ensures { UsedCount products.now result }
 {
-    let rows = count_rows(products);
-    let mut i: usize = 0;
-    while i < rows {
-        if products[i][0] == 0 {
-            return i;
-        }
-        i += 1;
-    }
-    rows
+    end(products).unwrap_or(products.len())
+}
+
+fn end(products: &Products) -> Option<usize>
+    ensures { result ≡ position ends products.now }
+{
+    products.iter().position(|row| row[0] == 0)
 }
 
 // Whether a used row is of the lock.
 fn has_row(products: &Products, lock: u16) -> bool
     ensures { result ≡ has_row lock products.now }
 {
-    let rows = count_rows(products);
-    let mut i: usize = 0;
-    while i < rows {
-        let head = products[i][0];
-        if head == 0 {
-            return false;
-        }
-        if head / LOCK_UNIT == lock as u32 {
-            return true;
-        }
-        i += 1;
-    }
-    false
+    some_is_of(&products[..used(products)], lock)
 }
 
-// The first of the first n segments that has a row of the lock; n where none has.
-pub(crate) fn segment_of(locks: &Locks, n: usize, lock: u16) -> usize
-    requires { n ≤ most_segments }
-    ensures { HomeFound lock n locks.now result }
+fn some_is_of(rows: &[[u32; 8]], lock: u16) -> bool
+    ensures { result ≡ list_any (is_of lock) rows.now }
 {
-    let mut s: usize = 0;
-    while s < n {
-        if has_row(&locks[s], lock) {
-            return s;
-        }
-        s += 1;
-    }
-    n
+    rows.iter().any(|row| is_of(row, lock))
+}
+
+fn is_of(row: &[u32; 8], lock: u16) -> bool
+    ensures { result ≡ is_of lock row.now }
+{
+    row[0] / LOCK_UNIT == lock as u32
+}
+
+// The first of the segments that has a row of the lock.
+pub(crate) fn segment_of(locks: &[Products], lock: u16) -> Option<usize>
+    ensures { result ≡ segment_of_lock lock locks.now }
+{
+    locks.iter().position(|products| has_row(products, lock))
 }
 
 // Drops the rows of the lock, closes up the others, and answers how many went.
@@ -70,52 +61,37 @@ pub(crate) fn drop_rows(products: &mut Products, lock: u16) -> usize
 }
 
 // Stores the rows of a lock's products from row `from` on.
-pub(crate) fn add_rows(
-    products: &mut Products,
-    from: usize,
-    lock: u16,
-    operations: u16,
-    compiled: Compiled,
-)
-    requires { (from + compiled.count ≤ most_standing) × (operations < set_limit) }
+pub(crate) fn add_rows(products: &mut Products, from: usize, lock: Lock, compiled: Compiled)
+    requires { from + compiled.count ≤ most_standing }
     ensures { products.new
-        ≡ store_rows from (rows_from lock operations compiled) products.old }
+        ≡ store_rows from (rows_from lock.number lock.operations.bits compiled) products.old }
 {
-    let count = compiled.count;
-    let rows = compiled.rows;
-    let mut k: usize = 0;
-    while k < count {
-        let row = rows[k];
-        let cells = row.cells;
-        products[from + k] = product_row(&cells, lock, operations);
-        k += 1;
+    for k in 0..compiled.count {
+        products[from + k] = lock.row(&compiled.rows[k]);
     }
-    end_rows(products, from + count);
+    end_rows(products, from + compiled.count);
 }
 
 // Marks the end of the rows before row n; after the last row there is no mark.
 pub(crate) fn end_rows(products: &mut Products, n: usize)
     ensures { products.new ≡ end_rows products.old n }
 {
-    if n < count_rows(products) {
+    if n < products.len() {
         products[n][0] = 0;
     }
 }
 
 // Moves those of the first n rows that are not of the lock to the front, and answers how many they are.
 fn close_up(products: &mut Products, n: usize, lock: u16) -> usize
-    requires { (n ≤ most_standing) × (n ≤ length products.old) }
+    requires { n ≤ most_standing }
     ensures { ClosedUp lock n products.old products.new result }
 {
-    let mut from: usize = 0;
-    let mut to: usize = 0;
-    while from < n {
-        let head = products[from][0];
-        if head / LOCK_UNIT != lock as u32 {
+    let mut to = 0;
+    for from in 0..n {
+        if !is_of(&products[from], lock) {
             products[to] = products[from];
             to += 1;
         }
-        from += 1;
     }
     to
 }

@@ -5,14 +5,15 @@ use mathlib.Core.List.{List}
 use Prim.Native.Nat.{ℕ}
 use Rattle.product.specs.declared.literal.Key.{Key}
 use Rattle.product.specs.declared.literal.Key.TheVariants.{Defined}
+use Rattle.std.specs.Cmp.{Equal-is}
 use Rattle.product.specs.Atom.{compare_atoms}
-use Rattle.product.proofs.Comparison.{is_equal_lem, compare_equal, compare_same}
+use Rattle.product.proofs.Comparison.{compare_equal, compare_same}
 use Rattle.base.proofs.Lists.{case_bool, same_truth, all_members, any_and, any_keep, any_same}
 use Rattle.model.specs.Threads.{same_key, is_in}
 use Rattle.model.specs.Effects.{without}
 
 pub same_key_lem : (j k : Key) → same_key j k ≡ true → j ≡ k
-same_key_lem j k e = compare_equal j k (is_equal_lem (compare_atoms j k) e)
+same_key_lem j k e = compare_equal j k ((Equal-is (compare_atoms j k)).0 e)
 
 pub key_same : (j k : Key) → j ≡ k → same_key j k ≡ true
 key_same j k e = ap (same_key j) (sym e) ∙ (let o = compare_same j in rw o)

@@ -1,10 +1,10 @@
 -- Document 01's table of refusals, and what document 02 adds to it: the number and the second number of each, and
 -- whether an answer is one. Refusals 16 and 17 are a file's, and not the guard's; 19 is a lock list's, and no call's.
-use Rattle.std.specs.Prelude.{Bool, true, false, ℕ}
+use Rattle.std.specs.Prelude.{Bool, true, false, ℕ, Result, Ok, Err}
+use Rattle.formula.specs.declared.text.Refusal.{Refusal as TextRefusal}
+use Rattle.formula.specs.declared.text.Refusal.TheVariants as text
 use Rattle.model.specs.declared.answer.Refusal.{Refusal}
 use Rattle.model.specs.declared.answer.Refusal.TheVariants.{UnknownUser, NoThread, NoSegment, NoKey, NoLock, NotOwner, Unfit, AlreadyPresent, NotPresent, Full, Malformed, TooWide, Unsatisfiable, Denied, NotGranted, Corrupt, TooFewRows}
-use Rattle.model.specs.declared.answer.Answer.{Answer}
-use Rattle.model.specs.declared.answer.Answer.TheVariants.{Accepted, Refused}
 
 -- 'its number and, with 14, the lock, else 0'
 abbrev pub numbers_of : Refusal → ℕ × ℕ
@@ -32,15 +32,25 @@ refusal_number r = (numbers_of r).0
 abbrev pub second_number : Refusal → ℕ
 second_number r = (numbers_of r).1
 
+-- the refusal of a lock text
+abbrev pub of_text : TextRefusal → Refusal
+of_text text.Malformed = Malformed
+of_text text.TooWide = TooWide
+of_text text.Unsatisfiable = Unsatisfiable
+
+-- what a call answers: the number that the table of the twelve calls gives its letter, or a refusal
+abbrev pub Answer : Type 0
+Answer = Result ℕ Refusal
+
 -- of an answer: the number of the refusal, 0 where the call is accepted, and the value, the answer or the second number
 abbrev pub answer_number : Answer → ℕ
-answer_number (Accepted n) = 0
-answer_number (Refused r) = refusal_number r
+answer_number (Ok n) = 0
+answer_number (Err r) = refusal_number r
 
 abbrev pub answer_value : Answer → ℕ
-answer_value (Accepted n) = n
-answer_value (Refused r) = second_number r
+answer_value (Ok n) = n
+answer_value (Err r) = second_number r
 
 abbrev pub is_accepted : Answer → Bool
-is_accepted (Accepted n) = true
-is_accepted (Refused r) = false
+is_accepted (Ok n) = true
+is_accepted (Err r) = false

@@ -1,18 +1,15 @@
 -- Document 01, 'The history', line by line: what is read from a list of calls, each with its answer or refusal. Nothing
 -- of the state is fed to it.
-use Rattle.std.specs.Prelude.{Bool, ◌&&◌, not, cond, List, [], ◌∷◌, ◌++◌, map, ℕ, suc, eqb}
-use Rattle.std.proofs.Math.Option.{none}
+use Rattle.std.specs.Prelude.{Bool, ◌&&◌, not, cond, List, [], ◌∷◌, ◌++◌, map, ℕ, suc, eqb, Ok, Err, None, Some}
 use Rattle.product.specs.declared.literal.Key.{Key}
 use Rattle.product.specs.declared.literal.Key.TheVariants.{Segment as SegmentKey, Defined}
 use Rattle.call.specs.declared.request.Request.{Request}
 use Rattle.call.specs.declared.request.Request.TheVariants as request
-use Rattle.call.specs.declared.request.Decoded.{Decoded}
-use Rattle.call.specs.declared.request.Decoded.TheVariants.{WellFormed, Corrupt as NotWellFormed}
+use Rattle.call.specs.Calls.{Decoded}
 use Rattle.call.specs.Calls.{Call, decoded}
 use Rattle.call.specs.Letters as letters
 use Rattle.call.specs.Requests.{call_of}
-use Rattle.model.specs.declared.answer.Answer.{Answer}
-use Rattle.model.specs.declared.answer.Answer.TheVariants.{Accepted, Refused}
+use Rattle.model.specs.Answers.{Answer}
 use Rattle.model.specs.Answers.{is_accepted}
 use Rattle.base.specs.Lists.{Map, put, remove, adjust, any, keep, map_option, or_default, tail_of}
 use Rattle.model.specs.Threads.{Frame, Thread, same_key}
@@ -43,7 +40,7 @@ pub record History : Type 0 where
 
 -- 'It starts empty.'
 abbrev pub empty_history : History
-empty_history = record { threads = λ n. none; segments = λ n. none; locks = [] }
+empty_history = record { threads = λ n. None; segments = λ n. None; locks = [] }
 
 abbrev pub with_threads : History → Map Thread → History
 with_threads h threads = record { threads = threads; segments = h.segments; locks = h.locks }
@@ -103,9 +100,9 @@ note h (request.ReturnCall a) text n = with_threads h (adjust h.threads a (on_fr
 
 -- 'Refused calls .. change nothing in it.'
 abbrev pub note_answer : History → Decoded → List ℕ → Answer → History
-note_answer h NotWellFormed text r = h
-note_answer h (WellFormed q) text (Accepted n) = note h q text n
-note_answer h (WellFormed q) text (Refused r) = h
+note_answer h None text r = h
+note_answer h (Some q) text (Ok n) = note h q text n
+note_answer h (Some q) text (Err r) = h
 
 -- 'fed each call's letter, fields and text together with its answer or refusal'
 pub record Event : Type 0 where

@@ -1,17 +1,14 @@
 -- Document 01, 'The history': the check of a C or an A, read from the history.
-use Rattle.std.specs.Prelude.{◌≡◌, Bool, true, false, ◌&&◌, not, ℕ, eqb, ltb, length}
+use Rattle.std.specs.Prelude.{◌≡◌, Bool, true, false, ◌&&◌, not, ℕ, eqb, ltb, length, Ok, Err, Option, None, Some}
 use mathlib.Core.List.{map, Memᴰ}
-use Rattle.std.proofs.Math.Option.{Option, none, some}
 use Rattle.product.specs.Product.{opens}
 use Rattle.formula.specs.Meaning.{Meaning}
 use Rattle.formula.specs.Compiler.{Compiler}
 use Rattle.call.specs.declared.request.Request.{Request}
 use Rattle.call.specs.declared.request.Request.TheVariants.{CallSegment, Access}
-use Rattle.call.specs.declared.request.Decoded.TheVariants.{WellFormed}
 use Rattle.call.specs.Calls.{Call, decoded}
 use Rattle.model.specs.declared.answer.Refusal.TheVariants.{Full, Denied, NotGranted}
-use Rattle.model.specs.declared.answer.Answer.{Answer}
-use Rattle.model.specs.declared.answer.Answer.TheVariants.{Accepted, Refused}
+use Rattle.model.specs.Answers.{Answer}
 use Rattle.base.specs.Lists.{any, keep, first, greatest, maximum}
 use Rattle.model.specs.Limits.{most_frames}
 use Rattle.model.specs.Operations.{execute, denies, grants, takes, is_access}
@@ -47,10 +44,10 @@ is_known (accesses a b c) = is_access c
 
 -- 'An operation fits when its call isn't 18, an A's c is 2 or 4, and its segment is handed out and takes it.'
 pub record Fits (h : History) (next : Call) (o : Operation) : Type 0 where
-  pub well_formed : decoded next ≡ WellFormed (request_of o)
+  pub well_formed : decoded next ≡ Some (request_of o)
   pub known : is_known o ≡ true
   pub entry : Entry
-  pub handed_out : h.segments (target_of o) ≡ some entry
+  pub handed_out : h.segments (target_of o) ≡ Some entry
   pub taken : takes entry.kind (operation_of o) ≡ true
 
 -- 'for a C, fewer than sixteen of the run's calls are open'
@@ -82,10 +79,10 @@ pub record Granted (holds : Meaning) (h : History) (o : Operation) (t : Thread) 
 -- a check's answer: 'If a deny lock opens, the lowest one's number goes with refusal 14. Otherwise' comes a grant
 -- lock's that opens, 'and 15 if none opens.' Then comes 10.
 abbrev pub check_answer : Option Lock → Option Lock → Bool → Answer
-check_answer (some l) g room = Refused (Denied l.number)
-check_answer none none room = Refused NotGranted
-check_answer none (some l) false = Refused Full
-check_answer none (some l) true = Accepted l.number
+check_answer (Some l) g room = Err (Denied l.number)
+check_answer None None room = Err NotGranted
+check_answer None (Some l) false = Err Full
+check_answer None (Some l) true = Ok l.number
 
 module _ (compile : Compiler) where
   -- the signed keys of a lock's longest product that opens for a key set, 0 where none opens

@@ -1,7 +1,6 @@
 -- Document 01, 'Operations and the check' and the table of refusals: the check, and for each of the twelve calls the
 -- list of its refusals, in the table's order. The compiler of formula texts is a parameter.
-use Rattle.std.specs.Prelude.{Bool, true, false, ◌&&◌, ◌||◌, not, List, [], ◌∷◌, ℕ, suc, ◌+◌, eqb, ltb, length}
-use Rattle.std.proofs.Math.Option.{Option}
+use Rattle.std.specs.Prelude.{Bool, true, false, ◌&&◌, ◌||◌, not, List, [], ◌∷◌, ℕ, suc, ◌+◌, eqb, ltb, length, Option}
 use Rattle.product.specs.declared.literal.Key.TheVariants.{Defined}
 use Rattle.product.specs.Product.{opens}
 use Rattle.formula.specs.Outcome.{Outcome, accepted, malformed, too_wide, unsatisfiable, sum_in}

@@ -5,7 +5,7 @@ use Rattle.formula.specs.Outcome.{outcome_of}
 use Rattle.call.specs.declared.request.Request.{Request}
 use Rattle.call.specs.Calls.{Call}
 use Rattle.base.specs.Conditions.{first_refusal}
-use Rattle.model.specs.declared.answer.Answer.{Answer}
+use Rattle.model.specs.Answers.{Answer}
 use Rattle.model.specs.Refusals.{conditions}
 use Rattle.model.specs.Cells.{Cells, state_of}
 use Rattle.model.specs.Stores.{judged_cells, step_cells}

@@ -1,7 +1,6 @@
 -- The protection state (document 01: desk) as short lists and records, and what is read of it. In what follows d is
 -- one.
-use Rattle.std.specs.Prelude.{Bool, true, false, not, cond, List, [], ◌∷◌, ℕ, ◌%◌, eqb, ltb, length, get_or, replicate}
-use Rattle.std.proofs.Math.Option.{Option, none, some}
+use Rattle.std.specs.Prelude.{Bool, true, false, not, cond, List, [], ◌∷◌, ℕ, ◌%◌, eqb, ltb, length, get_or, replicate, Option, None, Some}
 use Rattle.product.specs.declared.literal.Key.{Key}
 use Rattle.product.specs.declared.literal.Key.TheVariants.{Segment as SegmentKey}
 use Rattle.product.specs.Product.{Product}
@@ -106,8 +105,8 @@ abbrev pub place_for : ℕ → (Place → Bool) → List Place → ℕ
 place_for n p places = cond (p (get_or places (n % most_threads) free)) (n % most_threads) (index_of p places)
 
 abbrev pub thread_in : Place → Option Thread
-thread_in free = none
-thread_in (taken k t) = some t
+thread_in free = None
+thread_in (taken k t) = Some t
 
 abbrev pub place_of : ℕ → List Place → ℕ
 place_of n places = place_for n (is_thread n) places

@@ -1,7 +1,6 @@
 -- What an accepted call stores in the arrays, and one call on them. Conditions and answers are those of the state that
 -- the arrays hold, so that the table of refusals stands once.
-use Rattle.std.specs.Prelude.{not, cond, List, [], ◌∷◌, ◌++◌, map, ℕ, zero, suc, ◌+◌, ◌-◌, eqb, length, set, replicate}
-use Rattle.std.proofs.Math.Option.{Option, none, some}
+use Rattle.std.specs.Prelude.{not, cond, List, [], ◌∷◌, ◌++◌, map, ℕ, zero, suc, ◌+◌, ◌-◌, eqb, length, set, replicate, Ok, Err, Option, None, Some}
 use Rattle.std.proofs.lemmas.List.Edits.{sets}
 use Rattle.product.specs.Product.{Product}
 use Rattle.product.specs.Sum.{Sum}
@@ -9,14 +8,12 @@ use Rattle.formula.specs.Outcome.{sum_in}
 use Rattle.formula.specs.Compiler.{Compiler}
 use Rattle.call.specs.declared.request.Request.{Request}
 use Rattle.call.specs.declared.request.Request.TheVariants as request
-use Rattle.call.specs.declared.request.Decoded.{Decoded}
-use Rattle.call.specs.declared.request.Decoded.TheVariants.{WellFormed, Corrupt as NotWellFormed}
+use Rattle.call.specs.Calls.{Decoded}
 use Rattle.call.specs.Calls.{Call, decoded}
 use Rattle.base.specs.Conditions.{first_refusal}
 use Rattle.model.specs.declared.answer.Refusal.{Refusal}
 use Rattle.model.specs.declared.answer.Refusal.TheVariants.{Corrupt}
-use Rattle.model.specs.declared.answer.Answer.{Answer}
-use Rattle.model.specs.declared.answer.Answer.TheVariants.{Accepted, Refused}
+use Rattle.model.specs.Answers.{Answer}
 use Rattle.base.specs.Lists.{keep}
 use Rattle.model.specs.State.{user_of, is_free, place_for, place_of, lock_segment, issued}
 use Rattle.model.specs.Refusals.{conditions}
@@ -132,12 +129,12 @@ module _ (compile : Compiler) where
   -- ---- one call
 
   abbrev pub judged_cells : Cells → Request → List ℕ → Option Refusal → record { cells : Cells; answer : Answer }
-  judged_cells d q text none = record { cells = store d q text; answer = Accepted (answer compile (state_of d) q text) }
-  judged_cells d q text (some r) = record { cells = d; answer = Refused r }
+  judged_cells d q text None = record { cells = store d q text; answer = Ok (answer compile (state_of d) q text) }
+  judged_cells d q text (Some r) = record { cells = d; answer = Err r }
 
   abbrev pub step_cells_decoded : Cells → Decoded → List ℕ → record { cells : Cells; answer : Answer }
-  step_cells_decoded d NotWellFormed text = record { cells = d; answer = Refused Corrupt }
-  step_cells_decoded d (WellFormed q) text =
+  step_cells_decoded d None text = record { cells = d; answer = Err Corrupt }
+  step_cells_decoded d (Some q) text =
       judged_cells d q text (first_refusal (conditions compile (state_of d) q text))
 
   unfoldable pub step_cells : Cells → Call → record { cells : Cells; answer : Answer }

@@ -2,7 +2,8 @@
 use Rattle.std.specs.Prelude.{Bool, ◌||◌, List, ℕ}
 use Rattle.product.specs.declared.literal.Key.{Key}
 use Rattle.product.specs.declared.literal.Key.TheVariants.{User, Thread as ThreadKey}
-use Rattle.product.specs.Atom.{is_equal, compare_atoms}
+use Rattle.std.specs.Ordering.{is_eq}
+use Rattle.product.specs.Atom.{compare_atoms}
 use Rattle.base.specs.Lists.{any}
 
 -- an open call: its segment, and the keys that it hands over: the list that it got when made, 'less what was taken
@@ -17,7 +18,7 @@ pub record Thread : Type 0 where
   pub frames : List Frame
 
 abbrev pub same_key : Key → Key → Bool
-same_key j k = is_equal (compare_atoms j k)
+same_key j k = is_eq (compare_atoms j k)
 
 abbrev pub is_in : Key → List Key → Bool
 is_in k keys = any (same_key k) keys

@@ -1,10 +1,12 @@
 // What a call answers.
 ghost use Rattle.std.specs.Prelude.{◌≡◌};
-ghost use Rattle.model.specs.Answers.{refusal_number, second_number};
+ghost use Rattle.model.specs.Answers.{of_text, refusal_number, second_number};
+
+use formula::text;
 
 // Document 01's table of refusals, and what document 02 adds to it; beside each stands its number and word. Refusals 16
-// and 17 are a file's alone.
-#[derive(Clone, Copy)]
+// and 17 are a file's alone. A file's and a text's are enums of their own, so that a type says which can come.
+#[derive(Clone, Copy, PartialEq, Eq)]
 pub enum Refusal {
     // 1, stranger
     UnknownUser,
@@ -42,44 +44,55 @@ pub enum Refusal {
     TooFewRows,
 }
 
+impl Refusal {
+    // Document 01's number of it. Methods and no `From`: a refusal has two numbers.
+    pub fn number(self) -> u16
+        ensures { result ≡ refusal_number self }
+    {
+        match self {
+            Refusal::UnknownUser => 1,
+            Refusal::NoThread => 2,
+            Refusal::NoSegment => 3,
+            Refusal::NoKey => 4,
+            Refusal::NoLock => 5,
+            Refusal::NotOwner => 6,
+            Refusal::Unfit => 7,
+            Refusal::AlreadyPresent => 8,
+            Refusal::NotPresent => 9,
+            Refusal::Full => 10,
+            Refusal::Malformed => 11,
+            Refusal::TooWide => 12,
+            Refusal::Unsatisfiable => 13,
+            Refusal::Denied(_) => 14,
+            Refusal::NotGranted => 15,
+            Refusal::Corrupt => 18,
+            Refusal::TooFewRows => 19,
+        }
+    }
+
+    // Its second number.
+    pub fn second(self) -> u16
+        ensures { result ≡ second_number self }
+    {
+        match self {
+            Refusal::Denied(lock) => lock,
+            _ => 0,
+        }
+    }
+}
+
+// A lock text's refusal.
+impl From<text::Refusal> for Refusal {
+    ghost from_gives = { λ refused refusal. refusal ≡ of_text refused };
+
+    fn from(refused: text::Refusal) -> Refusal {
+        match refused {
+            text::Refusal::Malformed => Refusal::Malformed,
+            text::Refusal::TooWide => Refusal::TooWide,
+            text::Refusal::Unsatisfiable => Refusal::Unsatisfiable,
+        }
+    }
+}
+
 // The number that the table of the twelve calls gives each letter, of a lock list the number of rows, or a refusal.
-#[derive(Clone, Copy)]
-pub enum Answer {
-    Accepted(u16),
-    Refused(Refusal),
-}
-
-// Document 01's number of a refusal.
-pub fn number(refusal: Refusal) -> u16
-    ensures { result ≡ refusal_number refusal }
-{
-    match refusal {
-        Refusal::UnknownUser => 1,
-        Refusal::NoThread => 2,
-        Refusal::NoSegment => 3,
-        Refusal::NoKey => 4,
-        Refusal::NoLock => 5,
-        Refusal::NotOwner => 6,
-        Refusal::Unfit => 7,
-        Refusal::AlreadyPresent => 8,
-        Refusal::NotPresent => 9,
-        Refusal::Full => 10,
-        Refusal::Malformed => 11,
-        Refusal::TooWide => 12,
-        Refusal::Unsatisfiable => 13,
-        Refusal::Denied(_) => 14,
-        Refusal::NotGranted => 15,
-        Refusal::Corrupt => 18,
-        Refusal::TooFewRows => 19,
-    }
-}
-
-// Its second number.
-pub fn second(refusal: Refusal) -> u16
-    ensures { result ≡ second_number refusal }
-{
-    match refusal {
-        Refusal::Denied(lock) => lock,
-        _ => 0,
-    }
-}
+pub type Answer = Result<u16, Refusal>;

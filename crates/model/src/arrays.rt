@@ -1,5 +1,6 @@
 // The arrays that the host lends, which hold the protection state (document 01: desk), and the places of their cells.
-// What they hold is said in `specs/Cells`.
+// What they hold is said in `specs/Cells`. C lends them one by one, as arrays of numbers: so functions take one by one
+// those that they need, and in a cell a kind, a key's code or a set of operations is a number.
 
 pub type Row = [u16; 8];
 

@@ -2,7 +2,8 @@
 ghost use Rattle.std.specs.Prelude.{◌≡◌};
 ghost use Rattle.model.specs.Operations.{takes, is_access, takes_set, shares};
 
-// A set of operations, the sum of their numbers; with DENY among them a lock's set is a deny lock's.
+// A set of operations, the sum of their numbers; with DENY among them a lock's set is a deny lock's. Document 01 asks
+// for associated constants: an access and a lock name their operations by any number, and C and a lock's row hold it.
 #[derive(Clone, Copy)]
 pub struct Operations {
     pub bits: u32,
@@ -28,19 +29,18 @@ impl Operations {
     pub fn fits(self, kind: u16) -> bool
         ensures { result ≡ takes_set kind self.bits }
     {
-        let bits = self.bits;
-        let executes = bits & Operations::EXECUTE != 0;
-        let reads = bits & Operations::READ != 0;
-        let writes = bits & Operations::WRITE != 0;
+        let executes = self.has(Operations::EXECUTE);
+        let reads = self.has(Operations::READ);
+        let writes = self.has(Operations::WRITE);
         if kind == 0 {
-            (bits < 16) & executes & !reads & !writes
+            (self.bits < 16) & executes & !reads & !writes
         } else {
-            (bits < 16) & !executes & (reads | writes)
+            (self.bits < 16) & !executes & (reads | writes)
         }
     }
 }
 
-// Whether a segment of that kind takes the operation.
+// Whether a segment of that kind takes the operation: any numbers, as they stand in a call and in a lent cell.
 pub fn is_taken(operation: u32, kind: u16) -> bool
     ensures { result ≡ takes kind operation }
 {

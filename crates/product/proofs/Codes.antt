@@ -1,8 +1,8 @@
--- A number is that of the literal which it stands for, the code reads and writes such numbers, and its tests on keys
--- and literals are those of their order. The idea: a key's number is a pair of kind and number, read as two digits of
--- base 65,536, and a literal's a pair of key and sign, of base 2.
-use mathlib.Core.Path.{◌≡◌, refl, sym, ap, ap₂, ◌∙◌}
-use mathlib.Core.Bool.{Bool, true, false, not, cond, ◌&&◌, and-true}
+-- A number is that of the literal which it stands for, and the code reads and writes such numbers. The idea: a key's
+-- number is a pair of kind and number, read as two digits of base 65,536, and a literal's a pair of key and sign, of
+-- base 2.
+use mathlib.Core.Path.{◌≡◌, refl, sym, ap, ◌∙◌}
+use mathlib.Core.Bool.{Bool, true, false, cond}
 use Prim.Native.Nat.{ℕ, ◌+◌, ◌*◌, ◌-◌, ◌/◌, ◌%◌, ◌≤◌, ◌<◌}
 use native.Mathlib.Omega.{arith}
 use lib.Dec.{ltb, eqb}
@@ -11,12 +11,8 @@ use Rattle.product.specs.declared.literal.Key.{Key}
 use Rattle.product.specs.declared.literal.Key.TheVariants.{User, Thread, Segment, Defined}
 use Rattle.product.specs.declared.literal.Literal.{Literal}
 use Rattle.product.specs.declared.literal.Literal.TheVariants.{Plain, Barred}
-use Rattle.product.specs.Atom.{Order, Less, Equal, Greater, is_less, is_equal, kind_of, number_of, order_of, then_by, compare_atoms, atom_of, sign_of, compare_literals}
-use Rattle.product.specs.Product.{same, before, opposed}
-use Rattle.product.specs.Code.{key_code, code_of, key_at, literal_at, literal_of, Encoded}
-use Rattle.product.specs.Internal.{EncodedKey}
-use Rattle.base.proofs.Truth.{and_not_self}
-use Rattle.product.proofs.NumberOrder.{less_order, equal_order, greater_order, order_cases, order_tests}
+use Rattle.product.specs.Atom.{kind_of, number_of, atom_of, sign_of}
+use Rattle.product.specs.Code.{key_code, code_of, key_at, literal_at, literal_of, Encoded, EncodedKey}
 
 -- keys
 
@@ -117,127 +113,6 @@ plain_encoded {l} {k} {c} e h = record { code = rw (e, h.code) (omega arith); ba
 pub barred_encoded : {l : Literal} {k : Key} {c : ℕ} → l ≡ Barred k → EncodedKey k c → Encoded l (2 * c + 1)
 unfolding code_of
 barred_encoded {l} {k} {c} e h = record { code = rw (e, h.code); back = barred_at c ∙ rw (h.back, e); low = omega (arith, h.small) }
-
--- the tests on keys by their kinds and numbers, and on literals by their keys and signs
-
-equal_both : (o p : Order) → is_equal (then_by o p) ≡ (is_equal o && is_equal p)
-equal_both Less p = refl
-equal_both Equal p = refl
-equal_both Greater p = refl
-
-module _ (a b : Key) {k l : ℕ} (e : k ≡ kind_of a) (f : l ≡ kind_of b) where
-  pub keys_same : {m n : ℕ} → m ≡ number_of a → n ≡ number_of b → (eqb k l && eqb m n) ≡ is_equal (compare_atoms a b)
-  unfolding compare_atoms
-  keys_same {m} {n} g h =
-      rw (e, f, g, h)
-      (sym (equal_both (order_of (kind_of a) (kind_of b)) (order_of (number_of a) (number_of b))
-      ∙ ap₂ (λ (x y : Bool). x && y) (order_tests (kind_of a) (kind_of b)).1 (order_tests (number_of a) (number_of b)).1))
-
-  pub kind_same : {m n : ℕ} → k ≡ l → m ≡ number_of a → n ≡ number_of b → ltb m n ≡ is_less (compare_atoms a b)
-  unfolding compare_atoms
-  kind_same {m} {n} s g h =
-      let o : order_of (kind_of a) (kind_of b) ≡ Equal = equal_order (sym e ∙ s ∙ f) in
-      rw (g, h, o) (sym (order_tests (number_of a) (number_of b)).0)
-
-  pub kind_other : (k ≡ l → ⊥) → ltb k l ≡ is_less (compare_atoms a b)
-  unfolding compare_atoms
-  kind_other d =
-      order_cases (λ o. ltb k l ≡ is_less (then_by o (order_of (number_of a) (number_of b)))) (kind_of a) (kind_of b)
-      (λ h. lt-ltb k l (omega (arith, e, f)))
-      (λ h. absurd (d (omega (arith, e, f))))
-      (λ h. le-ltb k l (omega (arith, e, f)))
-
--- the other way round
-turned_round : (a b : Key) → not (is_less (compare_atoms b a)) ≡ is_less (then_by (compare_atoms a b) Less)
-unfolding compare_atoms
-turned_round a b =
-    order_cases
-    (λ o. not (is_less (then_by (order_of (kind_of b) (kind_of a)) (order_of (number_of b) (number_of a)))) ≡ is_less (then_by (then_by o (order_of (number_of a) (number_of b))) Less))
-    (kind_of a) (kind_of b)
-    (λ h. rw (greater_order h))
-    (λ h. rw (equal_order (sym h))
-    (order_cases (λ o. not (is_less (order_of (number_of b) (number_of a))) ≡ is_less (then_by o Less)) (number_of a) (number_of b)
-    (λ i. rw (greater_order i)) (λ i. rw (equal_order (sym i))) (λ i. rw (less_order i))))
-    (λ h. rw (less_order h))
-
-less_then : (o : Order) → is_less (then_by o Equal) ≡ is_less o
-less_then Less = refl
-less_then Equal = refl
-less_then Greater = refl
-
-less_not : (o : Order) → is_less (then_by o Greater) ≡ is_less o
-less_not Less = refl
-less_not Equal = refl
-less_not Greater = refl
-
-equal_then : (o : Order) → is_equal (then_by o Equal) ≡ is_equal o
-equal_then Less = refl
-equal_then Equal = refl
-equal_then Greater = refl
-
-never_equal : (o p : Order) → is_equal p ≡ false → is_equal (then_by o p) ≡ false
-never_equal Less p e = refl
-never_equal Equal p e = e
-never_equal Greater p e = refl
-
--- literals, by their signs: plain where the truth value is true
-
-abbrev pub signed : Bool → Key → Literal
-signed true a = Plain a
-signed false a = Barred a
-
-abbrev sign_order : Bool → Bool → Order
-sign_order true true = Equal
-sign_order true false = Less
-sign_order false true = Greater
-sign_order false false = Equal
-
-abbrev pub alike : Bool → Bool → Bool
-alike true q = q
-alike false q = not q
-
-compare_signed : (p q : Bool) (a b : Key) → compare_literals (signed p a) (signed q b) ≡ then_by (compare_atoms a b) (sign_order p q)
-unfolding compare_literals order_of
-compare_signed true true a b = refl
-compare_signed true false a b = refl
-compare_signed false true a b = refl
-compare_signed false false a b = refl
-
-equal_signed : (p q : Bool) (o : Order) → is_equal (then_by o (sign_order p q)) ≡ (alike p q && is_equal o)
-equal_signed true true o = equal_then o
-equal_signed true false o = never_equal o Less refl
-equal_signed false true o = never_equal o Greater refl
-equal_signed false false o = equal_then o
-
-less_signed : (p q : Bool) (a b : Key)
-    → is_less (then_by (compare_atoms a b) (sign_order p q)) ≡ cond (p && not q) (not (is_less (compare_atoms b a))) (is_less (compare_atoms a b))
-less_signed true true a b = less_then (compare_atoms a b)
-less_signed true false a b = sym (turned_round a b)
-less_signed false true a b = less_not (compare_atoms a b)
-less_signed false false a b = less_then (compare_atoms a b)
-
-atom_signed : (p : Bool) (a : Key) → atom_of (signed p a) ≡ a
-atom_signed true a = refl
-atom_signed false a = refl
-
-but_not_both : (n c : Bool) → (c && not (n && c)) ≡ (not n && c)
-but_not_both true c = and_not_self c
-but_not_both false c = and-true c
-
--- the tests of two literals, by those of their keys
-module _ (p q : Bool) {x y : Literal} (a b : Key) (e : x ≡ signed p a) (f : y ≡ signed q b) where
-  pub same_signed : same x y ≡ (alike p q && is_equal (compare_atoms a b))
-  same_signed =
-      ap₂ same e f ∙ ap is_equal (compare_signed p q a b) ∙ equal_signed p q (compare_atoms a b)
-
-  pub before_signed : before x y ≡ cond (p && not q) (not (is_less (compare_atoms b a))) (is_less (compare_atoms a b))
-  before_signed = ap₂ before e f ∙ ap is_less (compare_signed p q a b) ∙ less_signed p q a b
-
-  pub opposed_signed : opposed x y ≡ (not (alike p q) && is_equal (compare_atoms a b))
-  opposed_signed =
-      ap₂ (λ (c n : Bool). c && not n)
-      (ap₂ (λ (k l : Key). is_equal (compare_atoms k l)) (ap atom_of e ∙ atom_signed p a) (ap atom_of f ∙ atom_signed q b)) same_signed
-      ∙ but_not_both (alike p q) (is_equal (compare_atoms a b))
 
 -- the key of a number, by its first digit
 

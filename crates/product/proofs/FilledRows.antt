@@ -1,22 +1,23 @@
 -- Rows being filled with products. The idea: up to 8 products the rows are at every moment the cells of the sum that
 -- they read as, and capping a list at each step is capping it at the end.
+use Rattle.std.specs.Prelude.{None, Some}
+use Rattle.std.specs.List.{list_any}
 use mathlib.Core.Path.{◌≡◌, refl, sym, ap, ◌∙◌}
 use mathlib.Core.Bool.{Bool, true, false, cond, ◌&&◌, ◌||◌, and-false, and-true}
 use mathlib.Core.List.{List, [], ◌∷◌, ◌++◌, map, map-append}
-use mathlib.Core.Option.{none, some}
 use Prim.Native.Nat.{ℕ, zero, suc, ◌+◌, ◌-◌, ◌≤◌, ◌<◌}
 use native.Mathlib.Omega.{arith}
 use lib.Dec.{leb}
-use lib.ListN.{length, get_or, set, take, drop, replicate, length-append, length-map, length-take, length-replicate}
+use lib.ListN.{length, set, take, replicate, length-append, length-map, length-take, length-replicate}
 use lib.Seq.{append_snoc, set_at}
 use borrow.Author.Tests.{le-leb, lt-leb, leb-true}
 use Rattle.product.specs.Product.{Product, same, contradictory, same_product}
 use Rattle.product.specs.Sum.{Sum, Sum?, join_all, conjoin, disjoin, present, consistent, firsts, tidy, narrow, fits_node, cap, joined}
 use Rattle.product.specs.Code.{literal_of}
 use Rattle.product.specs.Cells.{size_of, product_of, products_of, sum_of, row_of, blank_row, rows_of, HoldsSum}
-use Rattle.product.specs.Internal.{add, add_to, add_each, Clean, Filled, Row}
+use Rattle.product.specs.Internal.{add, add_to, add_each, Clean, Row}
 use Rattle.base.proofs.Truth.{and_both}
-use Rattle.base.proofs.Parts.{part_snoc, length_part, part_cons, part_past}
+use Rattle.base.proofs.Parts.{part_snoc, length_part}
 
 -- lists of products: how wide they are
 
@@ -53,7 +54,7 @@ fits_add ps p = go (contradictory p || present p ps)
 cap_add : (ps : Sum) (p : Product) → add_to (cap ps) p ≡ cap (add ps p)
 cap_add ps p = go (fits_node ps) (fits_node (add ps p)) refl refl
   where
-    go : (a b : Bool) → fits_node ps ≡ a → fits_node (add ps p) ≡ b → add_to (cond a (some ps) none) p ≡ cond b (some (add ps p)) none
+    go : (a b : Bool) → fits_node ps ≡ a → fits_node (add ps p) ≡ b → add_to (cond a (Some ps) None) p ≡ cond b (Some (add ps p)) None
     go true b e f = rw f
     go false true e f = let h = fits_add ps p f in cc
     go false false e f = refl
@@ -71,7 +72,7 @@ unfolding add_each firsts consistent
 cap_each found [] = refl
 cap_each found (p ∷ ps) = ap (λ (x : Sum?). add_each x ps) (cap_add found p) ∙ cap_each (add found p) ps ∙ ap cap (firsts_add found p ps)
 
-pub each_tidy : (ps : Sum) → add_each (some []) ps ≡ cap (tidy ps)
+pub each_tidy : (ps : Sum) → add_each (Some []) ps ≡ cap (tidy ps)
 unfolding fits_node narrow
 each_tidy ps = cap_each [] ps
 
@@ -98,10 +99,10 @@ rows_fit : (n : ℕ) (rows : List (List ℕ)) → n ≤ 8 → fits_node (product
 unfolding fits_node
 rows_fit n rows h = rw (le-leb (length (products_of n rows)) 8 (omega (arith, length_rows n rows)), narrow_rows n rows)
 
-pub sum_few : {n : ℕ} (rows : List (List ℕ)) → n ≤ 8 → sum_of n rows ≡ some (products_of n rows)
+pub sum_few : {n : ℕ} (rows : List (List ℕ)) → n ≤ 8 → sum_of n rows ≡ Some (products_of n rows)
 sum_few {n} rows h = rw (le-leb n 8 h)
 
-pub sum_wide : {n : ℕ} (rows : List (List ℕ)) → 8 < n → sum_of n rows ≡ none
+pub sum_wide : {n : ℕ} (rows : List (List ℕ)) → 8 < n → sum_of n rows ≡ None
 sum_wide {n} rows h = rw (lt-leb n 8 h)
 
 -- rows that are the cells of their sum
@@ -118,13 +119,16 @@ module _ {rows : List (List ℕ)} {n : ℕ} (h : n ≤ 8) (c : Clean rows n) whe
   pub clean_count : length (products_of n rows) ≡ n
   clean_count = length_part product_of rows n (omega (arith, clean_length))
 
--- a loop that looks for a product among the first n rows: what is left at i, and at the end
-module _ (rows : List (List ℕ)) (n : ℕ) (c : n ≤ length rows) (i : ℕ) where
-  pub present_next : i < n → drop i (products_of n rows) ≡ product_of (get_or rows i []) ∷ drop (i + 1) (products_of n rows)
-  present_next h = part_cons product_of rows n c i [] h
+-- a product looked for among rows
+pub present_some : (p : Product) (rows : List (List ℕ)) → list_any (λ row. same_product p (product_of row)) rows ≡ present p (map product_of rows)
+unfolding present
+present_some p [] = refl
+present_some p (row ∷ rows) = ap (λ (b : Bool). same_product p (product_of row) || b) (present_some p rows)
 
-  pub present_past : n ≤ i → drop i (products_of n rows) ≡ []
-  present_past h = part_past product_of rows n c i h
+-- rows after a step that should make them the sum x
+pub record Filled (x : Sum?) (rows : List (List ℕ)) (n : ℕ) : Type 0 where
+  pub clean : Clean rows n
+  pub reads : sum_of n rows ≡ x
 
 -- adding one product: the ways that `add` returns
 
@@ -143,9 +147,6 @@ long_absent p (q ∷ ps) h n =
     let b = and_both (leb (length q) 6) (narrow ps) n in
     rw (other_length p q (λ e. omega (arith, leb-true (length q) 6 b.0)), long_absent p ps h b.1)
 
-pub filled_wide : {rows : List (List ℕ)} {n : ℕ} (p : Product) → Clean rows n → 8 < n → Filled (add_to (sum_of n rows) p) rows n
-filled_wide {rows} {n} p c h = record { clean = c; reads = rw (sum_wide rows h) }
-
 too_wide_lem : (rows : List (List ℕ)) → Clean rows 9
 too_wide_lem rows = record { bound = omega arith; cells = λ h. let z : ⊥ = omega arith in absurd z }
 
@@ -155,7 +156,7 @@ module _ {rows : List (List ℕ)} {n : ℕ} (h : n ≤ 8) (c : Clean rows n) (p 
   filled_skip e = record { clean = c; reads = rw (sum_few rows h, e, rows_fit n rows h) }
 
   grown : contradictory p ≡ false → present p (products_of n rows) ≡ false
-      → add_to (sum_of n rows) p ≡ cond (leb (n + 1) 8 && leb (length p) 6) (some (products_of n rows ++ p ∷ [])) none
+      → add_to (sum_of n rows) p ≡ cond (leb (n + 1) 8 && leb (length p) 6) (Some (products_of n rows ++ p ∷ [])) None
   unfolding add
   grown a b = rw (sum_few rows h, a, b, fits_snoc (products_of n rows) p (narrow_rows n rows), clean_count h c)
 
@@ -190,56 +191,23 @@ module _ {rows : List (List ℕ)} {n : ℕ} (h : n ≤ 8) (c : Clean rows n) (p 
         reads = sum_few {n = n + 1} (set rows n row) (omega arith) ∙ rw t (sym (grown a b ∙ rw (le-leb (n + 1) 8 (omega arith), le-leb (length p) 6 s)));
       }
 
--- a finished sum
-pub finished : {rows : List (List ℕ)} {n : ℕ} → Clean rows n → n ≤ 8 → HoldsSum (sum_of n rows) rows n
-finished {rows} {n} c h =
-    record { cells = c.cells h ∙ rw (sum_few rows h); count = sym (rw (sum_few rows h) (clean_count h c)); reads = refl }
+-- what is read once a product was added, where x was read before
+pub filled_view : (rows : List (List ℕ)) (n : ℕ) (p : Product) {new : List (List ℕ)} {r : ℕ} {x : Sum?} → sum_of n rows ≡ x → Filled (add_to (sum_of n rows) p) new r → sum_of r new ≡ add_to x p
+filled_view rows n p v f = f.reads ∙ ap (λ (y : Sum?). add_to y p) v
 
-pub blanked : (rows : List (List ℕ)) (n : ℕ) → 8 < n → HoldsSum (sum_of n rows) (rows_of []) 9
-blanked rows n h = record { cells = rw (sum_wide rows h); count = rw (sum_wide rows h); reads = rw (sum_wide rows h) }
-
--- a loop that adds products: what is left to add makes the total
-pub record Adding (total : Sum?) (rest : Sum) (rows : List (List ℕ)) (n : ℕ) : Type 0 where
-  pub clean : Clean rows n
-  pub whole : total ≡ add_each (sum_of n rows) rest
-
-pub adding_start : {rows : List (List ℕ)} {n : ℕ} (ps : Sum) → Clean rows n → Adding (add_each (sum_of n rows) ps) ps rows n
-adding_start ps c = record { clean = c; whole = refl }
-
-module _ {total : Sum?} {rest : Sum} {rows : List (List ℕ)} {n : ℕ} (a : Adding total rest rows n) where
-  -- several products are added, or one
-  pub adding_more : {new : List (List ℕ)} {r : ℕ} (ps more : Sum) → rest ≡ ps ++ more → Filled (add_each (sum_of n rows) ps) new r → Adding total more new r
-  adding_more ps more e f =
-      record { clean = f.clean; whole = a.whole ∙ rw (e, each_append (sum_of n rows) ps more) (ap (λ (x : Sum?). add_each x more) (sym f.reads)) }
-
-  pub adding_next : {new : List (List ℕ)} {r : ℕ} (p : Product) (more : Sum) → rest ≡ p ∷ more → Filled (add_to (sum_of n rows) p) new r → Adding total more new r
-  unfolding add_each
-  adding_next p more e f = adding_more (p ∷ []) more e (record { clean = f.clean; reads = f.reads })
-
-  pub adding_end : rest ≡ [] → Filled total rows n
-  unfolding add_each
-  adding_end e = record { clean = a.clean; reads = sym (a.whole ∙ rw e) }
-
--- two sums joined: the left one too wide, the right one, and neither
+-- two sums joined, neither of them too wide
 module _ (g : Sum → Sum → Sum) (left right : List (List ℕ)) (n m : ℕ) where
-  pub left_wide : 8 < n → HoldsSum (joined g (sum_of n left) (sum_of m right)) (rows_of []) 9
-  left_wide h = let e = sum_wide left h in record { cells = rw e; count = rw e; reads = rw e }
+  neither_wide : {x : Sum?} {out : List (List ℕ)} {c : ℕ} → n ≤ 8 → m ≤ 8 → x ≡ cap (g (products_of n left) (products_of m right))
+      → HoldsSum x out c → HoldsSum (joined g (sum_of n left) (sum_of m right)) out c
+  neither_wide h k e w = rw (sum_few left h, sum_few right k, ← e) w
 
-  pub right_wide : n ≤ 8 → 8 < m → HoldsSum (joined g (sum_of n left) (sum_of m right)) (rows_of []) 9
-  right_wide h k = let e = sum_few left h in let d = sum_wide right k in record { cells = rw (e, d); count = rw (e, d); reads = rw (e, d) }
-
-  neither_wide : {x : Sum?} {rows out : List (List ℕ)} {k c : ℕ} → n ≤ 8 → m ≤ 8 → Filled x rows k → x ≡ cap (g (products_of n left) (products_of m right))
-      → HoldsSum (sum_of k rows) out c → HoldsSum (joined g (sum_of n left) (sum_of m right)) out c
-  neither_wide h k f e w = rw (sum_few left h, sum_few right k, ← e, ← f.reads) w
-
-module _ (left right : List (List ℕ)) (n m : ℕ) (h : n ≤ 8) (k : m ≤ 8) {rows out : List (List ℕ)} {j c : ℕ} where
-  pub conjoined : Filled (add_each (some []) (join_all (products_of n left) (products_of m right))) rows j → HoldsSum (sum_of j rows) out c
+module _ (left right : List (List ℕ)) (n m : ℕ) (h : n ≤ 8) (k : m ≤ 8) {x : Sum?} {out : List (List ℕ)} {c : ℕ} where
+  pub conjoined : x ≡ add_each (Some []) (join_all (products_of n left) (products_of m right)) → HoldsSum x out c
       → HoldsSum (joined conjoin (sum_of n left) (sum_of m right)) out c
-  conjoined f w = neither_wide conjoin left right n m h k f (each_tidy (join_all (products_of n left) (products_of m right))) w
+  conjoined e w = neither_wide conjoin left right n m h k (e ∙ each_tidy (join_all (products_of n left) (products_of m right))) w
 
-  pub disjoined : {new : List (List ℕ)} {i : ℕ} → Filled (add_each (some []) (products_of n left)) new i → Filled (add_each (sum_of i new) (products_of m right)) rows j
-      → HoldsSum (sum_of j rows) out c → HoldsSum (joined disjoin (sum_of n left) (sum_of m right)) out c
-  disjoined d f w =
-      let ps = products_of n left in
-      let qs = products_of m right in
-      neither_wide disjoin left right n m h k f (ap (λ (x : Sum?). add_each x qs) d.reads ∙ sym (each_append (some []) ps qs) ∙ each_tidy (ps ++ qs)) w
+  pub disjoined : x ≡ add_each (Some []) (map product_of (take n left ++ take m right)) → HoldsSum x out c
+      → HoldsSum (joined disjoin (sum_of n left) (sum_of m right)) out c
+  disjoined e w =
+      neither_wide disjoin left right n m h k
+      (e ∙ ap (add_each (Some [])) (map-append product_of (take n left) (take m right)) ∙ each_tidy (products_of n left ++ products_of m right)) w

@@ -12,7 +12,7 @@ use borrow.Author.Tests.{eqb-true, eqb-false}
 use Rattle.product.specs.declared.literal.Literal.{Literal}
 use Rattle.product.specs.Product.{Product, same, before, insert}
 use Rattle.product.specs.Code.{literal_of, Encoded}
-use Rattle.product.specs.Internal.{wide_of, Blank, Inserted}
+use Rattle.product.specs.Internal.{wide_of, Blank}
 use Rattle.product.proofs.Codes.{encoded_read}
 use Rattle.base.proofs.Parts.{blank_next, length_part, part_cons, part_past, part_snoc, part_step, part_after, part_cut}
 
@@ -30,15 +30,31 @@ wide_past {cells} {n} b i h = part_past literal_of cells n (omega (arith, b.most
 pub wide_length : {cells : List ℕ} {n : ℕ} → Blank cells n → length (wide_of n cells) ≡ n
 wide_length {cells} {n} b = length_part literal_of cells n (omega (arith, b.most, blank_length b))
 
+-- x put among n literals of sixteen cells
+pub record Inserted (x : Literal) (n : ℕ) (old cells : List ℕ) (r : ℕ) : Type 0 where
+  pub product : wide_of r cells ≡ insert x (wide_of n old)
+  pub blank : Blank cells r
+  pub few : r ≤ n + 1
+
+-- of the product that they are
+
+module _ {cells : List ℕ} {n : ℕ} {p : Product} (b : Blank cells n) (v : wide_of n cells ≡ p) where
+  pub view_length : length p ≡ n
+  view_length = ap length (sym v) ∙ wide_length b
+
+  pub room_left : length p < 12 → n < 12
+  room_left h = omega (arith, view_length)
+
+  pub inserted : {x : Literal} {new : List ℕ} {r k : ℕ} → k ≡ r → Inserted x n cells new r
+      → (wide_of k new ≡ insert x p) × (length (wide_of k new) ≤ length p + 1) × Blank new k
+  inserted {x} e t = rw e (t.product ∙ ap (insert x) v, omega (arith, t.few, wide_length t.blank, view_length), t.blank)
+
 pub record Placing (x : Literal) (n : ℕ) (old cells : List ℕ) (carried : Literal) (i : ℕ) : Type 0 where
   pub below : i ≤ n
   pub size : length cells ≡ 16
   pub past : drop n cells ≡ replicate (16 - n) 0
   pub coded : (j : ℕ) → j < n → get_or cells j 0 < 524288
   pub whole : insert x (wide_of n old) ≡ wide_of i cells ++ insert carried (drop i (wide_of n cells))
-
-pub placing_start : (x : Literal) (n : ℕ) (old : List ℕ) → Blank old n → Placing x n old old x 0
-placing_start x n old b = record { below = omega arith; size = blank_length b; past = b.rest; coded = b.coded; whole = refl }
 
 -- a number of a literal, stored
 stored : (cells : List ℕ) (n i v : ℕ) → i < length cells → v < 524288 → ((j : ℕ) → j < n → (j ≡ i → ⊥) → get_or cells j 0 < 524288)
@@ -119,6 +135,11 @@ module _ {x : Literal} {n : ℕ} {old cells : List ℕ} {carried : Literal} {i :
             };
         few = omega arith;
       }
+
+-- the same where the count is said in another way
+pub placing_last : {x : Literal} {n : ℕ} {old cells : List ℕ} {carried : Literal} {i : ℕ} → n < 12 → Placing x n old cells carried i → n ≤ i
+    → {k v : ℕ} → k ≡ n → Encoded carried v → Inserted x n old (set cells k v) (n + 1)
+placing_last s p h e d = rw e (placing_end s p h d)
 
 pub placing_as : {x : Literal} {n : ℕ} {old cells cells' : List ℕ} {carried carried' : Literal} {i : ℕ} → cells' ≡ cells → carried' ≡ carried → Placing x n old cells carried i → Placing x n old cells' carried' i
 placing_as {x} {n} {old} {cells} {cells'} {carried} {carried'} {i} e f p =

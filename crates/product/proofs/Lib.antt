@@ -1,11 +1,11 @@
 pub mod Codes
 pub mod Examples
 pub mod Comparison
+pub mod DerivedOrders
 pub mod EveryLiteral
 pub mod FilledRows
 pub mod Insertion
 pub mod KeySets
-pub mod NumberOrder
 pub mod OrderedProducts
 pub mod StoredSums
 pub mod Valuations

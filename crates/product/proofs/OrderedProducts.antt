@@ -1,15 +1,18 @@
 -- Products are kept in order. Inserting keeps literals strictly rising; where none are opposed, rising literals have
 -- rising keys; and rising keys are no key twice. So single literals, and what AND and OR make of sums in order, are in
 -- order.
-use mathlib.Core.Path.{◌≡◌, refl}
+use mathlib.Core.Path.{◌≡◌, refl, ap, ◌∙◌}
 use mathlib.Core.Bool.{Bool, true, false, not, cond, ◌&&◌}
 use mathlib.Core.List.{[], ◌∷◌}
 use Rattle.product.specs.declared.literal.Literal.{Literal}
-use Rattle.product.specs.Atom.{Order, Less, Equal, Greater, atom_of, order_of, sign_of, then_by, is_less, is_equal, compare_atoms, compare_literals}
+use Rattle.std.specs.declared.cmp.Ordering.{Ordering}
+use Rattle.std.specs.declared.cmp.Ordering.TheVariants.{Less, Equal, Greater}
+use Rattle.std.specs.Ordering.{ordering_reverse, nat_cmp, ordering_then, is_lt, is_eq}
+use Rattle.product.specs.Atom.{atom_of, sign_of, compare_atoms, compare_literals}
 use Rattle.product.specs.Product.{Product, same, before, insert, union, opposed, clashes, contradictory, leads, ordered, names, once, All, no_more, and_more}
 use Rattle.product.specs.Sum.{Sum, tidy, conjoin, disjoin}
 use Rattle.base.proofs.Truth.{and_both, both_and, neither, false_not}
-use Rattle.product.proofs.Comparison.{atoms, literals, is_less_lem}
+use Rattle.product.proofs.Comparison.{atoms, literals, is_lt_less}
 use Rattle.product.proofs.EveryLiteral.{all_append, all_tidy, all_join, Consistent, tidy_consistent}
 
 -- literals that strictly rise, from above a lower bound
@@ -24,7 +27,7 @@ data Rising : Product → Type 0 where
 
 above_lower : {w x : Literal} {p : Product} → compare_literals w x ≡ Less → Above x p → Above w p
 above_lower h nothing = nothing
-above_lower {w} {x} h (first {x = y} k) = first (literals.transitive w x y h k)
+above_lower {w} {x} h (first {x = y} k) = first (literals.trans w x y h k)
 
 above_insert : (w x : Literal) (p : Product) → compare_literals w x ≡ Less → Above w p → Above w (insert x p)
 unfolding insert
@@ -41,11 +44,11 @@ unfolding insert
 rising_insert x end = more nothing end
 rising_insert x (more {x = y} {p} a r) = go (λ z. rising_insert z r) (compare_literals x y) refl
   where
-    go : ((z : Literal) → Rising (insert z p)) → (o : Order) → compare_literals x y ≡ o
-        → Rising (cond (is_equal o) (y ∷ p) (cond (is_less o) x y ∷ insert (cond (is_less o) y x) p))
+    go : ((z : Literal) → Rising (insert z p)) → (o : Ordering) → compare_literals x y ≡ o
+        → Rising (cond (is_eq o) (y ∷ p) (cond (is_lt o) x y ∷ insert (cond (is_lt o) y x) p))
     go ih Less e = more (above_insert x y p e (above_lower e a)) (ih y)
     go ih Equal e = more a r
-    go ih Greater e = more (above_insert y x p (literals.greater_back x y e) a) (ih x)
+    go ih Greater e = more (above_insert y x p (literals.antisymm y x ∙ ap ordering_reverse e) a) (ih x)
 
 rising_union : {p : Product} (q : Product) → Rising p → Rising (union p q)
 unfolding union
@@ -57,7 +60,7 @@ rising_union {p} (x ∷ q) r = rising_union {p = insert x p} q (rising_insert x 
 leads_above : (x : Literal) (p : Product) → leads x p ≡ true → Above x p
 unfolding compare_literals
 leads_above x [] h = nothing
-leads_above x (y ∷ p) h = first {x = y} (rw (is_less_lem (compare_atoms (atom_of x) (atom_of y)) h))
+leads_above x (y ∷ p) h = first {x = y} (rw (is_lt_less (compare_atoms (atom_of x) (atom_of y)) h))
 
 ordered_rising : (p : Product) → ordered p ≡ true → Rising p
 unfolding ordered
@@ -73,8 +76,8 @@ unfolding clashes compare_literals
 above_leads x nothing c = refl
 above_leads x (first {x = y} {p} h) c = go (compare_atoms (atom_of x) (atom_of y)) refl h (neither (opposed x y) (clashes x p) c).0
   where
-    go : (o : Order) → compare_atoms (atom_of x) (atom_of y) ≡ o → then_by o (order_of (sign_of x) (sign_of y)) ≡ Less
-        → (is_equal o && not (is_equal (then_by o (order_of (sign_of x) (sign_of y))))) ≡ false → is_less o ≡ true
+    go : (o : Ordering) → compare_atoms (atom_of x) (atom_of y) ≡ o → ordering_then o (nat_cmp (sign_of x) (sign_of y)) ≡ Less
+        → (is_eq o && not (is_eq (ordering_then o (nat_cmp (sign_of x) (sign_of y))))) ≡ false → is_lt o ≡ true
     go Less e k n = refl
     go Equal e k n = let z : true ≡ false = rw k at n in cc
     go Greater e k n = cc
@@ -113,15 +116,15 @@ unfolding names ordered
 less_names x [] h o = refl
 less_names x (y ∷ p) h o =
     let b = and_both (leads y p) (ordered p) o in
-    let l = is_less_lem (compare_atoms (atom_of x) (atom_of y)) h in
+    let l = is_lt_less (compare_atoms (atom_of x) (atom_of y)) h in
     rw l (less_names x p (leads_lower p b.0) b.1)
   where
     leads_lower : (q : Product) → leads y q ≡ true → leads x q ≡ true
     leads_lower [] k = refl
     leads_lower (z ∷ q) k =
-        let l = is_less_lem (compare_atoms (atom_of x) (atom_of y)) h in
-        let m = is_less_lem (compare_atoms (atom_of y) (atom_of z)) k in
-        rw (atoms.transitive (atom_of x) (atom_of y) (atom_of z) l m)
+        let l = is_lt_less (compare_atoms (atom_of x) (atom_of y)) h in
+        let m = is_lt_less (compare_atoms (atom_of y) (atom_of z)) k in
+        rw (atoms.trans (atom_of x) (atom_of y) (atom_of z) l m)
 
 pub ordered_once : (p : Product) → Ordered p → once p ≡ true
 unfolding ordered once

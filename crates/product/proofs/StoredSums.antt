@@ -1,8 +1,8 @@
 -- Literals, products and sums are read back from their numbers: a literal's number is below 524,288 and stands for it,
 -- so a row's numbers stand for the product's literals.
+use Rattle.std.specs.Prelude.{Some}
 use mathlib.Core.Path.{◌≡◌, refl, ap, ap₂, ◌∙◌}
 use mathlib.Core.List.{List, ◌∷◌, map}
-use mathlib.Core.Option.{some}
 use Prim.Native.Nat.{ℕ, ◌+◌, ◌*◌, ◌-◌, ◌%◌, ◌<◌}
 use native.Mathlib.Omega.{arith}
 use lib.ListN.{length, replicate, length-map}
@@ -13,8 +13,7 @@ use Rattle.product.specs.declared.literal.Literal.TheVariants.{Plain, Barred}
 use Rattle.product.specs.Atom.{number_of}
 use Rattle.product.specs.Product.{Product, All, no_more, and_more}
 use Rattle.product.specs.Sum.{Sum}
-use Rattle.product.specs.Code.{key_code, code_of, literal_at, literal_of, Numbered}
-use Rattle.product.specs.Internal.{EncodedKey}
+use Rattle.product.specs.Code.{key_code, code_of, literal_at, literal_of, Numbered, EncodedKey}
 use Rattle.product.specs.Cells.{product_of, row_of, blank_row, rows_of}
 use Rattle.product.specs.Theorems.StoredSums.{SameReading, LiteralBack, Storable, ProductBack, SumBack}
 use Rattle.product.proofs.Codes.{key_encoded, plain_encoded, barred_encoded}
@@ -57,4 +56,4 @@ rows_back (and_more {x = p} h r) = rw (product_back p h, rows_back r)
 pub sum_back : SumBack
 sum_back ps h s =
     let n : length (map row_of ps) ≡ length ps = length-map ps row_of in
-    sum_few (rows_of ps) h ∙ ap (λ (l : List (List ℕ)). some (map product_of l)) (take_at (map row_of ps) (replicate (8 - length ps) blank_row) (length ps) n) ∙ ap some (rows_back s)
+    sum_few (rows_of ps) h ∙ ap (λ (l : List (List ℕ)). Some (map product_of l)) (take_at (map row_of ps) (replicate (8 - length ps) blank_row) (length ps) n) ∙ ap Some (rows_back s)

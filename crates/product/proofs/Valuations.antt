@@ -10,15 +10,17 @@ use native.Mathlib.Omega.{arith}
 use borrow.Author.Tests.{not-true}
 use Rattle.product.specs.declared.literal.Literal.{Literal}
 use Rattle.product.specs.declared.literal.Literal.TheVariants.{Plain, Barred}
-use Rattle.product.specs.Atom.{Atom, atom_of, agrees, order_of, is_equal, compare_atoms, compare_literals}
+use Rattle.std.specs.Ordering.{is_eq}
+use Rattle.std.specs.Cmp.{Equal-is}
+use Rattle.product.specs.Atom.{Atom, atom_of, agrees, compare_atoms, compare_literals}
 use Rattle.product.specs.Product.{Product, opens, same, before, insert, union, opposed, clashes, contradictory, same_product}
 use Rattle.product.specs.Sum.{Sum, opens_any, join_each, join_all, present, consistent, firsts, tidy, conjoin, disjoin}
 use Rattle.base.proofs.Lists.{clash}
 use Rattle.base.proofs.Truth.{and_left_comm, and_rotate, and_or_left, and_or_right, and_not_self, not_self_and, or_again, or_cases, neither, or_right, and_both, never_true}
-use Rattle.product.proofs.Comparison.{compare_equal, compare_same, literal_equal, literal_same, is_equal_lem}
+use Rattle.product.proofs.Comparison.{compare_equal, compare_same, literal_equal, literal_same}
 
 pub same_equal : (x y : Literal) → same x y ≡ true → x ≡ y
-same_equal x y h = literal_equal x y (is_equal_lem (compare_literals x y) h)
+same_equal x y h = literal_equal x y ((Equal-is (compare_literals x y)).0 h)
 
 pub same_product_lem : (p q : Product) → same_product p q ≡ true → p ≡ q
 unfolding same_product
@@ -34,12 +36,12 @@ same_product_lem (x ∷ p) (y ∷ q) h =
 -- opposed literals are of one atom, and not the same
 opposed_atom : (x y : Literal) → opposed x y ≡ true → atom_of x ≡ atom_of y
 opposed_atom x y h =
-    let e = and_both (is_equal (compare_atoms (atom_of x) (atom_of y))) (not (same x y)) h in
-    compare_equal (atom_of x) (atom_of y) (is_equal_lem (compare_atoms (atom_of x) (atom_of y)) e.0)
+    let e = and_both (is_eq (compare_atoms (atom_of x) (atom_of y))) (not (same x y)) h in
+    compare_equal (atom_of x) (atom_of y) ((Equal-is (compare_atoms (atom_of x) (atom_of y))).0 e.0)
 
 opposed_other : (x y : Literal) → opposed x y ≡ true → x ≡ y → ⊥
 opposed_other x y h i =
-    let e = and_both (is_equal (compare_atoms (atom_of x) (atom_of y))) (not (same x y)) h in
+    let e = and_both (is_eq (compare_atoms (atom_of x) (atom_of y))) (not (same x y)) h in
     let s : same x y ≡ true = rw (i, literal_same y) in
     clash s (not-true (same x y) e.1)
 
@@ -168,7 +170,7 @@ turned (Plain a) = Barred a
 turned (Barred a) = Plain a
 
 turned_opposed : (x : Literal) → opposed x (turned x) ≡ true
-unfolding compare_literals order_of
+unfolding compare_literals
 turned_opposed (Plain a) = rw (compare_same a)
 turned_opposed (Barred a) = rw (compare_same a)
 

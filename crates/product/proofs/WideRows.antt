@@ -8,10 +8,10 @@ use native.Mathlib.Numerals.{add-one}
 use lib.ListN.{length, get_or, set, take, drop, replicate, length-map, length-append, length-replicate, get_or-replicate, take-append-drop, get_or-append}
 use lib.Seq.{take-suc, append_snoc, set_at, get_or_at, get_or-drop, get_or-take, take_at, take-append-add, drop_at, length-take-le}
 use Rattle.product.specs.declared.literal.Literal.{Literal}
-use Rattle.product.specs.Product.{Product, same, union, same_product}
+use Rattle.product.specs.Product.{Product, same, insert, union, same_product}
 use Rattle.product.specs.Code.{code_of, literal_of, Encoded}
 use Rattle.product.specs.Cells.{size_of, product_of}
-use Rattle.product.specs.Internal.{Size, wide_of, Blank, Inserted, Joined, Row}
+use Rattle.product.specs.Internal.{Size, wide_of, Blank, Row}
 use Rattle.product.proofs.Codes.{read_code, low_code, read_again}
 use Rattle.base.proofs.Parts.{get_d_mapped, take_replicate, read, read_take, length_part, part_cons, part_past}
 use Rattle.product.proofs.Insertion.{blank_length}
@@ -40,6 +40,12 @@ Copied row cells i = cells ≡ again (take i row) ++ replicate (16 - i) 0
 
 more_blank : (i : ℕ) → i < 16 → replicate {A = ℕ} (16 - i) 0 ≡ 0 ∷ replicate (16 - (i + 1)) 0
 more_blank i h = let e : 16 - i ≡ suc (16 - (i + 1)) = omega arith in ap (λ (n : ℕ). replicate {A = ℕ} n 0) e
+
+-- sixteen cells hold the product p, of at most `most` literals
+pub record Joined (most : ℕ) (p : Product) (cells : List ℕ) (n : ℕ) : Type 0 where
+  pub product : wide_of n cells ≡ p
+  pub blank : Blank cells n
+  pub few : n ≤ most
 
 module _ {row : List ℕ} {n : ℕ} (z : Size row n) where
   again_taken : (i : ℕ) → i ≤ n → length (again (take i row)) ≡ i
@@ -83,37 +89,27 @@ module _ {row : List ℕ} {n : ℕ} (z : Size row n) where
       }
 
 -- the literals of a second row put among those of a first, up to place i
-pub record Uniting (p : Product) (q cells : List ℕ) (n i : ℕ) : Type 0 where
+pub record Uniting (p : Product) (q : List ℕ) (r : Product) (i : ℕ) : Type 0 where
   pub below : i ≤ size_of q
-  pub blank : Blank cells n
-  pub few : n ≤ 6 + i
-  pub whole : union p (product_of q) ≡ union (wide_of n cells) (drop i (product_of q))
+  pub few : length r ≤ 6 + i
+  pub whole : union p (product_of q) ≡ union r (drop i (product_of q))
 
-pub uniting_start : {p : Product} (q : List ℕ) {cells : List ℕ} {n : ℕ} → Joined 6 p cells n → Uniting p q cells n 0
-uniting_start q j = record { below = omega arith; blank = j.blank; few = omega (arith, j.few); whole = rw j.product }
-
-module _ {p : Product} {q : List ℕ} {m : ℕ} (z : Size q m) {old : List ℕ} {n i : ℕ} (u : Uniting p q old n i) where
+module _ {p : Product} {q : List ℕ} {m : ℕ} (z : Size q m) {r : Product} {i : ℕ} (u : Uniting p q r i) where
   inside : size_of q ≤ length q
   inside = omega (arith, z.size, z.small, z.cells)
 
-  pub uniting_next : {cells : List ℕ} {r : ℕ} → i < m → {x : Literal} → x ≡ literal_of (get_or q i 0) → Inserted x n old cells r → Uniting p q cells r (i + 1)
+  pub uniting_next : {s : Product} → i < m → {x : Literal} → x ≡ literal_of (get_or q i 0) → s ≡ insert x r → length s ≤ length r + 1 → Uniting p q s (i + 1)
   unfolding union
-  uniting_next {cells} {r} h {x} e t =
+  uniting_next h {x} e t l =
       record {
         below = omega (arith, z.size);
-        blank = t.blank;
-        few = omega (arith, t.few, u.few);
-        whole = u.whole ∙ rw (part_cons literal_of q (size_of q) inside i 0 (omega (arith, z.size)), ← e, t.product);
+        few = omega (arith, l, u.few);
+        whole = u.whole ∙ rw (part_cons literal_of q (size_of q) inside i 0 (omega (arith, z.size)), ← e, t);
       }
 
-  pub uniting_end : m ≤ i → Joined 12 (union p (product_of q)) old n
+  pub uniting_end : m ≤ i → r ≡ union p (product_of q)
   unfolding union
-  uniting_end h =
-      record {
-        product = sym (u.whole ∙ rw (part_past literal_of q (size_of q) inside i (omega (arith, z.size))));
-        blank = u.blank;
-        few = u.blank.most;
-      }
+  uniting_end h = sym (u.whole ∙ rw (part_past literal_of q (size_of q) inside i (omega (arith, z.size))))
 
 -- the cells of a product that is given by its literals' numbers
 abbrev row_for : List ℕ → ℕ → List ℕ

@@ -1,7 +1,9 @@
 -- Atoms, which are the keys, their order, and literals. Document 01, 'Keys' and 'Lock text'. Products,
 -- sums, trees and nodes use only how two atoms compare, and that only equal ones compare as Equal, so that an atom can
 -- become something else than a key; how it is spelt, numbered and handed out is said elsewhere.
-use Rattle.std.specs.Prelude.{Bool, true, false, not, ℕ, ltb, eqb}
+use Rattle.std.specs.Prelude.{Bool, not, ℕ}
+use Rattle.std.specs.declared.cmp.Ordering.{Ordering}
+use Rattle.std.specs.Ordering.{nat_cmp, ordering_then}
 use Rattle.product.specs.declared.literal.Key.{Key}
 use Rattle.product.specs.declared.literal.Key.TheVariants.{User, Thread, Segment, Defined}
 use Rattle.product.specs.declared.literal.Literal.{Literal}
@@ -24,25 +26,9 @@ number_of (Thread n) = n
 number_of (Segment n) = n
 number_of (Defined n) = n
 
-pub data Order : Type 0 where
-  Less Equal Greater : Order
-
-abbrev pub pick_order : Bool → Order → Order → Order
-pick_order true a b = a
-pick_order false a b = b
-
-unfoldable pub order_of : ℕ → ℕ → Order
-order_of m n = pick_order (ltb m n) Less (pick_order (eqb m n) Equal Greater)
-
--- the first difference decides
-abbrev pub then_by : Order → Order → Order
-then_by Less o = Less
-then_by Equal o = o
-then_by Greater o = Greater
-
--- U, R, S, D, then by number
-unfoldable pub compare_atoms : Atom → Atom → Order
-compare_atoms a b = then_by (order_of (kind_of a) (kind_of b)) (order_of (number_of a) (number_of b))
+-- U, R, S, D, then by number: the first difference decides
+unfoldable pub compare_atoms : Atom → Atom → Ordering
+compare_atoms a b = ordering_then (nat_cmp (kind_of a) (kind_of b)) (nat_cmp (number_of a) (number_of b))
 
 -- document 01: a signed key holds a key and its kind, plain or barred
 abbrev pub atom_of : Literal → Atom
@@ -54,18 +40,8 @@ sign_of (Plain a) = 0
 sign_of (Barred a) = 1
 
 -- by the atom; plain before barred
-unfoldable pub compare_literals : Literal → Literal → Order
-compare_literals x y = then_by (compare_atoms (atom_of x) (atom_of y)) (order_of (sign_of x) (sign_of y))
-
-abbrev pub is_less : Order → Bool
-is_less Less = true
-is_less Equal = false
-is_less Greater = false
-
-abbrev pub is_equal : Order → Bool
-is_equal Less = false
-is_equal Equal = true
-is_equal Greater = false
+unfoldable pub compare_literals : Literal → Literal → Ordering
+compare_literals x y = ordering_then (compare_atoms (atom_of x) (atom_of y)) (nat_cmp (sign_of x) (sign_of y))
 
 -- under a valuation of the atoms a plain key agrees where it is held, a barred one where it is not
 abbrev pub agrees : (Atom → Bool) → Literal → Bool

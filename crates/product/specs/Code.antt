@@ -44,6 +44,12 @@ literal_of x = literal_at (x % code_limit)
 abbrev pub Numbered : Literal → Type 0
 Numbered x = number_of (atom_of x) < number_limit
 
+-- a key's number, which stands for it
+pub record EncodedKey (k : Key) (c : ℕ) : Type 0 where
+  pub code : c ≡ key_code k
+  pub back : key_at c ≡ k
+  pub small : c < key_limit
+
 -- a literal's number, which stands for it
 pub record Encoded (l : Literal) (x : ℕ) : Type 0 where
   pub code : x ≡ code_of l

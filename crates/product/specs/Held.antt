@@ -1,7 +1,6 @@
 -- A key set as the numbers of its keys, and whether it opens a sum. Document 01, 'Lock text': a key set opens a product
 -- where every plain key is in it and every barred one is not.
-use Rattle.std.specs.Prelude.{Bool, false, ◌||◌, List, [], ◌∷◌, ℕ, eqb}
-use Rattle.std.proofs.Math.Option.{none, some}
+use Rattle.std.specs.Prelude.{Bool, false, ◌||◌, List, [], ◌∷◌, ℕ, eqb, None, Some}
 use Rattle.product.specs.Atom.{Atom}
 use Rattle.product.specs.Sum.{Sum?, opens_any}
 use Rattle.product.specs.Code.{key_code}
@@ -16,5 +15,5 @@ held_by keys a = member (key_code a) keys
 
 -- some product opens; none of a sum that is too wide does
 abbrev pub opens_sum : (Atom → Bool) → Sum? → Bool
-opens_sum ρ none = false
-opens_sum ρ (some ps) = opens_any ρ ps
+opens_sum ρ None = false
+opens_sum ρ (Some ps) = opens_any ρ ps

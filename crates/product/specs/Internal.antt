@@ -1,24 +1,15 @@
 -- What the crate's private functions promise each other. Nothing here is part of what a reader must believe.
-use Rattle.std.specs.Prelude.{◌≡◌, cond, ◌||◌, List, [], ◌∷◌, ◌++◌, map, ℕ, ◌+◌, ◌-◌, ◌≤◌, ◌<◌, length, get_or, take, drop, replicate}
-use Rattle.std.proofs.Math.Option.{none, some}
-use Rattle.product.specs.declared.literal.Key.{Key}
-use Rattle.product.specs.declared.literal.Literal.{Literal}
-use Rattle.product.specs.Product.{Product, insert, contradictory}
+use Rattle.std.specs.Prelude.{◌≡◌, cond, ◌||◌, List, [], ◌∷◌, ◌++◌, map, ℕ, ◌-◌, ◌≤◌, ◌<◌, length, get_or, take, drop, replicate, None, Some}
+use Rattle.product.specs.Product.{Product, contradictory}
 use Rattle.product.specs.Sum.{Sum, Sum?, most_products, most_literals, cap, present}
-use Rattle.product.specs.Code.{key_code, key_at, key_limit, literal_of, code_limit}
-use Rattle.product.specs.Cells.{row_cells, too_wide_count, size_of, product_of, products_of, sum_of, row_of, rows_of}
+use Rattle.product.specs.Code.{literal_of, code_limit}
+use Rattle.product.specs.Cells.{row_cells, too_wide_count, size_of, product_of, products_of, row_of, rows_of}
 
 -- a count that is clamped, of a row of 8 cells
 pub record Size (row : List ℕ) (n : ℕ) : Type 0 where
   pub size : n ≡ size_of row
   pub small : n ≤ most_literals
   pub cells : length row ≡ row_cells
-
--- a key's number, which stands for it
-pub record EncodedKey (k : Key) (c : ℕ) : Type 0 where
-  pub code : c ≡ key_code k
-  pub back : key_at c ≡ k
-  pub small : c < key_limit
 
 -- two products are joined in sixteen cells, which have the literals of both
 abbrev pub wide_cells : ℕ
@@ -36,8 +27,8 @@ unfoldable pub add : Sum → Product → Sum
 add ps p = cond (contradictory p || present p ps) ps (ps ++ p ∷ [])
 
 abbrev pub add_to : Sum? → Product → Sum?
-add_to none p = none
-add_to (some ps) p = cap (add ps p)
+add_to None p = None
+add_to (Some ps) p = cap (add ps p)
 
 unfoldable pub add_each : Sum? → Sum → Sum?
 add_each x [] = x
@@ -48,28 +39,11 @@ pub record Clean (rows : List (List ℕ)) (n : ℕ) : Type 0 where
   pub bound : n ≤ too_wide_count
   pub cells : n ≤ most_products → rows ≡ rows_of (products_of n rows)
 
--- rows after a step that should make them the sum x
-pub record Filled (x : Sum?) (rows : List (List ℕ)) (n : ℕ) : Type 0 where
-  pub clean : Clean rows n
-  pub reads : sum_of n rows ≡ x
-
 -- sixteen cells that hold the numbers of n literals, and 0 elsewhere
 pub record Blank (cells : List ℕ) (n : ℕ) : Type 0 where
   pub most : n ≤ most_joined
   pub rest : drop n cells ≡ replicate (wide_cells - n) 0
   pub coded : (j : ℕ) → j < n → get_or cells j 0 < code_limit
-
--- x put among n literals of sixteen cells
-pub record Inserted (x : Literal) (n : ℕ) (old cells : List ℕ) (r : ℕ) : Type 0 where
-  pub product : wide_of r cells ≡ insert x (wide_of n old)
-  pub blank : Blank cells r
-  pub few : r ≤ n + 1
-
--- sixteen cells hold the product p, of at most `most` literals
-pub record Joined (most : ℕ) (p : Product) (cells : List ℕ) (n : ℕ) : Type 0 where
-  pub product : wide_of n cells ≡ p
-  pub blank : Blank cells n
-  pub few : n ≤ most
 
 -- a row of the product p
 pub record Row (p : Product) (row : List ℕ) : Type 0 where

@@ -1,7 +1,8 @@
 -- Products: sets of literals, kept in order. Document 01, 'Lock text'.
 use Rattle.std.specs.Prelude.{Bool, true, false, not, cond, ◌&&◌, ◌||◌, List, [], ◌∷◌}
 use Rattle.product.specs.declared.literal.Literal.{Literal}
-use Rattle.product.specs.Atom.{Atom, atom_of, agrees, is_less, is_equal, compare_atoms, compare_literals}
+use Rattle.std.specs.Ordering.{is_eq, is_lt}
+use Rattle.product.specs.Atom.{Atom, atom_of, agrees, compare_atoms, compare_literals}
 
 -- document 01: product, a set of signed keys
 abbrev pub Product : Type 0
@@ -13,10 +14,10 @@ opens ρ [] = true
 opens ρ (x ∷ p) = agrees ρ x && opens ρ p
 
 abbrev pub same : Literal → Literal → Bool
-same x y = is_equal (compare_literals x y)
+same x y = is_eq (compare_literals x y)
 
 abbrev pub before : Literal → Literal → Bool
-before x y = is_less (compare_literals x y)
+before x y = is_lt (compare_literals x y)
 
 -- the product with x in its place, which it may have already: the lesser of two stays, the greater goes on
 unfoldable pub insert : Literal → Product → Product
@@ -32,7 +33,7 @@ union p (x ∷ q) = union (insert x p) q
 
 -- the same key, once plain and once barred
 abbrev pub opposed : Literal → Literal → Bool
-opposed x y = is_equal (compare_atoms (atom_of x) (atom_of y)) && not (same x y)
+opposed x y = is_eq (compare_atoms (atom_of x) (atom_of y)) && not (same x y)
 
 -- some literal of the product is opposed to x
 unfoldable pub clashes : Literal → Product → Bool
@@ -53,7 +54,7 @@ same_product (x ∷ p) (y ∷ q) = same x y && same_product p q
 -- document 01: a product is kept in the order U, R, S, D, then by number. Each key is less than the next.
 abbrev pub leads : Literal → Product → Bool
 leads x [] = true
-leads x (y ∷ p) = is_less (compare_atoms (atom_of x) (atom_of y))
+leads x (y ∷ p) = is_lt (compare_atoms (atom_of x) (atom_of y))
 
 unfoldable pub ordered : Product → Bool
 ordered [] = true
@@ -62,7 +63,7 @@ ordered (x ∷ p) = leads x p && ordered p
 -- some literal of the product is the key a, plain or barred
 unfoldable pub names : Atom → Product → Bool
 names a [] = false
-names a (y ∷ p) = is_equal (compare_atoms a (atom_of y)) || names a p
+names a (y ∷ p) = is_eq (compare_atoms a (atom_of y)) || names a p
 
 -- no key stands in the product twice
 unfoldable pub once : Product → Bool

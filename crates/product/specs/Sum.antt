@@ -1,6 +1,5 @@
 -- Sums: a node's list of products, and how AND and OR join two of them. Document 01, 'Lock text'.
-use Rattle.std.specs.Prelude.{Bool, true, false, cond, ◌&&◌, ◌||◌, List, [], ◌∷◌, ◌++◌, ℕ, leb, length}
-use Rattle.std.proofs.Math.Option.{Option, none, some}
+use Rattle.std.specs.Prelude.{Bool, true, false, cond, ◌&&◌, ◌||◌, List, [], ◌∷◌, ◌++◌, ℕ, leb, length, Option, None, Some}
 use Rattle.product.specs.Atom.{Atom}
 use Rattle.product.specs.Product.{Product, opens, union, contradictory, same_product}
 
@@ -69,10 +68,10 @@ abbrev pub Sum? : Type 0
 Sum? = Option Sum
 
 abbrev pub cap : Sum → Sum?
-cap ps = cond (fits_node ps) (some ps) none
+cap ps = cond (fits_node ps) (Some ps) None
 
 -- two sums joined, unless one of the three is too wide
 abbrev pub joined : (Sum → Sum → Sum) → Sum? → Sum? → Sum?
-joined g none y = none
-joined g (some ps) none = none
-joined g (some ps) (some qs) = cap (g ps qs)
+joined g None y = None
+joined g (Some ps) None = None
+joined g (Some ps) (Some qs) = cap (g ps qs)

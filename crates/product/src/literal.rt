@@ -1,13 +1,13 @@
 // Keys and literals (document 01: signed keys), how literals compare, and the one number that a cell of a row holds of
-// a literal. Only `encode` and `decode` know it; `encode_key` is the number of a key in a key set.
+// a literal. Only the conversions between literals and numbers know it; a key's own number stands in key sets.
 ghost use Rattle.std.specs.Prelude.{◌≡◌, ◌<◌};
-ghost use Rattle.product.specs.Atom.{kind_of, number_of, is_less, is_equal, compare_atoms};
-ghost use Rattle.product.specs.Product.{same, before, opposed};
-ghost use Rattle.product.specs.Code.{key_at, key_limit, literal_of, Encoded};
-ghost use Rattle.product.specs.Internal.{EncodedKey};
+ghost use Rattle.product.specs.Atom.{atom_of, sign_of};
+ghost use Rattle.product.specs.Product.{before, opposed};
+ghost use Rattle.product.specs.Code.{key_at, key_limit, literal_of, Encoded, EncodedKey};
 
-// Document 01: a key is a kind with a 16-bit number: U user, R run, S segment, D defined by a user.
-#[derive(Clone, Copy)]
+// Document 01: a key is a kind with a 16-bit number: U user, R run, S segment, D defined by a user. Keys are in this
+// order, then in that of their numbers.
+#[derive(Clone, Copy, PartialEq, Eq, PartialOrd, Ord)]
 pub enum Key {
     User(u16),
     Thread(u16),
@@ -16,7 +16,7 @@ pub enum Key {
 }
 
 // Document 01: signed key. A key that a key set must have, or must not have.
-#[derive(Clone, Copy)]
+#[derive(Clone, Copy, PartialEq, Eq)]
 pub enum Literal {
     Plain(Key),
     Barred(Key),
@@ -35,41 +35,49 @@ const DEFINED_KEYS: u32 = 196608;
 // How many literals there are.
 const LITERALS: u32 = 524288;
 
+// The number of a key in a key set.
+impl From<Key> for u32 {
+    ghost from_gives = { EncodedKey };
+
+    fn from(key: Key) -> u32 {
+        match key {
+            Key::User(n) => u32::from(n),
+            Key::Thread(n) => u32::from(n) + THREAD_KEYS,
+            Key::Segment(n) => u32::from(n) + SEGMENT_KEYS,
+            Key::Defined(n) => u32::from(n) + DEFINED_KEYS,
+        }
+    }
+}
+
 // The number that a cell holds of the literal.
-pub fn encode(l: Literal) -> u32
-    ensures { Encoded l result }
-{
-    match l {
-        Literal::Plain(k) => 2 * encode_key(k),
-        Literal::Barred(k) => 2 * encode_key(k) + 1,
+impl From<Literal> for u32 {
+    ghost from_gives = { Encoded };
+
+    fn from(literal: Literal) -> u32 {
+        match literal {
+            Literal::Plain(k) => 2 * u32::from(k),
+            Literal::Barred(k) => 2 * u32::from(k) + 1,
+        }
     }
 }
 
 // The literal of a cell's number, whatever it is.
-pub fn decode(x: u32) -> Literal
-    ensures { result ≡ literal_of x }
-{
-    let number = x % LITERALS;
-    let key = decode_key(number / 2);
-    if number % 2 == 0 {
-        Literal::Plain(key)
-    } else {
-        Literal::Barred(key)
+impl From<u32> for Literal {
+    ghost from_gives = { λ x l. l ≡ literal_of x };
+
+    fn from(x: u32) -> Literal {
+        let number = x % LITERALS;
+        let key = key_at(number / 2);
+        if number % 2 == 0 {
+            Literal::Plain(key)
+        } else {
+            Literal::Barred(key)
+        }
     }
 }
 
-pub(crate) fn encode_key(k: Key) -> u32
-    ensures { EncodedKey k result }
-{
-    match k {
-        Key::User(n) => n as u32,
-        Key::Thread(n) => n as u32 + THREAD_KEYS,
-        Key::Segment(n) => n as u32 + SEGMENT_KEYS,
-        Key::Defined(n) => n as u32 + DEFINED_KEYS,
-    }
-}
-
-fn decode_key(c: u32) -> Key
+// The key of a number that is one: half of what `From<u32>` does for a literal, which takes every number.
+fn key_at(c: u32) -> Key
     requires { c < key_limit }
     ensures { result ≡ key_at c }
 {
@@ -82,88 +90,36 @@ fn decode_key(c: u32) -> Key
     }
 }
 
-// The same key with the same sign.
-pub(crate) fn same(x: Literal, y: Literal) -> bool
-    ensures { result ≡ same x y }
-{
-    match x {
-        Literal::Plain(a) => match y {
-            Literal::Plain(b) => same_key(a, b),
-            Literal::Barred(_) => false,
-        },
-        Literal::Barred(a) => match y {
-            Literal::Plain(_) => false,
-            Literal::Barred(b) => same_key(a, b),
-        },
+impl Literal {
+    // The same key, once plain and once barred.
+    pub(crate) fn is_opposed_to(self, other: Literal) -> bool
+        ensures { result ≡ opposed self other }
+    {
+        self.key() == other.key() && self != other
     }
-}
 
-// The same key, once plain and once barred.
-pub(crate) fn opposed(x: Literal, y: Literal) -> bool
-    ensures { result ≡ opposed x y }
-{
-    match x {
-        Literal::Plain(a) => match y {
-            Literal::Plain(_) => false,
-            Literal::Barred(b) => same_key(a, b),
-        },
-        Literal::Barred(a) => match y {
-            Literal::Plain(b) => same_key(a, b),
-            Literal::Barred(_) => false,
-        },
+    // By the key; plain before barred, which no derive of the two variants is. An `impl Ord` of one line would say five
+    // ghost members and two methods more.
+    pub(crate) fn is_before(self, other: Literal) -> bool
+        ensures { result ≡ before self other }
+    {
+        (self.key(), self.sign()) < (other.key(), other.sign())
     }
-}
 
-// By the key; plain before barred.
-pub(crate) fn before(x: Literal, y: Literal) -> bool
-    ensures { result ≡ before x y }
-{
-    match x {
-        Literal::Plain(a) => match y {
-            Literal::Plain(b) => key_before(a, b),
-            Literal::Barred(b) => !key_before(b, a),
-        },
-        Literal::Barred(a) => match y {
-            Literal::Plain(b) => key_before(a, b),
-            Literal::Barred(b) => key_before(a, b),
-        },
+    fn key(self) -> Key
+        ensures { result ≡ atom_of self }
+    {
+        match self {
+            Literal::Plain(key) | Literal::Barred(key) => key,
+        }
     }
-}
 
-fn same_key(a: Key, b: Key) -> bool
-    ensures { result ≡ is_equal (compare_atoms a b) }
-{
-    (kind(a) == kind(b)) & (number(a) == number(b))
-}
-
-// U, R, S, D, then by number.
-fn key_before(a: Key, b: Key) -> bool
-    ensures { result ≡ is_less (compare_atoms a b) }
-{
-    let k = kind(a);
-    let l = kind(b);
-    if k == l { number(a) < number(b) } else { k < l }
-}
-
-// The place of the key's kind in U, R, S, D.
-fn kind(k: Key) -> u16
-    ensures { result ≡ kind_of k }
-{
-    match k {
-        Key::User(_) => 0,
-        Key::Thread(_) => 1,
-        Key::Segment(_) => 2,
-        Key::Defined(_) => 3,
-    }
-}
-
-fn number(k: Key) -> u16
-    ensures { result ≡ number_of k }
-{
-    match k {
-        Key::User(n) => n,
-        Key::Thread(n) => n,
-        Key::Segment(n) => n,
-        Key::Defined(n) => n,
+    fn sign(self) -> u8
+        ensures { result ≡ sign_of self }
+    {
+        match self {
+            Literal::Plain(_) => 0,
+            Literal::Barred(_) => 1,
+        }
     }
 }

@@ -10,8 +10,6 @@ ghost use Rattle.model.specs.Serving.{ServesLent};
 ghost use Rattle.base.specs.Counts.{Counted};
 ghost use Rattle.registry.specs.Counts.{Handed};
 
-use base::cells::count_in_u32;
-use base::counts::at_most;
 use model::answer::{Answer, Refusal};
 use model::arrays::{DEFINED, Registry, SEGMENTS, USERS};
 use model::bounds::{MOST_DEFINED, MOST_SEGMENTS, MOST_USERS};
@@ -27,18 +25,20 @@ pub fn is_user(registry: &Registry, user: u16) -> bool
 pub fn segments(registry: &Registry) -> usize
     ensures { Counted (cell registry.now segment_count) most_segments result }
 {
-    count_in_u32(registry[SEGMENTS], MOST_SEGMENTS)
+    (registry[SEGMENTS] as usize).min(MOST_SEGMENTS)
 }
 
 // How many defined keys there are. Their makers are lent as a slice, whose length is known in the proofs.
 pub fn defined(registry: &Registry, makers: &[u16]) -> usize
     ensures { Handed (cell registry.now defined_count) makers.now result }
 {
-    let keys = count_in_u32(registry[DEFINED], MOST_DEFINED);
-    at_most(keys, makers.len())
+    (registry[DEFINED] as usize)
+        .min(MOST_DEFINED)
+        .min(makers.len())
 }
 
 // U, new user.
+#[tactic(auto, unfolding(model::specs::Refusals::conditions, model::specs::Effects::answer, model::specs::Cells::state_of, model::specs::Stores::store))]
 pub fn new_user(registry: &mut Registry) -> Answer
     ensures { ServesLent
         (registry_is registry.old)
@@ -47,8 +47,8 @@ pub fn new_user(registry: &mut Registry) -> Answer
 {
     let users = registry[USERS];
     if MOST_USERS <= users {
-        return Answer::Refused(Refusal::Full);
+        return Err(Refusal::Full);
     }
     registry[USERS] = users + 1;
-    Answer::Accepted(users as u16)
+    Ok(users as u16)
 }

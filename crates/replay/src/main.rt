@@ -32,7 +32,8 @@ fn main(rt: HostRuntime) {
     }
 }
 
-// Reads until the buffer is full or the input ends, and answers how many bytes it put at the buffer's start.
+// Reads until the buffer is full or the input ends, and answers how many bytes it put at the buffer's start. The
+// library reads to the input's end into a Vec alone.
 fn read_full(rt: &HostRuntime, buffer: &mut [u8]) -> io::Result<usize>
     ensures { IfOk result (λ n. n ≤ length buffer.new) }
 {
@@ -70,16 +71,9 @@ fn tell(errors: &mut Stderr, name: &mut [u8]) {
 
 // No byte that a terminal takes for a command.
 fn make_plain(text: &mut [u8]) {
-    let mut i = 0;
-    while i < text.len() {
-        text[i] = plain(text[i]);
-        i += 1;
+    for byte in text.iter_mut() {
+        if !(b' '..=b'~').contains(byte) {
+            *byte = b'?';
+        }
     }
-}
-
-fn plain(byte: u8) -> u8 {
-    if byte < 32 {
-        return b'?';
-    }
-    if 126 < byte { b'?' } else { byte }
 }

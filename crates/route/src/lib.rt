@@ -5,10 +5,9 @@ ghost use Rattle.call.specs.declared.request.Request.TheVariants.{CallSegment, A
 ghost use Rattle.model.specs.Cells.{registry_is, segments_are, locks_are, threads_are, unchanged, ◌and◌};
 ghost use Rattle.model.specs.Serving.{ServesLent};
 
-use checking::{answer, check};
+use checking::check;
 use model::answer::{Answer, Refusal};
 use model::arrays::{KIND, Locks, Registry, Segments, Threads};
-use model::bounds::MOST_THREADS;
 use model::operations::{Operations, is_access, is_taken};
 use threads::frames::push;
 use threads::place::find;
@@ -28,25 +27,19 @@ pub fn call_segment(
         (CallSegment number segment) result
         (threads_are threads.new) }
 {
-    let place = find(threads, number);
-    if MOST_THREADS <= place {
-        return Answer::Refused(Refusal::NoThread);
-    }
+    let place = find(threads, number).ok_or(Refusal::NoThread)?;
     let s = segment as usize;
     if registry::segments(registry) <= s {
-        return Answer::Refused(Refusal::NoSegment);
+        return Err(Refusal::NoSegment);
     }
     if !is_taken(Operations::EXECUTE, segments[s][0][KIND]) {
-        return Answer::Refused(Refusal::Unfit);
+        return Err(Refusal::Unfit);
     }
-    let answer = answer(check(&threads[place], &locks[s], Operations::EXECUTE));
-    let Answer::Accepted(lock) = answer else {
-        return answer;
-    };
+    let lock = check(&threads[place], &locks[s], Operations::EXECUTE)?;
     if push(&mut threads[place], &segments[s][1], segment) {
-        Answer::Accepted(lock)
+        Ok(lock)
     } else {
-        Answer::Refused(Refusal::Full)
+        Err(Refusal::Full)
     }
 }
 
@@ -66,17 +59,14 @@ pub fn access(
         (Access number segment operation) result
         unchanged }
 {
-    let place = find(threads, number);
-    if MOST_THREADS <= place {
-        return Answer::Refused(Refusal::NoThread);
-    }
+    let place = find(threads, number).ok_or(Refusal::NoThread)?;
     let s = segment as usize;
     if registry::segments(registry) <= s {
-        return Answer::Refused(Refusal::NoSegment);
+        return Err(Refusal::NoSegment);
     }
     let n = operation as u32;
     if !(is_access(n) & is_taken(n, segments[s][0][KIND])) {
-        return Answer::Refused(Refusal::Unfit);
+        return Err(Refusal::Unfit);
     }
-    answer(check(&threads[place], &locks[s], n))
+    Ok(check(&threads[place], &locks[s], n)?)
 }

@@ -1,8 +1,8 @@
 -- By computing.
+use Rattle.std.specs.Prelude.{Ok}
 use mathlib.Core.Path.{◌≡◌, refl}
 use mathlib.Core.List.{List, ◌++◌, map}
 use Rattle.formula.specs.Outcome.{outcome_of}
-use Rattle.model.specs.declared.answer.Answer.TheVariants.{Accepted}
 use Rattle.model.specs.History.{Event, event}
 use Rattle.model.specs.Replay.{events}
 use Rattle.model.specs.Notation.{Expected, calls_of, Happens}
@@ -23,7 +23,7 @@ other_happens_lem = refl
 -- the events of lists whose calls are all accepted, so that their histories are read without computing the answers
 -- again
 abbrev accepted_all : List Expected → List Event
-accepted_all es = map (λ e. event e.call (Accepted e.value)) es
+accepted_all es = map (λ e. event e.call (Ok e.value)) es
 
 office_events : events outcome_of (calls_of office) ≡ accepted_all office
 unfolding computing

@@ -1,9 +1,9 @@
 -- A listing after a list of calls: what the state has of users, segments and products is what the history says
 -- (`Mirror`, `StoredLocks`), and the standing locks' numbers rise (`Numbering`), so each has its row.
+use Rattle.std.specs.Prelude.{Some}
 use mathlib.Core.Path.{◌≡◌, refl, sym, ap, ◌∙◌}
 use mathlib.Core.Bool.{true, false}
 use mathlib.Core.List.{List, [], ◌∷◌, map, Memᴰ}
-use mathlib.Core.Option.{some}
 use Prim.Native.Nat.{ℕ, ◌≤◌}
 use native.Mathlib.Omega.{arith}
 use lib.Dec.{eqb, ltb}
@@ -94,7 +94,7 @@ module _ (xs : List Call) where
       concat_same [] = refl
       concat_same (l ∷ ls) = rw (map_map row_with_keys (lock_product l.number l.operations) (products_of outcome_of l.text), concat_same ls) refl
 
-  rows_as : (u s : ℕ) (e : Entry) → (history es).segments s ≡ some e → rows_for d u s ≡ rows_from es u s
+  rows_as : (u s : ℕ) (e : Entry) → (history es).segments s ≡ Some e → rows_for d u s ≡ rows_from es u s
   unfolding rows_for
   rows_as u s e h =
       let mine : owns d u s ≡ eqb e.owner u = ap (λ (n : ℕ). eqb n u) (mirrors.owner s e h) in

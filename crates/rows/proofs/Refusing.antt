@@ -1,7 +1,7 @@
 -- Demand 1 of a listing: the laws of the first condition that holds, which are the model's, over its three conditions.
+use Rattle.std.specs.Prelude.{Ok, Err, Option, None, Some}
 use mathlib.Core.Path.{◌≡◌, refl, sym, ap, ◌∙◌}
 use mathlib.Core.List.{List, ◌++◌}
-use mathlib.Core.Option.{Option, none, some}
 use mathlib.Core.Logic.{◌↔◌}
 use Prim.Native.Nat.{ℕ, ◌≤◌}
 use native.Mathlib.Omega.{arith}
@@ -11,7 +11,7 @@ use borrow.Author.Tests.{ltb-false}
 use Rattle.base.specs.Conditions.{Condition, first_refusal}
 use Rattle.base.proofs.Conditions.{all_fail}
 use Rattle.model.specs.declared.answer.Refusal.{Refusal}
-use Rattle.model.specs.declared.answer.Answer.TheVariants.{Accepted, Refused}
+use Rattle.model.specs.Answers.{Answer}
 use Rattle.model.specs.State.{State}
 use Rattle.model.proofs.Refusals.Refusing.{none_refuses, none_holds, first_holds, first_refuses, first_least}
 use Rattle.rows.specs.declared.row.Row.{Row}
@@ -19,44 +19,44 @@ use Rattle.rows.specs.Rows.{rows_for}
 use Rattle.rows.specs.Listing.{list_conditions, filled, listed_by, listed}
 use Rattle.rows.specs.Theorems.Refusing.{ListRefuses, ListRefusing}
 
-number : {m n : ℕ} → Accepted m ≡ Accepted n → m ≡ n
+number : {m n : ℕ} → ◌≡◌ {A = Answer} (Ok m) (Ok n) → m ≡ n
 number h = cc
 
 module _ (rows lent : List Row) where
-  by_refused : (o : Option Refusal) (r : Refusal) → ((listed_by rows lent o).answer ≡ Refused r) ↔ (o ≡ some r)
-  by_refused none r = (λ h. cc, λ h. cc)
-  by_refused (some s) r = (λ h. cc, λ h. cc)
+  by_refused : (o : Option Refusal) (r : Refusal) → ((listed_by rows lent o).answer ≡ Err r) ↔ (o ≡ Some r)
+  by_refused None r = (λ h. cc, λ h. cc)
+  by_refused (Some s) r = (λ h. cc, λ h. cc)
 
-  by_accepted : (o : Option Refusal) → ((listed_by rows lent o).answer ≡ Accepted (length rows)) ↔ (o ≡ none)
-  by_accepted none = (λ h. refl, λ h. refl)
-  by_accepted (some s) = (λ h. cc, λ h. cc)
+  by_accepted : (o : Option Refusal) → ((listed_by rows lent o).answer ≡ Ok (length rows)) ↔ (o ≡ None)
+  by_accepted None = (λ h. refl, λ h. refl)
+  by_accepted (Some s) = (λ h. cc, λ h. cc)
 
-  by_unchanged : (o : Option Refusal) (r : Refusal) → (listed_by rows lent o).answer ≡ Refused r → (listed_by rows lent o).rows ≡ lent
-  by_unchanged none r h = cc
-  by_unchanged (some s) r h = refl
+  by_unchanged : (o : Option Refusal) (r : Refusal) → (listed_by rows lent o).answer ≡ Err r → (listed_by rows lent o).rows ≡ lent
+  by_unchanged None r h = cc
+  by_unchanged (Some s) r h = refl
 
-  by_written : (o : Option Refusal) (n : ℕ) → (listed_by rows lent o).answer ≡ Accepted n → (listed_by rows lent o).rows ≡ filled rows lent
-  by_written none n h = refl
-  by_written (some s) n h = cc
+  by_written : (o : Option Refusal) (n : ℕ) → (listed_by rows lent o).answer ≡ Ok n → (listed_by rows lent o).rows ≡ filled rows lent
+  by_written None n h = refl
+  by_written (Some s) n h = cc
 
-  by_first : (o : Option Refusal) (n : ℕ) → (listed_by rows lent o).answer ≡ Accepted n → take n (listed_by rows lent o).rows ≡ rows
-  by_first none n h = ap (λ (k : ℕ). take k (rows ++ drop (length rows) lent)) (sym (number h)) ∙ take-append_seam rows (drop (length rows) lent)
-  by_first (some s) n h = cc
+  by_first : (o : Option Refusal) (n : ℕ) → (listed_by rows lent o).answer ≡ Ok n → take n (listed_by rows lent o).rows ≡ rows
+  by_first None n h = ap (λ (k : ℕ). take k (rows ++ drop (length rows) lent)) (sym (number h)) ∙ take-append_seam rows (drop (length rows) lent)
+  by_first (Some s) n h = cc
 
-  by_beyond : (o : Option Refusal) (n : ℕ) → (listed_by rows lent o).answer ≡ Accepted n → drop n (listed_by rows lent o).rows ≡ drop n lent
-  by_beyond none n h =
+  by_beyond : (o : Option Refusal) (n : ℕ) → (listed_by rows lent o).answer ≡ Ok n → drop n (listed_by rows lent o).rows ≡ drop n lent
+  by_beyond None n h =
       ap (λ (k : ℕ). drop k (rows ++ drop (length rows) lent)) (sym (number h)) ∙ drop-append_seam rows (drop (length rows) lent) ∙ ap (λ (k : ℕ). drop k lent) (number h)
-  by_beyond (some s) n h = cc
+  by_beyond (Some s) n h = cc
 
-  by_length : (o : Option Refusal) → (o ≡ none → length rows ≤ length lent) → length (listed_by rows lent o).rows ≡ length lent
-  by_length none h = let l = h refl in length-append rows (drop (length rows) lent) ∙ rw (length-drop (length rows) lent) (omega (arith, l))
-  by_length (some s) h = refl
+  by_length : (o : Option Refusal) → (o ≡ None → length rows ≤ length lent) → length (listed_by rows lent o).rows ≡ length lent
+  by_length None h = let l = h refl in length-append rows (drop (length rows) lent) ∙ rw (length-drop (length rows) lent) (omega (arith, l))
+  by_length (Some s) h = refl
 
 module _ (d : State) (u s : ℕ) (lent : List Row) where
   abbrev cs : List (Condition Refusal)
   cs = list_conditions d u s (length lent)
 
-  enough : first_refusal cs ≡ none → length (rows_for d u s) ≤ length lent
+  enough : first_refusal cs ≡ None → length (rows_for d u s) ≤ length lent
   enough e = ltb-false (length lent) (length (rows_for d u s)) (all_fail cs e).1.1.0
 
   list_refuses : ListRefuses d u s lent (listed d u s lent)

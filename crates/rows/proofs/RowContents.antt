@@ -1,10 +1,12 @@
--- Operation set by operation set, and by the number of literals.
-use mathlib.Core.Path.{◌≡◌, refl}
+-- Operation set by operation set, and the keys with the blank slots after them.
+use Rattle.std.specs.Prelude.{None, Some}
+use mathlib.Core.Path.{◌≡◌, refl, ap, ◌∙◌}
 use mathlib.Core.Bool.{cond}
-use mathlib.Core.List.{[], ◌∷◌}
-use Prim.Native.Nat.{ℕ, zero, suc, ◌+◌, ◌%◌, ◌≤◌, ◌<◌}
+use mathlib.Core.List.{[], ◌∷◌, ◌++◌, map}
+use Prim.Native.Nat.{ℕ, zero, suc, ◌+◌, ◌-◌, ◌%◌, ◌≤◌, ◌<◌}
 use native.Mathlib.Omega.{arith}
-use lib.ListN.{length}
+use lib.ListN.{length, replicate, length-append, length-map, length-replicate}
+use lib.Seq.{take_all}
 use Rattle.product.specs.Product.{Product}
 use Rattle.model.specs.Operations.{deny, includes}
 use Rattle.rows.specs.Rows.{slots_of}
@@ -30,25 +32,21 @@ sets (suc (suc (suc (suc (suc (suc (suc (suc (suc (suc (suc (suc (suc (suc zero)
 sets (suc (suc (suc (suc (suc (suc (suc (suc (suc (suc (suc (suc (suc (suc (suc zero))))))))))))))) h = refl
 sets (suc (suc (suc (suc (suc (suc (suc (suc (suc (suc (suc (suc (suc (suc (suc (suc o)))))))))))))))) h = absurd (omega arith)
 
+-- keys and then blank slots
+
+blanks : (k : ℕ) → signed_in (replicate k None) ≡ []
+blanks zero = refl
+blanks (suc k) = blanks k
+
+signs : (p : Product) (k : ℕ) → signed_in (map (λ x. Some x) p ++ replicate k None) ≡ p
+signs [] k = blanks k
+signs (x ∷ p) k = ap (λ (q : Product). x ∷ q) (signs p k)
+
 back : (p : Product) → length p ≤ 6 → signed_in (slots_of p) ≡ p
-back [] h = refl
-back (a ∷ []) h = refl
-back (a ∷ b ∷ []) h = refl
-back (a ∷ b ∷ c ∷ []) h = refl
-back (a ∷ b ∷ c ∷ d ∷ []) h = refl
-back (a ∷ b ∷ c ∷ d ∷ e ∷ []) h = refl
-back (a ∷ b ∷ c ∷ d ∷ e ∷ f ∷ []) h = refl
-back (a ∷ b ∷ c ∷ d ∷ e ∷ f ∷ g ∷ p) h = absurd (omega arith)
+back p h = ap (λ (q : Product). signed_in (map (λ x. Some x) q ++ replicate (6 - length p) None)) (take_all 6 p h) ∙ signs p (6 - length p)
 
 size : (p : Product) → length p ≤ 6 → length (slots_of p) ≡ 6
-size [] h = refl
-size (a ∷ []) h = refl
-size (a ∷ b ∷ []) h = refl
-size (a ∷ b ∷ c ∷ []) h = refl
-size (a ∷ b ∷ c ∷ d ∷ []) h = refl
-size (a ∷ b ∷ c ∷ d ∷ e ∷ []) h = refl
-size (a ∷ b ∷ c ∷ d ∷ e ∷ f ∷ []) h = refl
-size (a ∷ b ∷ c ∷ d ∷ e ∷ f ∷ g ∷ p) h = absurd (omega arith)
+size p h = rw (length-append, length-map, take_all 6 p h, length-replicate) (omega (arith, h))
 
 pub row_contents : RowContents
 row_contents =

@@ -1,11 +1,9 @@
 -- Document 02, P1: what a listing answers, and the lent rows afterwards.
-use Rattle.std.specs.Prelude.{◌≡◌, List, [], ◌∷◌, ◌++◌, ℕ, ltb, length, drop}
-use Rattle.std.proofs.Math.Option.{Option, none, some}
+use Rattle.std.specs.Prelude.{◌≡◌, List, [], ◌∷◌, ◌++◌, ℕ, ltb, length, drop, Ok, Err, Option, None, Some}
 use Rattle.base.specs.Conditions.{Condition, when, first_refusal}
 use Rattle.model.specs.declared.answer.Refusal.{Refusal}
 use Rattle.model.specs.declared.answer.Refusal.TheVariants.{UnknownUser, NoSegment, TooFewRows}
-use Rattle.model.specs.declared.answer.Answer.{Answer}
-use Rattle.model.specs.declared.answer.Answer.TheVariants.{Accepted, Refused}
+use Rattle.model.specs.Answers.{Answer}
 use Rattle.model.specs.State.{State, is_user, is_segment}
 use Rattle.model.specs.Refusals.{unless}
 use Rattle.model.specs.Cells.{Cells, state_of}
@@ -31,8 +29,8 @@ filled rows lent = rows ++ drop (length rows) lent
 
 -- 'The answer is the number of rows filled.' A refusal leaves every row.
 abbrev pub listed_by : {X : Type 0} → List X → List X → Option Refusal → Listed X
-listed_by rows lent none = record { answer = Accepted (length rows); rows = filled rows lent }
-listed_by rows lent (some r) = record { answer = Refused r; rows = lent }
+listed_by rows lent None = record { answer = Ok (length rows); rows = filled rows lent }
+listed_by rows lent (Some r) = record { answer = Err r; rows = lent }
 
 -- 'A listing takes a user and a segment and fills a lent run of row records.'
 unfoldable pub listed : State → ℕ → ℕ → List Row → Listed Row

@@ -1,24 +1,19 @@
 -- Document 02, P1: the rows of a segment's lock list, and who gets which.
-use Rattle.std.specs.Prelude.{not, cond, List, [], ◌∷◌, ◌++◌, map, ℕ, ◌-◌, ◌%◌, length, take, replicate}
+use Rattle.std.specs.Prelude.{not, cond, List, [], ◌∷◌, ◌++◌, map, ℕ, ◌-◌, ◌%◌, length, take, replicate, Option, None, Some}
+use Rattle.product.specs.declared.literal.Literal.{Literal}
 use Rattle.product.specs.Product.{Product}
 use Rattle.product.specs.Sum.{most_literals}
 use Rattle.base.specs.Lists.{keep_if}
 use Rattle.model.specs.Operations.{deny, includes}
 use Rattle.model.specs.State.{LockProduct, State, segment_at, owns, is_of_lock}
-use Rattle.rows.specs.declared.row.Content.{Content}
-use Rattle.rows.specs.declared.row.Content.TheVariants.{Blank, Signed}
-use Rattle.rows.specs.declared.row.Slot.{Slot}
 use Rattle.rows.specs.declared.row.Row.{Row}
 
 -- ---- a row
 
-abbrev pub slot : Content → Slot
-slot x = record { content = x }
-
 -- The signed keys in the product's order, and blank slots after them. No product that a call stores has more literals
 -- than a row has slots (`short` of the compiler's `Kept`).
-abbrev pub slots_of : Product → List Slot
-slots_of p = map (λ x. slot (Signed x)) (take most_literals p) ++ replicate (most_literals - length p) (slot Blank)
+abbrev pub slots_of : Product → List (Option Literal)
+slots_of p = map (λ x. Some x) (take most_literals p) ++ replicate (most_literals - length p) None
 
 -- 'the lock's number, operations, grant or deny and the signed keys': operations are 1, 2 and 4, deny stands by itself
 abbrev pub list_row : ℕ → ℕ → Product → Row

@@ -1,9 +1,9 @@
 -- The first frame that hands the key over, in words: by the frames, one after the other.
+use Rattle.std.specs.Prelude.{Option, None, Some, Ok, Err}
 use mathlib.Core.Path.{◌≡◌, refl, sym, ap, ◌∙◌}
 use mathlib.Core.Bool.{Bool, true, false, cond}
 use mathlib.Core.List.{List, [], ◌∷◌, map}
 use mathlib.Core.Logic.{◌↔◌}
-use mathlib.Core.Option.{Option, none, some}
 use Prim.Native.Nat.{ℕ, zero, suc, ◌≤◌, ◌<◌}
 use native.Mathlib.Omega.{arith}
 use lib.Dec.{eqb}
@@ -20,23 +20,21 @@ use Rattle.model.specs.Cells.{Table, cell, row_at, table_at, live_cell, depth_of
 use Rattle.model.proofs.Refinement.ThreadTables.{length_frames}
 use Rattle.threads.proofs.PlaceScan.{place_at}
 use Rattle.checking.specs.Newest.{newest_from}
-use Rattle.search.specs.declared.Searched.{Searched}
-use Rattle.search.specs.declared.Searched.TheVariants.{At, Nowhere, Refused}
-use Rattle.search.specs.Searching.{searched_by, searched}
+use Rattle.search.specs.Searching.{Searched, searched}
 use Rattle.search.specs.Theorems.Exactly.{call_at, NewestAt, NoneHandsOver, Exactly, LowPlaces}
 
 -- ---- frames
 
-mapped_some : (o : Option ℕ) (p : ℕ) → map_option suc o ≡ some p → (q : ℕ) × (o ≡ some q) × (p ≡ suc q)
-mapped_some none p e = absurd (some≢none (sym e))
-mapped_some (some q) p e = (q, refl, sym (some_inj e))
+mapped_some : (o : Option ℕ) (p : ℕ) → map_option suc o ≡ Some p → (q : ℕ) × (o ≡ Some q) × (p ≡ suc q)
+mapped_some None p e = absurd (some≢none (sym e))
+mapped_some (Some q) p e = (q, refl, sym (some_inj e))
 
-mapped_none : (o : Option ℕ) → map_option suc o ≡ none → o ≡ none
-mapped_none none e = refl
-mapped_none (some q) e = absurd (some≢none e)
+mapped_none : (o : Option ℕ) → map_option suc o ≡ None → o ≡ None
+mapped_none None e = refl
+mapped_none (Some q) e = absurd (some≢none e)
 
 module _ (k : Key) where
-  pub is_newest : (fs : List Frame) (p : ℕ) → newest_from k fs ≡ some p → NewestAt k fs p
+  pub is_newest : (fs : List Frame) (p : ℕ) → newest_from k fs ≡ Some p → NewestAt k fs p
   is_newest [] p e = absurd (some≢none (sym e))
   is_newest (f ∷ fs) p e =
       case_bool (hands f k)
@@ -52,7 +50,7 @@ module _ (k : Key) where
       newer_all h older zero l = h
       newer_all h older (suc r) l = older.newer r (omega arith)
 
-  newest_is : (fs : List Frame) (p : ℕ) → NewestAt k fs p → newest_from k fs ≡ some p
+  newest_is : (fs : List Frame) (p : ℕ) → NewestAt k fs p → newest_from k fs ≡ Some p
   newest_is [] p w = let l = w.inside in absurd (omega arith)
   newest_is (f ∷ fs) zero w = rw w.hands_over refl
   newest_is (f ∷ fs) (suc p) w =
@@ -60,7 +58,7 @@ module _ (k : Key) where
       (ap (map_option suc)
       (newest_is fs p (record { inside = let l = w.inside in omega arith; hands_over = w.hands_over; newer = λ q l. w.newer (suc q) (omega arith) })))
 
-  is_none : (fs : List Frame) → newest_from k fs ≡ none → NoneHandsOver k fs
+  is_none : (fs : List Frame) → newest_from k fs ≡ None → NoneHandsOver k fs
   is_none [] e p l = absurd (omega arith)
   is_none (f ∷ fs) e zero l = case_bool (hands f k) (λ h. absurd (some≢none (rw h at e))) (λ h. h)
   is_none (f ∷ fs) e (suc p) l =
@@ -68,62 +66,53 @@ module _ (k : Key) where
       (λ h. absurd (some≢none (rw h at e)))
       (λ h. is_none fs (mapped_none (newest_from k fs) (rw h at e)) p (omega arith))
 
-  none_is : (fs : List Frame) → NoneHandsOver k fs → newest_from k fs ≡ none
+  none_is : (fs : List Frame) → NoneHandsOver k fs → newest_from k fs ≡ None
   none_is [] h = refl
   none_is (f ∷ fs) h = rw (h 0 (omega arith)) (ap (map_option suc) (none_is fs (λ p l. h (suc p) (omega arith))))
 
 -- ---- answers
 
-abbrev pub kind : Searched → ℕ
-kind (At p) = 0
-kind Nowhere = 1
-kind (Refused r) = 2
+-- an answer that isn't refused
+abbrev pub found : Option ℕ → Searched
+found o = Ok o
 
-pub apart : {A : Type 0} {x y : Searched} → x ≡ y → (kind x ≡ kind y → ⊥) → A
-apart e h = absurd (h (ap kind e))
+found_is : {o p : Option ℕ} → ◌≡◌ {A = Searched} (Ok o) (Ok p) → o ≡ p
+found_is e = cc
 
-at_is : {p q : ℕ} → ◌≡◌ {A = Searched} (At p) (At q) → p ≡ q
-at_is e = cc
-
-pub refusal_is : {r s : Refusal} → ◌≡◌ {A = Searched} (Refused r) (Refused s) → r ≡ s
+pub refusal_is : {r s : Refusal} → ◌≡◌ {A = Searched} (Err r) (Err s) → r ≡ s
 refusal_is e = cc
 
-pub answered_at : (o : Option ℕ) (p : ℕ) → searched_by o ≡ At p → o ≡ some p
-answered_at none p e = apart e (λ z. omega arith)
-answered_at (some q) p e = ap some (at_is e)
+abbrev is_refused : Searched → Bool
+is_refused (Ok o) = false
+is_refused (Err r) = true
 
-pub answered_none : (o : Option ℕ) → searched_by o ≡ Nowhere → o ≡ none
-answered_none none e = refl
-answered_none (some q) e = apart e (λ z. omega arith)
-
-pub answered_unrefused : {A : Type 0} (o : Option ℕ) (r : Refusal) → searched_by o ≡ Refused r → A
-answered_unrefused none r e = apart e (λ z. omega arith)
-answered_unrefused (some q) r e = apart e (λ z. omega arith)
+pub unrefused : {A : Type 0} {o : Option ℕ} {r : Refusal} → ◌≡◌ {A = Searched} (Ok o) (Err r) → A
+unrefused e = clash refl (sym (ap is_refused e))
 
 -- the search of frames, in words
 module _ (k : Key) (fs : List Frame) where
-  pub at_exactly : (p : ℕ) → (searched_by (newest_from k fs) ≡ At p) ↔ NewestAt k fs p
-  at_exactly p = (λ e. is_newest k fs p (answered_at (newest_from k fs) p e), λ w. ap searched_by (newest_is k fs p w))
+  pub at_exactly : (p : ℕ) → (found (newest_from k fs) ≡ Ok (Some p)) ↔ NewestAt k fs p
+  at_exactly p = (λ e. is_newest k fs p (found_is e), λ w. ap found (newest_is k fs p w))
 
-  pub none_exactly : (searched_by (newest_from k fs) ≡ Nowhere) ↔ NoneHandsOver k fs
-  none_exactly = (λ e. is_none k fs (answered_none (newest_from k fs) e), λ h. ap searched_by (none_is k fs h))
+  pub none_exactly : (found (newest_from k fs) ≡ Ok None) ↔ NoneHandsOver k fs
+  none_exactly = (λ e. is_none k fs (found_is e), λ h. ap found (none_is k fs h))
 
 -- of a thread that is live or not
 module _ (k : Key) (fs : List Frame) where
   abbrev judged : Bool → Searched
-  judged live = cond live (searched_by (newest_from k fs)) (Refused NoThread)
+  judged live = cond live (Ok (newest_from k fs)) (Err NoThread)
 
-  judged_at : (live : Bool) (p : ℕ) → (judged live ≡ At p) ↔ ((live ≡ true) × NewestAt k fs p)
+  judged_at : (live : Bool) (p : ℕ) → (judged live ≡ Ok (Some p)) ↔ ((live ≡ true) × NewestAt k fs p)
   judged_at true p = (λ e. (refl, (at_exactly k fs p).0 e), λ w. (at_exactly k fs p).1 w.1)
-  judged_at false p = (λ e. apart e (λ z. omega arith), λ w. clash w.0 refl)
+  judged_at false p = (λ e. unrefused (sym e), λ w. clash w.0 refl)
 
-  judged_none : (live : Bool) → (judged live ≡ Nowhere) ↔ ((live ≡ true) × NoneHandsOver k fs)
+  judged_none : (live : Bool) → (judged live ≡ Ok None) ↔ ((live ≡ true) × NoneHandsOver k fs)
   judged_none true = (λ e. (refl, (none_exactly k fs).0 e), λ w. (none_exactly k fs).1 w.1)
-  judged_none false = (λ e. apart e (λ z. omega arith), λ w. clash w.0 refl)
+  judged_none false = (λ e. unrefused (sym e), λ w. clash w.0 refl)
 
-  judged_refused : (live : Bool) (r : Refusal) → (judged live ≡ Refused r) ↔ ((live ≡ false) × (r ≡ NoThread))
-  judged_refused true r = (λ e. answered_unrefused (newest_from k fs) r e, λ w. clash refl w.0)
-  judged_refused false r = (λ e. (refl, sym (refusal_is e)), λ w. sym (ap Refused w.1))
+  judged_refused : (live : Bool) (r : Refusal) → (judged live ≡ Err r) ↔ ((live ≡ false) × (r ≡ NoThread))
+  judged_refused true r = (λ e. unrefused e, λ w. clash refl w.0)
+  judged_refused false r = (λ e. (refl, sym (refusal_is e)), λ w. sym (ap Err w.1))
 
 pub exactly : Exactly
 unfolding searched

@@ -6,20 +6,20 @@ use Rattle.model.proofs.Unfoldings.{computing}
 use Rattle.search.specs.Searching.{searched}
 use Rattle.search.specs.Theorems.Examples.{office, route, return, deep, desk, after_return, at_depth, Examples}
 
-return_happens_lem : Happens (office ++ route ++ return)
+return_happens : Happens (office ++ route ++ return)
 unfolding computing
-return_happens_lem = refl
+return_happens = refl
 
-deep_happens_lem : Happens (office ++ route ++ deep)
+deep_happens : Happens (office ++ route ++ deep)
 unfolding computing
-deep_happens_lem = refl
+deep_happens = refl
 
 pub examples : Examples
 unfolding computing searched desk after_return at_depth
 examples =
     record {
-      return_happens = return_happens_lem;
-      deep_happens = deep_happens_lem;
+      return_happens = return_happens;
+      deep_happens = deep_happens;
       newest = refl;
       second = refl;
       shared = refl;

@@ -1,9 +1,9 @@
 -- By the invariant of `ListedKeys`, which every accepted call keeps: N gives a segment its own S key, G a D key that
 -- was handed out, C copies a list into a frame, the others add no key, and the counts only grow.
+use Rattle.std.specs.Prelude.{None, Ok, Some}
 use mathlib.Core.Path.{◌≡◌, sym, ap, ◌∙◌}
 use mathlib.Core.Bool.{not}
 use mathlib.Core.List.{List, [], ◌∷◌, ◌++◌}
-use mathlib.Core.Option.{none}
 use Prim.Native.Nat.{ℕ, suc}
 use native.Mathlib.Omega.{arith}
 use lib.ListN.{length, get_or, set, length-set}
@@ -27,7 +27,6 @@ use Rattle.model.specs.Replay.{reached}
 use Rattle.model.proofs.Limits.Invariants.{keep_calls}
 use Rattle.model.proofs.Refinement.EveryCall.{refinement}
 use Rattle.model.proofs.Agreement.Mirror.{mirror}
-use Rattle.search.specs.declared.Searched.TheVariants.{At}
 use Rattle.search.specs.Searching.{searched}
 use Rattle.search.specs.Theorems.Exactly.{no_frame, call_at}
 use Rattle.search.specs.Theorems.HandedOut.{can_be_listed, HandedOut}
@@ -46,17 +45,17 @@ module _ (compile : Compiler) (d : State) (k : Kept d) (text : List ℕ) where
   abbrev InSegment : Segment → Type 0
   InSegment = SegmentListed (length d.segments) (length d.makers)
 
-  at_place_lem : (a : ℕ) (f : Place → Place) → InPlace (f (get_or d.places (place_of a d.places) free)) → Kept (at_place d a f)
-  at_place_lem a f h =
+  keep_at_place : (a : ℕ) (f : Place → Place) → InPlace (f (get_or d.places (place_of a d.places) free)) → Kept (at_place d a f)
+  keep_at_place a f h =
       record { segments = k.segments; places = everywhere_set InPlace free d.places k.places (place_of a d.places) _ h }
 
-  on_segment_lem : (s : ℕ) (f : Segment → Segment) → InSegment (f (segment_at d s)) → Kept (on_segment d s f)
-  on_segment_lem s f h =
+  keep_on_segment : (s : ℕ) (f : Segment → Segment) → InSegment (f (segment_at d s)) → Kept (on_segment d s f)
+  keep_on_segment s f h =
       let same : length (set d.segments s (f (segment_at d s))) ≡ length d.segments = length-set d.segments s (f (segment_at d s)) in
       more (omega arith) (omega arith)
       (record { segments = everywhere_set InSegment blank_segment d.segments k.segments s (f (segment_at d s)) h; places = k.places })
 
-  keep_accepted : (q : Request) → first_refusal (conditions compile d q text) ≡ none → Kept (update compile d q text)
+  keep_accepted : (q : Request) → first_refusal (conditions compile d q text) ≡ None → Kept (update compile d q text)
   unfolding conditions update
   keep_accepted request.NewUser e = k
   keep_accepted (request.StartThread a) e =
@@ -64,7 +63,7 @@ module _ (compile : Compiler) (d : State) (k : Kept d) (text : List ℕ) where
         segments = k.segments;
         places = everywhere_set InPlace free d.places k.places (place_for d.thread_numbers is_free d.places) _ tt;
       }
-  keep_accepted (request.EndThread a) e = at_place_lem a (λ p. free) tt
+  keep_accepted (request.EndThread a) e = keep_at_place a (λ p. free) tt
   keep_accepted (request.NewSegment a b) e =
       let s = length d.segments in
       let g = fresh_segment s (user_of d a) b in
@@ -81,36 +80,36 @@ module _ (compile : Compiler) (d : State) (k : Kept d) (text : List ℕ) where
       more (omega arith) (omega arith) k
   keep_accepted (request.GiveKey a b c) e =
       let known = not-false (is_key d c) (all_fail (conditions compile d (request.GiveKey a b c) text) e).1.1.0 in
-      on_segment_lem b (give_key c) (All-append InLists (segment_at d b).keys (Defined c ∷ []) (k.segments b) (known, tt))
+      keep_on_segment b (give_key c) (All-append InLists (segment_at d b).keys (Defined c ∷ []) (k.segments b) (known, tt))
   keep_accepted (request.TakeKey a b c) e =
       let InTaken : Place → Type 0 = PlaceListed (length (on_segment d b (take_key c)).segments) (length d.makers) in
-      let listed = on_segment_lem b (take_key c) (All-keep InLists (λ j. not (same_key (Defined c) j)) (segment_at d b).keys (k.segments b)) in
+      let listed = keep_on_segment b (take_key c) (All-keep InLists (λ j. not (same_key (Defined c) j)) (segment_at d b).keys (k.segments b)) in
       record {
         segments = listed.segments;
         places = everywhere_map InTaken InTaken free (on_thread (revoke_thread b c)) (place_revoke _ _ b c) tt d.places listed.places;
       }
-  keep_accepted (request.AddLock a b c) e = on_segment_lem b (add_products d.lock_numbers c (sum_in (compile (issued d) text))) (k.segments b)
-  keep_accepted (request.DropLock a b) e = on_segment_lem (lock_segment d b) (drop_products b) (k.segments (lock_segment d b))
+  keep_accepted (request.AddLock a b c) e = keep_on_segment b (add_products d.lock_numbers c (sum_in (compile (issued d) text))) (k.segments b)
+  keep_accepted (request.DropLock a b) e = keep_on_segment (lock_segment d b) (drop_products b) (k.segments (lock_segment d b))
   keep_accepted (request.CallSegment a b) e =
       let i = place_of a d.places in
       let keys = (segment_at d b).keys in
-      at_place_lem a (on_thread (push_frame b keys)) (place_push _ _ b keys (get_or d.places i free) (k.segments b) (k.places i))
+      keep_at_place a (on_thread (push_frame b keys)) (place_push _ _ b keys (get_or d.places i free) (k.segments b) (k.places i))
   keep_accepted (request.ReturnCall a) e =
       let i = place_of a d.places in
-      at_place_lem a (on_thread pop_frame) (place_pop _ _ (get_or d.places i free) (k.places i))
+      keep_at_place a (on_thread pop_frame) (place_pop _ _ (get_or d.places i free) (k.places i))
   keep_accepted (request.Access a b c) e = k
 
 -- ---- what the search finds
 
-found_listed : (d : State) → Kept d → (n : ℕ) (k : Key) (p : ℕ) → searched d n k ≡ At p
+found_listed : (d : State) → Kept d → (n : ℕ) (k : Key) (p : ℕ) → searched d n k ≡ Ok (Some p)
     → Listed (length d.segments) (length d.makers) k
 found_listed d kept n k p e =
     let fs = (thread_at d n).frames in
     let listed = everywhere_all (FrameListed _ _) no_frame tt fs (kept.places (place_of n d.places)) p in
     one_listed _ _ k (call_at fs p).keys listed (((exactly d n k).at p).0 e).1.hands_over
 
-pub handed_out_lem : HandedOut
-handed_out_lem xs n k p e =
+pub handed_out : HandedOut
+handed_out xs n k p e =
     let kept : Kept (state_of (reached outcome_of xs)) = rw (refinement.list xs).state (keep_calls outcome_of Kept (keep_accepted outcome_of) empty_state kept_empty xs) in
     sym (ap (λ (i : Issued). can_be_listed i.segments i.defined k) (mirror.state xs).handed_out)
     ∙ found_listed (state_of (reached outcome_of xs)) kept n k p e

@@ -1,13 +1,15 @@
 -- What the code's tests on the arrays say of the state that they hold, and a key's code of the key.
-use mathlib.Core.Path.{◌≡◌, refl, ap, ◌∙◌}
-use mathlib.Core.Bool.{Bool, true, false, not}
+use Rattle.std.specs.Prelude.{nat_eq}
+use Rattle.std.specs.List.{list_any}
+use mathlib.Core.Path.{◌≡◌, refl, sym, ap, ap₂, ◌∙◌}
+use mathlib.Core.Bool.{Bool, true, false, not, ◌||◌}
 use mathlib.Core.List.{List, [], ◌∷◌, map}
 use Prim.Native.Nat.{ℕ, ◌≤◌, ◌<◌, min}
 use native.Mathlib.Omega.{arith}
 use lib.Dec.{eqb}
 use lib.ListN.{length, get_or, take, length-take, length-map}
 use lib.Seq.{get_or-take}
-use borrow.Author.Tests.{lt-ltb, le-ltb}
+use borrow.Author.Tests.{lt-ltb, le-ltb, eqb-true, eqb-false, eq-eqb, ne_eqb}
 use Rattle.product.specs.declared.literal.Key.TheVariants.{Defined}
 use Rattle.base.proofs.Truth.{neither}
 use Rattle.base.specs.Lists.{any, keep}
@@ -15,8 +17,8 @@ use Rattle.model.specs.Limits.{most_segments, most_defined}
 use Rattle.model.specs.Threads.{same_key, is_in}
 use Rattle.model.specs.State.{is_segment, is_key, owns, segment_at, Segment}
 use Rattle.model.specs.Effects.{take_key}
-use Rattle.model.specs.Cells.{Cells, cell, row_at, table_at, segment_count, defined_count, owner_cell, defined_cell, key_in, has_key, list_row, segment_in, state_of}
-use Rattle.base.proofs.Lists.{any_map, keep_map, keep_same, length_each}
+use Rattle.model.specs.Cells.{Cells, cell, row_at, table_at, segment_count, defined_count, owner_cell, defined_cell, key_in, no_key, has_key, list_row, segment_in, state_of}
+use Rattle.base.proofs.Lists.{case_bool, any_map, keep_map, keep_same, length_each}
 use Rattle.model.proofs.Refinement.SegmentTables.{same_code}
 use Rattle.model.proofs.Refinement.ServedCalls.{is_segment_lem, segment_at_lem}
 use Rattle.base.specs.Counts.{Counted}
@@ -47,6 +49,26 @@ all_stay x [] h = refl
 all_stay x (y ∷ ys) h =
     let (here, there) = neither (eqb x y) (any (eqb x) ys) h in
     simp here (ap (λ (r : List ℕ). y ∷ r) (all_stay x ys there))
+
+eqb_turned : (x y : ℕ) → eqb y x ≡ eqb x y
+eqb_turned x y =
+    case_bool (eqb x y)
+    (λ e. eq-eqb y x (sym (eqb-true x y e)) ∙ sym e)
+    (λ e. ne_eqb y x (λ q. eqb-false x y e (sym q)) ∙ sym e)
+
+-- the code of a key is in a row of cells exactly where it is among the keys
+among : (x : ℕ) → eqb no_key x ≡ false → (xs : List ℕ) → list_any (λ y. nat_eq y x) xs ≡ any (eqb x) (keep has_key xs)
+among x h [] = refl
+among x h (y ∷ ys) =
+    case_bool (eqb y no_key)
+    (λ e. let n = eqb-true y no_key e in simp e (rw n (simp h (among x h ys))))
+    (λ e. simp e (ap₂ (λ (a b : Bool). a || b) (eqb_turned x y) (among x h ys)))
+
+pub among_keys : (k : ℕ) → k < most_defined → {found : Bool} (xs : List ℕ) → {list : List ℕ} → list ≡ xs → found ≡ list_any (λ y. nat_eq y (defined_cell k)) list
+    → found ≡ any (eqb (defined_cell k)) (keep has_key xs)
+among_keys k low xs {list} same e =
+    e ∙ among (defined_cell k) (ne_eqb no_key (defined_cell k) (λ q. omega arith)) list
+    ∙ ap (λ (ys : List ℕ). any (eqb (defined_cell k)) (keep has_key ys)) same
 
 -- ---- segments and keys handed out
 

@@ -1,8 +1,8 @@
 -- What the tests that G and T begin with say of the state: the thread is live, the segment and the key are handed out.
+use Rattle.std.specs.Prelude.{Some, Result, Ok, Err, ⊤}
 use mathlib.Core.Path.{◌≡◌, ap, subst, ◌∙◌}
 use mathlib.Core.Bool.{false, not}
 use mathlib.Core.List.{List, ◌∷◌}
-use mathlib.Core.Option.{some}
 use Prim.Native.Nat.{ℕ, ◌<◌}
 use native.Mathlib.Omega.{arith}
 use lib.ListN.{get_or}
@@ -11,15 +11,15 @@ use Rattle.call.specs.declared.request.Request.{Request}
 use Rattle.base.specs.Conditions.{Condition, first_refusal}
 use Rattle.model.specs.declared.answer.Refusal.{Refusal}
 use Rattle.model.specs.declared.answer.Refusal.TheVariants.{NoSegment, NoKey}
-use Rattle.model.specs.declared.answer.Answer.TheVariants.{Refused}
-use Rattle.model.specs.Limits.{most_segments, most_defined}
+use Rattle.model.specs.Answers.{Answer}
+use Rattle.model.specs.Limits.{most_defined}
 use Rattle.model.specs.Refusals.{conditions, unless, unknown_editor}
 use Rattle.model.specs.State.{is_segment, is_key, segment_at, editor}
-use Rattle.model.specs.Cells.{Row, Cells, cell, segment_in, state_of}
+use Rattle.model.specs.Cells.{Cells, threads_are, cell, segment_in, state_of}
 use Rattle.model.specs.Serving.{Serves}
 use Rattle.model.proofs.Refinement.ServedCalls.{serves_refused}
-use Rattle.segments.specs.declared.names.NameTest.{NameTest}
-use Rattle.segments.specs.declared.names.NameTest.TheVariants.{Passed, Failed}
+use Rattle.threads.specs.Editors.{EditorLent}
+use Rattle.threads.proofs.Editors.{editor_known}
 use Rattle.segments.specs.Internal.{NamesTested, no_segment_lem, no_key_lem, handed_out_lem}
 use Rattle.segments.proofs.ArrayTests.{segment_missing, a_segment, segment_here, key_missing, a_key, maker_here}
 
@@ -30,52 +30,44 @@ Names d q text a s k =
     × (conditions outcome_of (state_of d) q text
     ≡ unknown_editor (state_of d) a ∷ unless (is_segment (state_of d) s) NoSegment ∷ unless (is_key (state_of d) k) NoKey ∷ rest)
 
--- and the last two hold
-pub record Named (d : Cells) (s k : ℕ) : Type 0 where
+-- and none of them holds of a call of user u
+pub record Begun (d : Cells) (a s k u : ℕ) : Type 0 where
+  pub known : editor (state_of d) a ≡ Some u
   pub segment : not (is_segment (state_of d) s) ≡ false
   pub key : not (is_key (state_of d) k) ≡ false
   pub there : segment_at (state_of d) s ≡ segment_in d s
   pub maker : get_or (state_of d).makers k 0 ≡ cell d.makers k
+  pub low : k < most_defined
 
--- what each answer of the tests says of a call of user u whose conditions begin with them
-module _ (d : Cells) (q : Request) (text : List ℕ) (a s k : ℕ) (names : Names d q text a s k) {u : ℕ} (known : editor (state_of d) a ≡ some u) where
-  abbrev pub Told : NameTest → Type 0
-  Told (Failed x) = Serves d q text (Refused x) d
-  Told Passed = Named d s k
+-- what the answer of the tests says of a call whose editor the first answer knows
+module _ (d : Cells) (q : Request) (text : List ℕ) (a s k : ℕ) (names : Names d q text a s k) {r : Answer} (lent : EditorLent (threads_are d.threads) a r)
+    {u : ℕ} (e : r ≡ Ok u) where
+  abbrev pub Told : Result ⊤ Refusal → Type 0
+  Told (Err x) = Serves d q text (Err x) d
+  Told (Ok z) = Begun d a s k u
 
-  refused : {x : Refusal} → {before : List (Condition Refusal)} → conditions outcome_of (state_of d) q text ≡ before → first_refusal before ≡ some x
-      → Serves d q text (Refused x) d
+  known : editor (state_of d) a ≡ Some u
+  known = editor_known d a lent u e
+
+  refused : {x : Refusal} → {before : List (Condition Refusal)} → conditions outcome_of (state_of d) q text ≡ before → first_refusal before ≡ Some x
+      → Serves d q text (Err x) d
   refused same e = serves_refused d q text (ap first_refusal same ∙ e)
 
-  told : {r : NameTest} → NamesTested d.registry d.makers s k r → Told r
+  told : {t : Result ⊤ Refusal} → NamesTested d.registry d.makers s k t → Told t
   told (no_segment_lem n segments h) = refused names.1 (rw (known, segment_missing d s segments h))
   told (no_key_lem n segments segment m keys h) = refused names.1 (rw (known, a_segment d s segments segment, key_missing d k keys h))
   told (handed_out_lem n segments segment m keys key) =
       record {
+        known = known;
         segment = a_segment d s segments segment;
         key = a_key d k keys key;
         there = segment_here d s segments segment;
         maker = maker_here d k keys key;
+        low = let all = keys.low in omega arith;
       }
 
-  pub name_missing : {r : NameTest} {x : Refusal} → NamesTested d.registry d.makers s k r → r ≡ Failed x → Serves d q text (Refused x) d
+  pub name_missing : {t : Result ⊤ Refusal} {x : Refusal} → NamesTested d.registry d.makers s k t → t ≡ Err x → Serves d q text (Err x) d
   name_missing t e = subst Told e (told t)
 
-  pub names_known : {r : NameTest} → NamesTested d.registry d.makers s k r → r ≡ Passed → Named d s k
-  names_known t e = subst Told e (told t)
-
--- numbers of what is handed out are below the limits
-abbrev Low : ℕ → ℕ → NameTest → Type 0
-Low s k (Failed x) = Unit {0}
-Low s k Passed = (s < most_segments) × (k < most_defined)
-
-low : {registry makers : Row} {s k : ℕ} {r : NameTest} → NamesTested registry makers s k r → Low s k r
-low (no_segment_lem n segments h) = tt
-low (no_key_lem n segments segment m keys h) = tt
-low (handed_out_lem n segments segment m keys key) =
-    let most = segments.low in
-    let all = keys.low in
-    (omega arith, omega arith)
-
-pub names_low : {registry makers : Row} {s k : ℕ} {r : NameTest} → NamesTested registry makers s k r → r ≡ Passed → (s < most_segments) × (k < most_defined)
-names_low {s = s} {k = k} t e = subst (Low s k) e (low t)
+  pub begun : {t : Result ⊤ Refusal} → NamesTested d.registry d.makers s k t → t ≡ Ok tt → Begun d a s k u
+  begun t e = subst Told e (told t)

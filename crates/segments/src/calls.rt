@@ -1,10 +1,10 @@
-// K, N, G and T.
+// K, N, G and T. C lends the arrays one by one.
 ghost use Rattle.call.specs.declared.request.Request.TheVariants.{NewSegment, NewKey, GiveKey, TakeKey};
 ghost use Rattle.model.specs.Cells.{registry_is, makers_are, segments_are, locks_are, threads_are, ◌and◌};
 ghost use Rattle.model.specs.Serving.{ServesLent};
 
-use crate::list::remove;
-use crate::names::{NameTest, test_names};
+use crate::list::{Kept, key_list, without};
+use crate::names::test_names;
 use model::answer::{Answer, Refusal};
 use model::arrays::{
     DEFINED, DEFINED_CODES, Locks, Makers, NO_KEY, OWNER, Registry, SEGMENTS, Segments, Threads,
@@ -14,7 +14,7 @@ use registry::defined;
 use threads::editor::editor;
 use threads::revocation::revoke;
 
-// The greatest kind: 0 is code, 1 a sheet.
+// The greatest kind: 0 is code, 1 a sheet. A number, since a call may name any and a lent cell hold any.
 const SHEET: u16 = 1;
 
 // K, new D key (document 01); the thread's user is its maker.
@@ -29,17 +29,14 @@ pub fn new_key(
         (NewKey thread) result
         (registry_is registry.new and makers_are makers.new) }
 {
-    let editor = editor(threads, thread);
-    let Answer::Accepted(user) = editor else {
-        return editor;
-    };
+    let user = editor(threads, thread)?;
     let key = defined(registry, makers);
     if MOST_DEFINED <= key {
-        return Answer::Refused(Refusal::Full);
+        return Err(Refusal::Full);
     }
     makers[key] = user;
     registry[DEFINED] = key as u32 + 1;
-    Answer::Accepted(key as u16)
+    Ok(key as u16)
 }
 
 // N, new segment; the thread's user is its owner, and its key list starts with its own S key.
@@ -57,16 +54,13 @@ pub fn new_segment(
         (NewSegment thread kind) result
         (registry_is registry.new and segments_are segments.new and locks_are locks.new) }
 {
-    let editor = editor(threads, thread);
-    let Answer::Accepted(user) = editor else {
-        return editor;
-    };
+    let user = editor(threads, thread)?;
     if SHEET < kind {
-        return Answer::Refused(Refusal::Unfit);
+        return Err(Refusal::Unfit);
     }
     let segment = registry[SEGMENTS];
     if MOST_SEGMENTS as u32 <= segment {
-        return Answer::Refused(Refusal::Full);
+        return Err(Refusal::Full);
     }
     let s = segment as usize;
     let own = segment as u16;
@@ -76,7 +70,7 @@ pub fn new_segment(
     ];
     locks[s][0][0] = 0;
     registry[SEGMENTS] = segment + 1;
-    Answer::Accepted(own)
+    Ok(own)
 }
 
 // G, give key: a D key that the owner made goes into the segment's key list.
@@ -95,32 +89,25 @@ pub fn give_key(
         (GiveKey thread segment key) result
         (segments_are segments.new) }
 {
-    let editor = editor(threads, thread);
-    let Answer::Accepted(user) = editor else {
-        return editor;
-    };
-    if let NameTest::Failed(refusal) = test_names(registry, makers, segment, key) {
-        return Answer::Refused(refusal);
-    }
-    let s = segment as usize;
-    let owner = segments[s][0][OWNER];
+    let user = editor(threads, thread)?;
+    test_names(registry, makers, segment, key)?;
+    let owner = segments[segment as usize][0][OWNER];
     let maker = makers[key as usize];
-    if !((owner == user) & (maker == user)) {
-        return Answer::Refused(Refusal::NotOwner);
+    if owner != user || maker != user {
+        return Err(Refusal::NotOwner);
     }
-    let list = segments[s][1];
-    let kept = remove(list, segment, DEFINED_CODES + key);
-    if kept.found {
-        return Answer::Refused(Refusal::AlreadyPresent);
+    let list = key_list(segments, segment);
+    let code = DEFINED_CODES + key;
+    if list.contains(&code) {
+        return Err(Refusal::AlreadyPresent);
     }
-    let count = kept.count;
+    let Kept { mut cells, count } = without(&list, code);
     if MOST_LISTED <= count {
-        return Answer::Refused(Refusal::Full);
+        return Err(Refusal::Full);
     }
-    let mut cells = kept.cells;
-    cells[count] = DEFINED_CODES + key;
-    segments[s][1] = cells;
-    Answer::Accepted(count as u16 + 1)
+    cells[count] = code;
+    segments[segment as usize][1] = cells;
+    Ok(count as u16 + 1)
 }
 
 // T, take key: the owner takes a D key out of the list, and every open call of the segment loses it.
@@ -139,27 +126,19 @@ pub fn take_key(
         (TakeKey thread segment key) result
         (segments_are segments.new and threads_are threads.new) }
 {
-    let editor = editor(threads, thread);
-    let Answer::Accepted(user) = editor else {
-        return editor;
-    };
-    if let NameTest::Failed(refusal) = test_names(registry, makers, segment, key) {
-        return Answer::Refused(refusal);
-    }
-    let s = segment as usize;
-    let owner = segments[s][0][OWNER];
+    let user = editor(threads, thread)?;
+    test_names(registry, makers, segment, key)?;
+    let owner = segments[segment as usize][0][OWNER];
     if owner != user {
-        return Answer::Refused(Refusal::NotOwner);
+        return Err(Refusal::NotOwner);
     }
-    let list = segments[s][1];
+    let list = key_list(segments, segment);
     let code = DEFINED_CODES + key;
-    let kept = remove(list, segment, code);
-    if !kept.found {
-        return Answer::Refused(Refusal::NotPresent);
+    if !list.contains(&code) {
+        return Err(Refusal::NotPresent);
     }
-    let count = kept.count;
-    let cells = kept.cells;
-    segments[s][1] = cells;
+    let Kept { cells, count } = without(&list, code);
+    segments[segment as usize][1] = cells;
     revoke(threads, segment, code);
-    Answer::Accepted(count as u16)
+    Ok(count as u16)
 }

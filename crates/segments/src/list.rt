@@ -1,42 +1,39 @@
 // Document 01: a segment's key list. A row of 8 cells, each a key or none.
-ghost use Rattle.std.specs.Prelude.{set};
-ghost use Rattle.segments.specs.Internal.{Removed};
+ghost use Rattle.std.specs.Prelude.{◌≡◌, ◌<◌};
+ghost use Rattle.model.specs.Limits.{most_segments};
+ghost use Rattle.model.specs.Cells.{table_at, list_row};
+ghost use Rattle.segments.specs.Internal.{Without};
 
-use model::arrays::{NO_KEY, Row};
+use model::arrays::{NO_KEY, Row, Segments};
 
-// The keys of a segment's list but for one: closed up, how many they are, and whether the one was among them.
+// The row of the segment's list. Its own S key is the segment's number, whatever stands in the first cell.
+pub(crate) fn key_list(segments: &Segments, segment: u16) -> Row
+    requires { segment < most_segments }
+    ensures { result ≡ list_row segment (table_at segments.now segment) }
+{
+    let mut list = segments[segment as usize][1];
+    list[0] = segment;
+    list
+}
+
+// Keys closed up in a row's first cells, and how many they are: no `Vec`, since the guard has no heap.
 #[derive(Clone, Copy)]
 pub(crate) struct Kept {
     pub(crate) cells: Row,
     pub(crate) count: usize,
-    pub(crate) found: bool,
 }
 
-// Its own S key is the segment's number, whatever stands in the first cell.
-pub(crate) fn remove(mut list: Row, segment: u16, code: u16) -> Kept
-    ensures { Removed (set list 0 segment) code result.cells result.count result.found }
+// The keys of the list but for that one.
+pub(crate) fn without(list: &Row, code: u16) -> Kept
+    ensures { Without list.now code result }
 {
-    list[0] = segment;
     let mut cells = [NO_KEY; 8];
     let mut count = 0;
-    let mut found = false;
-    let mut i = 0;
-    while i < list.len() {
-        let x = list[i];
-        i += 1;
-        if x == NO_KEY {
-            continue;
+    for x in list {
+        if *x != NO_KEY && *x != code {
+            cells[count] = *x;
+            count += 1;
         }
-        if x == code {
-            found = true;
-            continue;
-        }
-        cells[count] = x;
-        count += 1;
     }
-    Kept {
-        cells,
-        count,
-        found,
-    }
+    Kept { cells, count }
 }

@@ -1,25 +1,27 @@
 // What G and T test next to the thread: the segment and the key that they name are handed out.
+ghost use Rattle.std.specs.Prelude.{◌<◌, OnOk};
+ghost use Rattle.model.specs.Limits.{most_segments, most_defined};
 ghost use Rattle.segments.specs.Internal.{NamesTested};
 
 use model::answer::Refusal;
 use model::arrays::Registry;
-use registry::defined;
+use registry::{defined, segments};
 
-#[derive(Clone, Copy)]
-pub(crate) enum NameTest {
-    Passed,
-    // the refusal of the first that is not handed out
-    Failed(Refusal),
-}
-
-pub(crate) fn test_names(registry: &Registry, makers: &[u16], segment: u16, key: u16) -> NameTest
-    ensures { NamesTested registry.now makers.now segment key result }
+// The refusal is that of the first that is not.
+pub(crate) fn test_names(
+    registry: &Registry,
+    makers: &[u16],
+    segment: u16,
+    key: u16,
+) -> Result<(), Refusal>
+    ensures tested { NamesTested registry.now makers.now segment key result }
+    ensures low { OnOk result ((segment < most_segments) × (key < most_defined)) }
 {
-    if registry::segments(registry) <= segment as usize {
-        return NameTest::Failed(Refusal::NoSegment);
+    if segments(registry) <= segment as usize {
+        return Err(Refusal::NoSegment);
     }
     if defined(registry, makers) <= key as usize {
-        return NameTest::Failed(Refusal::NoKey);
+        return Err(Refusal::NoKey);
     }
-    NameTest::Passed
+    Ok(())
 }

@@ -1,8 +1,8 @@
--- What the place of a thread says of the thread: below 64 it is live, and its table holds it.
+-- What the place of a thread says of the thread: where there is one it is live, and its table holds it.
+use Rattle.std.specs.Prelude.{None, Some}
 use mathlib.Core.Path.{◌≡◌, refl, sym, ap, ◌∙◌}
 use mathlib.Core.Bool.{Bool, true, false}
 use mathlib.Core.List.{List, [], ◌∷◌, map}
-use mathlib.Core.Option.{none, some}
 use Prim.Native.Nat.{ℕ, ◌%◌, ◌≤◌, ◌<◌}
 use native.Mathlib.Omega.{arith}
 use lib.Dec.{eqb}
@@ -14,7 +14,8 @@ use Rattle.model.specs.State.{Place, free, taken, is_thread, place_for, place_of
 use Rattle.model.specs.Cells.{Table, Cells, cell, row_at, table_at, number_cell, user_cell, live_cell, frames_of, depth_of, place_in, state_of}
 use Rattle.base.proofs.Lists.{case_bool, clash}
 use Rattle.model.proofs.Refinement.ThreadTables.{length_frames}
-use Rattle.threads.proofs.PlaceScan.{place_at}
+use Rattle.threads.specs.Places.{Placed}
+use Rattle.threads.proofs.PlaceScan.{place_at, below_some, below_none}
 
 -- thread n stands at place i
 pub record Standing (d : Cells) (n i : ℕ) : Type 0 where
@@ -22,7 +23,7 @@ pub record Standing (d : Cells) (n i : ℕ) : Type 0 where
   pub thread : thread_at (state_of d) n ≡ record { user = cell (row_at (table_at d.threads i) 0) user_cell; frames = frames_of (table_at d.threads i) (depth_of (table_at d.threads i)) }
   pub depth : length (thread_at (state_of d) n).frames ≡ depth_of (table_at d.threads i)
   pub number : cell (row_at (table_at d.threads i) 0) number_cell ≡ n
-  pub edits : editor (state_of d) n ≡ some (cell (row_at (table_at d.threads i) 0) user_cell)
+  pub edits : editor (state_of d) n ≡ Some (cell (row_at (table_at d.threads i) 0) user_cell)
 
 -- the place passes the test where there is one below the length
 index_hits : {A : Type 0} (p : A → Bool) (e : A) (xs : List A) → index_of p xs < length xs → p (get_or xs (index_of p xs) e) ≡ true
@@ -52,34 +53,38 @@ holds n t h =
     (λ e. let g = rw e at h in clash g refl)
     (λ e. let q : n ≡ cell (row_at t 0) number_cell = eqb-true n (cell (row_at t 0) number_cell) (rw e at h) in (simp (e, q), sym q))
 
-module _ (d : Cells) (n i : ℕ) (size : length d.threads ≡ most_threads) (is : i ≡ place_of n (map place_in d.threads)) where
-  abbrev places : List Place
-  places = map place_in d.threads
-
-  sized : length places ≡ most_threads
-  sized = length-map d.threads place_in ∙ size
-
-  at_place_lem : get_or places (place_of n places) free ≡ place_in (table_at d.threads i)
-  at_place_lem = rw is (place_at d.threads (place_of n places))
-
-  pub stands : i < most_threads → Standing d n i
+module _ (d : Cells) {n : ℕ} where
+  -- the place that is found holds the thread
+  pub stands : {i : ℕ} → Placed d.threads n (is_thread n) (Some i) → Standing d n i
   unfolding state_of
-  stands low =
-      let hit : is_thread n (place_in (table_at d.threads i)) ≡ true = sym (ap (is_thread n) at_place_lem) ∙ place_hits n (is_thread n) places sized (omega arith) in
+  stands {i} found =
+      let (is, low) = below_some found.place in
+      let places : List Place = map place_in d.threads in
+      let sized : length places ≡ most_threads = length-map d.threads place_in ∙ found.count in
+      let at : get_or places (place_of n places) free ≡ place_in (table_at d.threads i) = rw is (place_at d.threads (place_of n places)) in
+      let hit : is_thread n (place_in (table_at d.threads i)) ≡ true = sym (ap (is_thread n) at) ∙ place_hits n (is_thread n) places sized low in
       let (is-taken, number) = holds n (table_at d.threads i) hit in
-      let found = at_place_lem ∙ is-taken in
+      let held = at ∙ is-taken in
       record {
-        live = ap (λ (x : Place). is_some (thread_in x)) found;
-        thread = ap (λ (x : Place). or_default blank_thread (λ t. t) (thread_in x)) found;
-        depth = ap (λ (x : Place). length (or_default blank_thread (λ t. t) (thread_in x)).frames) found ∙ length_frames (table_at d.threads i) (depth_of (table_at d.threads i));
+        live = ap (λ (x : Place). is_some (thread_in x)) held;
+        thread = ap (λ (x : Place). or_default blank_thread (λ t. t) (thread_in x)) held;
+        depth = ap (λ (x : Place). length (or_default blank_thread (λ t. t) (thread_in x)).frames) held ∙ length_frames (table_at d.threads i) (depth_of (table_at d.threads i));
         number = number;
-        edits = ap (λ (x : Place). map_option (λ t. t.user) (thread_in x)) found;
+        edits = ap (λ (x : Place). map_option (λ t. t.user) (thread_in x)) held;
       }
 
-  pub not_live_lem : most_threads ≤ i → is_live (state_of d) n ≡ false
-  unfolding state_of
-  not_live_lem high = ap (λ (x : Place). is_some (thread_in x)) (place_past n (is_thread n) places sized (omega arith))
+  -- the place is the definitions'
+  pub at_place : {i : ℕ} → Placed d.threads n (is_thread n) (Some i) → i ≡ place_of n (map place_in d.threads)
+  at_place found = (below_some found.place).0
 
-  pub no_editor : most_threads ≤ i → editor (state_of d) n ≡ none
-  unfolding state_of
-  no_editor high = ap (λ (x : Place). map_option (λ t. t.user) (thread_in x)) (place_past n (is_thread n) places sized (omega arith))
+  module _ (missed : Placed d.threads n (is_thread n) None) where
+    past : get_or (map place_in d.threads) (place_of n (map place_in d.threads)) free ≡ free
+    past = place_past n (is_thread n) (map place_in d.threads) (length-map d.threads place_in ∙ missed.count) (below_none missed.place)
+
+    pub not_live : is_live (state_of d) n ≡ false
+    unfolding state_of
+    not_live = ap (λ (x : Place). is_some (thread_in x)) past
+
+    pub no_editor : editor (state_of d) n ≡ None
+    unfolding state_of
+    no_editor = ap (λ (x : Place). map_option (λ t. t.user) (thread_in x)) past

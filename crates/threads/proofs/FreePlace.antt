@@ -1,4 +1,5 @@
--- There is room for a thread where the place for it is one of the 64.
+-- There is room for a thread where a free place is found.
+use Rattle.std.specs.Prelude.{None, Some}
 use mathlib.Core.Path.{◌≡◌, refl, ◌∙◌}
 use mathlib.Core.Bool.{true, false, not}
 use mathlib.Core.List.{List, map}
@@ -12,6 +13,7 @@ use Rattle.model.specs.Cells.{Table, place_in}
 use Rattle.base.proofs.Lists.{case_bool, clash, length_keep}
 use Rattle.model.proofs.Agreement.Places.{spare, one, live_change}
 use Rattle.threads.specs.Places.{Placed}
+use Rattle.threads.proofs.PlaceScan.{below_some, below_none}
 use Rattle.threads.proofs.FoundThread.{place_hits}
 
 -- take the free place, and no more threads live than there are places
@@ -28,22 +30,24 @@ free_live places i low open-place =
     counts_none free e = refl
     counts_none (taken k t) e = clash e refl
 
-module _ {threads : List Table} {n i : ℕ} (found : Placed threads n is_free i) where
-  abbrev places : List Place
-  places = map place_in threads
+module _ {threads : List Table} {n : ℕ} where
+  -- the free place is the definitions', and there is room
+  pub at_free : {i : ℕ} → Placed threads n is_free (Some i) → i ≡ place_for n is_free (map place_in threads)
+  at_free found = (below_some found.place).0
 
-  sized : length places ≡ most_threads
-  sized = length-map threads place_in ∙ found.count
-
-  pub room : i < most_threads → passes most_threads (suc (live_in places)) ≡ false
-  room low =
-      let size = sized in
-      let is = found.place in
-      let live = free_live places (place_for n is_free places) (omega arith) (place_hits n is_free places size (omega arith)) in
+  pub room : {i : ℕ} → Placed threads n is_free (Some i) → passes most_threads (suc (live_in (map place_in threads))) ≡ false
+  room found =
+      let (is, low) = below_some found.place in
+      let places : List Place = map place_in threads in
+      let size : length places ≡ most_threads = length-map threads place_in ∙ found.count in
+      let live = free_live places (place_for n is_free places) (omega arith) (place_hits n is_free places size low) in
       le-ltb most_threads (suc (live_in places)) (omega arith)
 
-  pub no_room_lem : most_threads ≤ i → passes most_threads (suc (live_in places)) ≡ true
-  no_room_lem high =
+  pub no_room : Placed threads n is_free None → passes most_threads (suc (live_in (map place_in threads))) ≡ true
+  no_room missed =
+      let high = below_none missed.place in
+      let places : List Place = map place_in threads in
+      let size : length places ≡ most_threads = length-map threads place_in ∙ missed.count in
       case_bool (passes most_threads (suc (live_in places)))
       (λ e. e)
-      (λ e. let size = sized in let is = found.place in let low = (spare n places size e).low in absurd (omega arith))
+      (λ e. let low = (spare n places size e).low in absurd (omega arith))

@@ -1,47 +1,61 @@
--- The scan for the first place that passes a test, and the look at a thread's own place before it.
-use mathlib.Core.Path.{◌≡◌, sym, ap, ◌∙◌}
+-- The look at a thread's own place, and the scan for the first place that passes a test.
+use Rattle.std.specs.Prelude.{Option, None, Some}
+use Rattle.std.specs.List.{position, position_or_len}
+use Rattle.std.specs.Option.{IfSome}
+use mathlib.Core.Path.{◌≡◌, refl, sym, ap, ◌∙◌}
 use mathlib.Core.Bool.{Bool, true, false}
-use mathlib.Core.List.{List, [], map}
+use mathlib.Core.List.{List, [], ◌∷◌, map}
 use Prim.Native.Nat.{ℕ, ◌%◌, ◌≤◌, ◌<◌}
 use native.Mathlib.Omega.{arith}
+use borrow.Author.Tests.{lt-ltb, ltb-true, ltb-false}
+use lib.Dec.{ltb}
 use lib.ListN.{length, get_or, get_or-map}
-use Rattle.base.specs.Lists.{index_of, each}
+use Rattle.base.specs.Lists.{index_of}
+use Rattle.base.proofs.Lists.{case_bool, some_inj, some≢none}
 use Rattle.model.specs.Limits.{most_threads}
-use Rattle.model.specs.State.{Place, free}
+use Rattle.model.specs.State.{Place, free, place_for}
 use Rattle.model.specs.Cells.{Table, table_at, place_in}
-use Rattle.base.proofs.Scans.{Missed, missed_hit, missed_end, each_read}
-use Rattle.threads.specs.Internal.{First}
-use Rattle.threads.specs.Places.{Placed}
+use Rattle.threads.specs.Places.{place_below, Placed}
 
 pub place_at : (threads : List Table) (i : ℕ) → get_or (map place_in threads) i free ≡ place_in (table_at threads i)
 place_at threads i = get_or-map place_in threads i []
 
--- the place at an index, as the loops read it
-abbrev pub place_of : List Table → ℕ → Place
-place_of threads i = place_in (table_at threads i)
+-- the library's scan is the definitions'
+position_is : {A B : Type 0} (p : B → Bool) (f : A → B) (xs : List A) → position_or_len (λ x. p (f x)) xs ≡ index_of p (map f xs)
+position_is p f [] = refl
+position_is p f (x ∷ xs) = case_bool (p (f x)) (λ e. rw e refl) (λ e. let rest = position_is p f xs in rw e (omega arith))
 
-module _ {threads : List Table} {p : Place → Bool} {places i : ℕ} (size : places ≡ length threads) (most : places ≡ most_threads)
-    (before : Missed p (place_of threads) places i) where
-  found : {r : ℕ} → r ≤ most_threads → r ≡ index_of p (each (place_of threads) 0 places) → First threads p r
-  found low e =
-      record {
-        place = e ∙ ap (λ (n : ℕ). index_of p (each (place_of threads) 0 n)) size ∙ ap (index_of p) (each_read place_in [] threads);
-        low = low;
-        count = sym size ∙ most;
-      }
+-- what a place below the limit, and none, says
+module _ {most i : ℕ} where
+  pub below_some : {j : ℕ} → Some j ≡ place_below most i → (j ≡ i) × (i < most)
+  below_some e =
+      case_bool (ltb i most)
+      (λ l. (some_inj (rw l at e), ltb-true i most l))
+      (λ l. absurd (some≢none (rw l at e)))
 
-  pub scan_hit : i < places → p (place_of threads i) ≡ true → First threads p i
-  scan_hit l hit = found (omega arith) (missed_hit p (place_of threads) before l hit)
+  pub below_none : None ≡ place_below most i → most ≤ i
+  below_none e =
+      case_bool (ltb i most)
+      (λ l. absurd (some≢none (sym (rw l at e))))
+      (λ l. ltb-false i most l)
 
-  pub scan_end : places ≤ i → First threads p places
-  scan_end h = found (omega arith) (missed_end p (place_of threads) before h)
+low_below : (most i : ℕ) → IfSome (place_below most i) (λ j. j < most)
+low_below most i = case_bool (ltb i most) (λ l. rw l (ltb-true i most l)) (λ l. rw l tt)
 
-pub home_low : (n m : ℕ) → m ≡ most_threads → n % m < most_threads
-home_low n m size = rw size (omega arith)
+module _ (threads : List Table) (p : Place → Bool) (n m : ℕ) (size : m ≡ most_threads) (count : length threads ≡ most_threads) where
+  placed : {r : Option ℕ} → r ≡ place_below most_threads (place_for n p (map place_in threads)) → Placed threads n p r
+  placed e = record { place = e; low = rw e (low_below most_threads (place_for n p (map place_in threads))); count = count }
 
-module _ {threads : List Table} {p : Place → Bool} (n m : ℕ) (size : m ≡ most_threads) where
-  pub home_hit : length threads ≡ most_threads → p (place_in (table_at threads (n % m))) ≡ true → Placed threads n p (n % m)
-  home_hit l hit = rw size (record { place = simp (ap p (place_at threads (n % most_threads)) ∙ rw size at hit); low = omega arith; count = l })
+  home : p (place_in (table_at threads (n % m))) ≡ p (get_or (map place_in threads) (n % most_threads) free)
+  home = rw size (sym (ap p (place_at threads (n % most_threads))))
 
-  pub home_miss : {r : ℕ} → p (place_in (table_at threads (n % m))) ≡ false → First threads p r → Placed threads n p r
-  home_miss miss f = record { place = f.place ∙ simp (ap p (place_at threads (n % most_threads)) ∙ rw size at miss); low = f.low; count = f.count }
+  pub home_hit : {r : Option ℕ} → p (place_in (table_at threads (n % m))) ≡ true → r ≡ Some (n % m) → Placed threads n p r
+  home_hit hit e =
+      let here : p (get_or (map place_in threads) (n % most_threads) free) ≡ true = sym home ∙ hit in
+      let low : ltb (n % most_threads) most_threads ≡ true = lt-ltb (n % most_threads) most_threads (omega arith) in
+      placed (simp (here, low) (rw size at e))
+
+  pub home_miss : {r : Option ℕ} → p (place_in (table_at threads (n % m))) ≡ false → r ≡ position (λ t. p (place_in t)) threads → Placed threads n p r
+  home_miss miss e =
+      let gone : p (get_or (map place_in threads) (n % most_threads) free) ≡ false = sym home ∙ miss in
+      placed (simp gone (rw (position_is p place_in threads, count) at e))

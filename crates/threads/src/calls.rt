@@ -7,7 +7,7 @@ use crate::frames::depth;
 use crate::place::{find, find_free};
 use model::answer::{Answer, Refusal};
 use model::arrays::{FRAMES, LIVE, Registry, THREADS, Threads};
-use model::bounds::{MOST_NUMBERS, MOST_THREADS};
+use model::bounds::MOST_NUMBERS;
 use registry::is_user;
 
 // S, start thread (document 01: run).
@@ -18,20 +18,17 @@ pub fn start_thread(registry: &mut Registry, threads: &mut Threads, user: u16) -
         (registry_is registry.new and threads_are threads.new) }
 {
     if !is_user(registry, user) {
-        return Answer::Refused(Refusal::UnknownUser);
+        return Err(Refusal::UnknownUser);
     }
     let numbers = registry[THREADS];
     if MOST_NUMBERS <= numbers {
-        return Answer::Refused(Refusal::Full);
+        return Err(Refusal::Full);
     }
     let number = numbers as u16;
-    let free = find_free(threads, number);
-    if MOST_THREADS <= free {
-        return Answer::Refused(Refusal::Full);
-    }
+    let free = find_free(threads, number).ok_or(Refusal::Full)?;
     registry[THREADS] = numbers + 1;
     threads[free][0] = [number, user, 0, 1, 0, 0, 0, 0];
-    Answer::Accepted(number)
+    Ok(number)
 }
 
 // E, end thread. The answer is how many open calls were closed.
@@ -41,13 +38,10 @@ pub fn end_thread(threads: &mut Threads, number: u16) -> Answer
         (EndThread number) result
         (threads_are threads.new) }
 {
-    let place = find(threads, number);
-    if MOST_THREADS <= place {
-        return Answer::Refused(Refusal::NoThread);
-    }
+    let place = find(threads, number).ok_or(Refusal::NoThread)?;
     let frames = depth(&threads[place]);
     threads[place][0][LIVE] = 0;
-    Answer::Accepted(frames as u16)
+    Ok(frames as u16)
 }
 
 // R, return from the newest open call. The answer is its segment.
@@ -57,15 +51,12 @@ pub fn return_call(threads: &mut Threads, number: u16) -> Answer
         (ReturnCall number) result
         (threads_are threads.new) }
 {
-    let place = find(threads, number);
-    if MOST_THREADS <= place {
-        return Answer::Refused(Refusal::NoThread);
-    }
+    let place = find(threads, number).ok_or(Refusal::NoThread)?;
     let frames = depth(&threads[place]);
     if frames == 0 {
-        return Answer::Refused(Refusal::NotPresent);
+        return Err(Refusal::NotPresent);
     }
     let segment = threads[place][frames][0];
     threads[place][0][FRAMES] = (frames - 1) as u16;
-    Answer::Accepted(segment)
+    Ok(segment)
 }

@@ -5,15 +5,11 @@ ghost use Rattle.threads.specs.Editors.{EditorLent};
 use crate::place::find;
 use model::answer::{Answer, Refusal};
 use model::arrays::{Threads, USER};
-use model::bounds::MOST_THREADS;
 
 // The answer is that user. A thread that isn't live is refused.
 pub fn editor(threads: &Threads, number: u16) -> Answer
     ensures { EditorLent (threads_are threads.now) number result }
 {
-    let place = find(threads, number);
-    if MOST_THREADS <= place {
-        return Answer::Refused(Refusal::NoThread);
-    }
-    Answer::Accepted(threads[place][0][USER])
+    let place = find(threads, number).ok_or(Refusal::NoThread)?;
+    Ok(threads[place][0][USER])
 }

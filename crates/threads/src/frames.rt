@@ -6,7 +6,6 @@ ghost use Rattle.model.specs.Cells.{cell, row_at, frame_count, depth_of};
 ghost use Rattle.model.specs.Stores.{push_row};
 ghost use Rattle.base.specs.Counts.{Counted};
 
-use base::cells::count_in_u16;
 use model::arrays::{FRAMES, Row, Thread};
 use model::bounds::MOST_FRAMES;
 
@@ -14,7 +13,7 @@ use model::bounds::MOST_FRAMES;
 pub fn depth(thread: &Thread) -> usize
     ensures { Counted (cell (row_at thread.now 0) frame_count) most_frames result }
 {
-    count_in_u16(thread[0][FRAMES], MOST_FRAMES)
+    (thread[0][FRAMES] as usize).min(MOST_FRAMES)
 }
 
 // Document 01: a granted call hands the run the segment's key list as it then is. A new frame with that key list, the

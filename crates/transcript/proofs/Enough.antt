@@ -1,4 +1,5 @@
 -- The refusals of a file that is too long come before its records, and rest on its first five bytes.
+use Rattle.std.specs.Prelude.{Err}
 use mathlib.Core.Path.{◌≡◌, ap, sym, ◌∙◌}
 use mathlib.Core.Bool.{true, false, cond, ◌&&◌}
 use mathlib.Core.List.{List}
@@ -11,7 +12,6 @@ use lib.Seq.{get_or-take, length-take-le, take_all}
 use borrow.Author.Tests.{leb-true, leb-false, le-leb, lt-ltb, le-ltb}
 use Rattle.journal.specs.declared.file.Refusal.{Refusal}
 use Rattle.journal.specs.declared.file.Refusal.TheVariants.{NotJournal, OtherVersion, Corrupt}
-use Rattle.journal.specs.declared.file.Verdict.TheVariants.{Refused}
 use Rattle.journal.specs.Format.{most_bytes}
 use Rattle.journal.specs.Reading.{word, current, verdict_of}
 use Rattle.journal.proofs.Files.{word_take}
@@ -23,7 +23,7 @@ use Rattle.transcript.specs.Theorems.Enough.{Enough}
 refusal : ℕ → ℕ → ℕ → ℕ → Refusal
 refusal k l d v = cond (eqb k 75 && eqb l 76 && eqb d 68) (cond (eqb v 2) Corrupt OtherVersion) NotJournal
 
-verdict_long : (s : List ℕ) → most_bytes < length s → verdict_of s ≡ Refused (refusal (get_or s 0 0) (get_or s 1 0) (get_or s 2 0) (word s 3))
+verdict_long : (s : List ℕ) → most_bytes < length s → verdict_of s ≡ Err (refusal (get_or s 0 0) (get_or s 1 0) (get_or s 2 0) (word s 3))
 unfolding verdict_of refusal
 verdict_long s h =
     let three : leb 3 (length s) ≡ true = le-leb 3 (length s) (omega arith) in

@@ -1,57 +1,50 @@
 -- A line is put whole where there is room for the longest; else nothing is.
-use mathlib.Core.Path.{◌≡◌, ◌∙◌}
-use mathlib.Core.Bool.{true, false}
+use Rattle.std.specs.Prelude.{Ok, Err}
+use mathlib.Core.Path.{◌≡◌, sym, ◌∙◌}
+use mathlib.Core.Bool.{true}
 use mathlib.Core.List.{List, [], ◌∷◌}
 use Prim.Native.Nat.{ℕ, ◌+◌, ◌≤◌, ◌<◌}
 use native.Mathlib.Omega.{arith}
 use lib.ListN.{length}
-use borrow.Author.Tests.{le-leb, lt-leb}
+use borrow.Author.Tests.{le-leb}
 use Rattle.base.specs.Bytes.{bytes}
 use Rattle.formula.specs.Spelling.{decimal}
 use Rattle.journal.specs.declared.file.Refusal.{Refusal as FileRefusal}
 use Rattle.journal.specs.declared.file.Refusal.TheVariants.{Full as FileFull, NotJournal, OtherVersion, Corrupt as FileCorrupt}
 use Rattle.journal.specs.Verdicts.{refusal_number as file_refusal}
-use Rattle.model.specs.declared.answer.Answer.{Answer}
-use Rattle.model.specs.declared.answer.Answer.TheVariants.{Accepted, Refused}
+use Rattle.model.specs.Answers.{Answer}
 use Rattle.model.specs.declared.answer.Refusal.{Refusal}
 use Rattle.model.specs.declared.answer.Refusal.TheVariants.{UnknownUser, NoThread, NoSegment, NoKey, NoLock, NotOwner, Unfit, AlreadyPresent, NotPresent, Full, Malformed, TooWide, Unsatisfiable, Denied, NotGranted, Corrupt, TooFewRows}
 use Rattle.model.specs.Answers.{refusal_number, second_number}
 use Rattle.transcript.specs.Lines.{outcome, line, file_line, has_room, LinePut}
-use Rattle.transcript.specs.Internal.{Put}
+use Rattle.transcript.specs.declared.bytes.Output.{Output}
+use Rattle.transcript.specs.Internal.{Put, Room}
 use Rattle.transcript.proofs.Decimals.{two_digits}
 use Rattle.transcript.proofs.PutBytes.{put_then}
 
-pub no_room_lem : (most : ℕ) (b : List ℕ) (i : ℕ) (s : List ℕ) → length b < i + most → LinePut most b i s b i
-no_room_lem most b i s h =
-    let e : has_room most b i ≡ false = lt-leb (i + most) (length b) h in
-    record { stored = rw e; ends = rw e; short = omega arith }
-
-pub room : (most : ℕ) {i r : ℕ} {b s e : List ℕ} → i + most ≤ length b → r ≤ i + most → Put b i s e r → LinePut most b i s e r
-room most {i} {r} {b} h k p =
-    let e : has_room most b i ≡ true = le-leb (i + most) (length b) h in
-    record { stored = p.stored ∙ rw e; ends = p.ends ∙ rw e; short = k }
+pub room : (most : ℕ) {b s e : List ℕ} {d f : Output} → d.buffer.now ≡ b → f.buffer.now ≡ e → Room d most → f.at ≤ d.at + most → Put d s f → LinePut most b d.at s e f.at
+room most {b} {s} {e} {d} {f} p q r k put =
+    let l : has_room most b d.at ≡ true = le-leb (d.at + most) (length b) (rw (← p) r) in
+    record { stored = sym q ∙ put.stored ∙ rw (l, p); ends = put.ends ∙ rw l; short = k }
 
 -- the pieces of a line
 
-pub line_put : (place : ℕ) {letter : ℕ} (answer : Answer) {b b₁ b₂ b₃ b₄ : List ℕ} {i i₁ i₂ i₃ i₄ : ℕ} → Put b i (decimal place) b₁ i₁
-    → Put b₁ i₁ (32 ∷ letter ∷ 32 ∷ []) b₂ i₂ → Put b₂ i₂ (outcome answer) b₃ i₃ → Put b₃ i₃ (10 ∷ []) b₄ i₄ → Put b i (line place letter answer) b₄ i₄
+pub line_put : (place : ℕ) {letter : ℕ} (answer : Answer) {d d₁ d₂ d₃ d₄ : Output} → Put d (decimal place) d₁ → Put d₁ (32 ∷ letter ∷ 32 ∷ []) d₂
+    → Put d₂ (outcome answer) d₃ → Put d₃ (10 ∷ []) d₄ → Put d (line place letter answer) d₄
 unfolding line
 line_put place answer p q r s = put_then (put_then (put_then p q) r) s
 
-pub file_line_put : (f : FileRefusal) (n : ℕ) {b b₁ b₂ b₃ : List ℕ} {i i₁ i₂ i₃ : ℕ} → n ≡ file_refusal f
-    → Put b i (102 ∷ 105 ∷ 108 ∷ 101 ∷ 32 ∷ 110 ∷ 111 ∷ 32 ∷ []) b₁ i₁ → Put b₁ i₁ (decimal n) b₂ i₂ → Put b₂ i₂ (10 ∷ []) b₃ i₃
-    → Put b i (file_line f) b₃ i₃
+pub file_line_put : (f : FileRefusal) (n : ℕ) {d d₁ d₂ d₃ : Output} → n ≡ file_refusal f → Put d (102 ∷ 105 ∷ 108 ∷ 101 ∷ 32 ∷ 110 ∷ 111 ∷ 32 ∷ []) d₁
+    → Put d₁ (decimal n) d₂ → Put d₂ (10 ∷ []) d₃ → Put d (file_line f) d₃
 unfolding file_line bytes
 file_line_put f n e p q r = rw (← e) (put_then (put_then p q) r)
 
-pub accepted_put : {n : ℕ} {answer : Answer} {b b₁ b₂ : List ℕ} {i i₁ i₂ : ℕ} → answer ≡ Accepted n
-    → Put b i (111 ∷ 107 ∷ 32 ∷ []) b₁ i₁ → Put b₁ i₁ (decimal n) b₂ i₂ → Put b i (outcome answer) b₂ i₂
+pub accepted_put : {n : ℕ} {answer : Answer} {d d₁ d₂ : Output} → answer ≡ Ok n → Put d (111 ∷ 107 ∷ 32 ∷ []) d₁ → Put d₁ (decimal n) d₂ → Put d (outcome answer) d₂
 unfolding bytes
 accepted_put e p q = rw e (put_then p q)
 
-pub refused_put : {f : Refusal} {m n : ℕ} {answer : Answer} {b b₁ b₂ b₃ b₄ : List ℕ} {i i₁ i₂ i₃ i₄ : ℕ} → answer ≡ Refused f → m ≡ refusal_number f
-    → n ≡ second_number f → Put b i (110 ∷ 111 ∷ 32 ∷ []) b₁ i₁ → Put b₁ i₁ (decimal m) b₂ i₂ → Put b₂ i₂ (32 ∷ []) b₃ i₃ → Put b₃ i₃ (decimal n) b₄ i₄
-    → Put b i (outcome answer) b₄ i₄
+pub refused_put : {f : Refusal} {m n : ℕ} {answer : Answer} {d d₁ d₂ d₃ d₄ : Output} → answer ≡ Err f → m ≡ refusal_number f → n ≡ second_number f
+    → Put d (110 ∷ 111 ∷ 32 ∷ []) d₁ → Put d₁ (decimal m) d₂ → Put d₂ (32 ∷ []) d₃ → Put d₃ (decimal n) d₄ → Put d (outcome answer) d₄
 unfolding bytes
 refused_put e u v p q r s = rw (e, ← u, ← v) (put_then (put_then (put_then p q) r) s)
 
@@ -76,7 +69,7 @@ small NotGranted = omega arith
 small Corrupt = omega arith
 small TooFewRows = omega arith
 
-pub file_small : (r : FileRefusal) → file_refusal r < 100
+file_small : (r : FileRefusal) → file_refusal r < 100
 file_small FileFull = omega arith
 file_small NotJournal = omega arith
 file_small OtherVersion = omega arith

@@ -1,5 +1,6 @@
 -- Some records are answered and their lines put, and the rest are left: what is put, and the lines of the rest, are all
 -- lines.
+use Rattle.std.specs.Prelude.{Ok, Some}
 use mathlib.Core.Path.{◌≡◌, refl, sym, ap, ◌∙◌}
 use mathlib.Core.Bool.{true}
 use mathlib.Core.List.{List, [], ◌++◌, append_assoc, append-nil}
@@ -7,22 +8,25 @@ use Prim.Native.Nat.{ℕ, zero, suc, ◌+◌, ◌*◌, ◌≤◌, ◌<◌}
 use native.Mathlib.Nat.{zero-add}
 use native.Mathlib.Numerals.{add-one}
 use native.Mathlib.Omega.{arith}
+use lib.Dec.{ltb}
 use lib.ListN.{length, length-append}
 use lib.Seq.{sets, length-sets}
-use borrow.Author.Tests.{eqb-true}
+use borrow.Author.Tests.{eqb-true, ltb-true, ltb-false}
 use Rattle.formula.specs.Outcome.{outcome_of}
 use Rattle.base.proofs.Truth.{and_both}
-use Rattle.journal.specs.declared.file.Verdict.TheVariants.{Readable}
-use Rattle.journal.specs.Reading.{word, record_of, next_of, whole_at, records_from, records_of, whole_from, verdict_of}
+use Rattle.base.proofs.Lists.{case_bool}
+use Rattle.journal.specs.Reading.{Found, word, record_of, next_of, whole_at, entry_of, found_at, records_from, records_of, whole_from, verdict_of}
+use Rattle.journal.specs.declared.record.Entry.{Entry}
+use Rattle.journal.proofs.RecordSizes.{found_record}
 use Rattle.journal.proofs.Files.{whole, open_file, count_small}
 use Rattle.journal.proofs.StoredBytes.{sets_append}
 use Rattle.model.specs.Cells.{Cells}
 use Rattle.model.specs.Stores.{step_cells}
 use Rattle.model.specs.Replay.{events_in}
 use Rattle.transcript.specs.Lines.{lines_from, most_line}
-use Rattle.transcript.specs.declared.After.{After}
 use Rattle.transcript.specs.Printing.{most_printed}
-use Rattle.transcript.specs.Internal.{line_at, Answered, Replayed}
+use Rattle.transcript.proofs.AnsweredRecord.{Answered}
+use Rattle.transcript.specs.Internal.{line_at, Replayed}
 
 abbrev pub lines_of : List ℕ → Cells → ℕ → ℕ → ℕ → List ℕ
 lines_of s d left i place = lines_from place (events_in outcome_of d (records_from left s i))
@@ -38,7 +42,7 @@ pub record ReplayLoop (s : List ℕ) (d₀ : Cells) (b₀ : List ℕ) (d : Cells
   pub rest : done ++ lines_of s d left i place ≡ lines_from 0 (events_in outcome_of d₀ (records_of s))
 
 module _ (s : List ℕ) (d₀ : Cells) (b₀ : List ℕ) where
-  pub loop_start : verdict_of s ≡ Readable → ReplayLoop s d₀ b₀ d₀ b₀ 7 0 0
+  pub loop_start : verdict_of s ≡ Ok tt → ReplayLoop s d₀ b₀ d₀ b₀ 7 0 0
   unfolding records_of
   loop_start h =
       record {
@@ -83,11 +87,8 @@ module _ {s : List ℕ} {d₀ : Cells} {b₀ : List ℕ} {d : Cells} {b : List �
   pub loop_length : length b ≡ length b₀
   loop_length = ap length g.stored ∙ length-sets b₀ 0 g.done
 
-  pub loop_whole : i < length s → whole_at s i ≡ true
-  loop_whole k = (more s g.left i g.fill k).first
-
   -- no place is beyond a file's last, and there is room for one more line
-  pub loop_room : verdict_of s ≡ Readable → i < length s → (place < 7280) × (used + most_line ≤ most_printed)
+  pub loop_room : verdict_of s ≡ Ok tt → i < length s → (place < 7280) × (used + most_line ≤ most_printed)
   loop_room h k =
       let m = more s g.left i g.fill k in
       let c = count_small s (open_file s h) in
@@ -97,7 +98,14 @@ module _ {s : List ℕ} {d₀ : Cells} {b₀ : List ℕ} {d : Cells} {b : List �
       let p : place < 7280 = omega arith in
       (p, omega arith)
 
-  pub loop_end : verdict_of s ≡ Readable → length s ≤ i → Replayed s d₀ b₀ b used
+  -- no record is found: none is left
+  pub loop_ended : {f : Found} → f ≡ found_at s i → ((e : Entry) → f ≡ Ok (Some e) → ⊥) → length s ≤ i
+  loop_ended p none =
+      case_bool (ltb i (length s))
+      (λ e. absurd (none (entry_of s i) (p ∙ found_record s i (more s g.left i g.fill (ltb-true i (length s) e)).first)))
+      (λ e. ltb-false i (length s) e)
+
+  pub loop_end : verdict_of s ≡ Ok tt → length s ≤ i → Replayed s d₀ b₀ b used
   loop_end h k =
       let z = none_left s g.left i g.fill k in
       let c = count_small s (open_file s h) in
@@ -106,8 +114,8 @@ module _ {s : List ℕ} {d₀ : Cells} {b₀ : List ℕ} {d : Cells} {b : List �
       let e = sym (append-nil g.done) ∙ ap (λ (x : List ℕ). g.done ++ x) (sym (lines_none s d i place) ∙ ap (λ (n : ℕ). lines_of s d n i place) (sym z)) ∙ g.rest in
       record { stored = g.stored ∙ ap (λ (x : List ℕ). sets b₀ 0 x) e; ends = g.ends ∙ ap length e; short = omega arith }
 
-  pub loop_step : {d' : Cells} {b' : List ℕ} {r : After} → i < length s → Answered s i place d b used d' b' r → ReplayLoop s d₀ b₀ d' b' r.next (place + 1) r.used
-  loop_step {d'} {b'} {r} k a =
+  pub loop_step : {d' : Cells} {b' : List ℕ} {next r : ℕ} → i < length s → Answered s i place d b used d' b' next r → ReplayLoop s d₀ b₀ d' b' next (place + 1) r
+  loop_step {d'} {b'} {next} {r} k a =
       let m = more s g.left i g.fill k in
       let one = m.one in
       let before = g.counted in
@@ -126,8 +134,8 @@ module _ {s : List ℕ} {d₀ : Cells} {b₀ : List ℕ} {d : Cells} {b : List �
         ends = omega arith;
         short = omega arith;
         rest =
-            append_assoc g.done l (lines_of s d' m.fewer r.next (place + 1))
+            append_assoc g.done l (lines_of s d' m.fewer next (place + 1))
             ∙ ap (λ (x : List ℕ). g.done ++ x)
-            (sym (lines_more s d d' m.fewer i place r.next (place + 1) a.cells a.next (add-one place)) ∙ ap (λ (x : ℕ). lines_of s d x i place) (sym m.one))
+            (sym (lines_more s d d' m.fewer i place next (place + 1) a.cells a.next (add-one place)) ∙ ap (λ (x : ℕ). lines_of s d x i place) (sym m.one))
             ∙ g.rest;
       }

@@ -1,25 +1,22 @@
 -- What the office program prints (document 01: 'Office program'), in ASCII bytes.
-use Rattle.std.specs.Prelude.{◌≡◌, Bool, cond, List, [], ◌∷◌, ◌++◌, ℕ, suc, ◌+◌, ◌≤◌, leb, length}
+use Rattle.std.specs.Prelude.{◌≡◌, Bool, cond, List, [], ◌∷◌, ◌++◌, ℕ, suc, ◌+◌, ◌≤◌, leb, length, Ok, Err}
 use Rattle.std.proofs.lemmas.List.Edits.{sets}
 use Rattle.formula.specs.Spelling.{decimal}
 use Rattle.base.specs.Bytes.{bytes}
 use Rattle.formula.specs.Outcome.{outcome_of}
 use Rattle.journal.specs.declared.file.Refusal.{Refusal}
-use Rattle.journal.specs.declared.file.Verdict.{Verdict}
-use Rattle.journal.specs.declared.file.Verdict.TheVariants.{Readable, Refused as RefusedFile}
 use Rattle.journal.specs.Verdicts.{refusal_number as file_refusal}
-use Rattle.journal.specs.Reading.{verdict_of, records_of}
-use Rattle.model.specs.declared.answer.Answer.{Answer}
-use Rattle.model.specs.declared.answer.Answer.TheVariants.{Accepted, Refused}
+use Rattle.journal.specs.Reading.{Verdict, verdict_of, records_of}
+use Rattle.model.specs.Answers.{Answer}
 use Rattle.model.specs.Answers.{answer_number, answer_value}
 use Rattle.model.specs.History.{Event}
 use Rattle.model.specs.Replay.{events}
 
 -- '`ok` and the answer, or `no`, refusal and its second number'
 abbrev pub outcome : Answer → List ℕ
-outcome (Accepted n) = bytes "ok " ++ decimal (answer_value (Accepted n))
-outcome (Refused r) =
-    bytes "no " ++ decimal (answer_number (Refused r)) ++ bytes " " ++ decimal (answer_value (Refused r))
+outcome (Ok n) = bytes "ok " ++ decimal (answer_value (Ok n))
+outcome (Err r) =
+    bytes "no " ++ decimal (answer_number (Err r)) ++ bytes " " ++ decimal (answer_value (Err r))
 
 -- 'its place from 0, letter', and that; 32 is a blank and 10 a line feed
 unfoldable pub line : ℕ → ℕ → Answer → List ℕ
@@ -36,8 +33,8 @@ lines_from place (e ∷ es) = line place e.call.letter e.answer ++ lines_from (s
 
 -- all that is printed for a file: its records are answered one after the other, from the empty arrays on
 abbrev pub printed_of : Verdict → List ℕ → List ℕ
-printed_of (RefusedFile r) file = file_line r
-printed_of Readable file = lines_from 0 (events outcome_of (records_of file))
+printed_of (Err r) file = file_line r
+printed_of (Ok tt) file = lines_from 0 (events outcome_of (records_of file))
 
 unfoldable pub printed : List ℕ → List ℕ
 printed file = printed_of (verdict_of file) file

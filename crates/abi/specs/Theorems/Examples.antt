@@ -1,16 +1,15 @@
 -- What a caller in C sees of each kind of answer, with numerals; and that a number of the guard's answer is taken apart
 -- again. Proved in `proofs/Examples.antt`.
-use Rattle.std.specs.Prelude.{◌≡◌, true, false, [], ◌∷◌, ◌/◌, ◌%◌, ◌<◌}
+use Rattle.std.specs.Prelude.{◌≡◌, true, false, [], ◌∷◌, ◌/◌, ◌%◌, ◌<◌, Ok, Err, Some, None}
 use Rattle.product.specs.declared.literal.Literal.TheVariants.{Plain, Barred}
 use Rattle.product.specs.declared.literal.Key.TheVariants.{User, Segment, Defined}
 use Rattle.formula.specs.Outcome.{accepted, malformed, too_wide, unsatisfiable}
-use Rattle.journal.specs.declared.record.Found.TheVariants.{Record, End, Damaged}
+use Rattle.journal.specs.declared.file.Refusal.TheVariants.{Corrupt as CorruptFile}
+use Rattle.journal.specs.declared.record.Entry.{Entry}
 use Rattle.model.specs.declared.answer.Refusal.TheVariants.{UnknownUser, NoThread, Full, Denied, Corrupt}
-use Rattle.model.specs.declared.answer.Answer.{Answer}
-use Rattle.model.specs.declared.answer.Answer.TheVariants.{Accepted, Refused}
+use Rattle.model.specs.Answers.{Answer}
 use Rattle.model.specs.Answers.{answer_number, answer_value}
 use Rattle.model.specs.State.{State, taken}
-use Rattle.search.specs.declared.Searched.TheVariants.{At, Nowhere, Refused as RefusedSearch}
 use Rattle.abi.specs.Answers.{issued_with, number_in, rows_in, bit}
 use Rattle.abi.specs.Calls.{answer_code}
 use Rattle.abi.specs.Files.{present_number, values_in}
@@ -42,18 +41,22 @@ one_call =
           ∷ [];
     }
 
+-- an L's record with a text of two bytes
+abbrev pub text_record : Entry
+text_record = record { fields = record { letter = 76; a = 1; b = 2; c = 3 }; start = 16; next = 18 }
+
 pub record Examples : Type 0 where
   -- calls: lock 7; 1; 10; 14 by lock 3; 18
-  pub lock_seven : answer_code (Accepted 7) ≡ 7
-  pub unknown_user : answer_code (Refused UnknownUser) ≡ 65536
-  pub full : answer_code (Refused Full) ≡ 655360
-  pub denied : answer_code (Refused (Denied 3)) ≡ 917507
-  pub corrupt : answer_code (Refused Corrupt) ≡ 1179648
+  pub lock_seven : answer_code (Ok 7) ≡ 7
+  pub unknown_user : answer_code (Err UnknownUser) ≡ 65536
+  pub full : answer_code (Err Full) ≡ 655360
+  pub denied : answer_code (Err (Denied 3)) ≡ 917507
+  pub corrupt : answer_code (Err Corrupt) ≡ 1179648
   -- the key search: the oldest of sixteen calls, none, and 2; of a thread whose one open call handed over S0 and D1 the
   -- numbers of S0, D1, U0, R1, S1 and D0, and of no key
-  pub last_place : search_code (At 15) ≡ 15
-  pub no_place : search_code Nowhere ≡ 65535
-  pub no_thread_lem : search_code (RefusedSearch NoThread) ≡ 131072
+  pub last_place : search_code (Ok (Some 15)) ≡ 15
+  pub no_place : search_code (Ok None) ≡ 65535
+  pub no_thread_lem : search_code (Err NoThread) ≡ 131072
   pub finds_segment : search_code (searched_for one_call 0 131072) ≡ 0
   pub finds_defined : search_code (searched_for one_call 0 196609) ≡ 0
   pub lacks_user : search_code (searched_for one_call 0 0) ≡ 65535
@@ -80,13 +83,13 @@ pub record Examples : Type 0 where
   pub opens : bit true ≡ 1
   pub shut : bit false ≡ 0
   -- records: 1 and the record's values; the end is 0 and a broken file 18, and the lent values stay
-  pub record_number : present_number (Record (record { letter = 76; a = 1; b = 2; c = 3; start = 16; next = 18 })) ≡ 1
-  pub record_values : values_in (Record (record { letter = 76; a = 1; b = 2; c = 3; start = 16; next = 18 })) (9 ∷ [])
+  pub record_number : present_number (Ok (Some text_record)) ≡ 1
+  pub record_values : values_in (Ok (Some text_record)) (9 ∷ [])
       ≡ 76 ∷ 1 ∷ 2 ∷ 3 ∷ 16 ∷ 18 ∷ []
-  pub end_number : present_number End ≡ 0
-  pub end_values : values_in End (9 ∷ []) ≡ 9 ∷ []
-  pub damaged_number : present_number Damaged ≡ 18
-  pub damaged_values : values_in Damaged (9 ∷ []) ≡ 9 ∷ []
+  pub end_number : present_number (Ok None) ≡ 0
+  pub end_values : values_in (Ok None) (9 ∷ []) ≡ 9 ∷ []
+  pub damaged_number : present_number (Err CorruptFile) ≡ 18
+  pub damaged_values : values_in (Err CorruptFile) (9 ∷ []) ≡ 9 ∷ []
   -- what is left: of the empty state, of a used one, and of counts beyond every limit
   pub left_all : left_in (0 ∷ 0 ∷ 0 ∷ 0 ∷ 0 ∷ 0 ∷ 0 ∷ 0 ∷ []) ≡ 32 ∷ 65536 ∷ 64 ∷ 1024 ∷ 65536 ∷ []
   pub left_some : left_in (1 ∷ 200 ∷ 3 ∷ 24 ∷ 5 ∷ 0 ∷ 0 ∷ 0 ∷ []) ≡ 31 ∷ 65336 ∷ 61 ∷ 1000 ∷ 65531 ∷ []

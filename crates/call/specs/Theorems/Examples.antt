@@ -1,11 +1,10 @@
 -- Worked examples of calls (document 01: 'Twelve calls', 'Desk file'): of each letter a call and its request, and of
 -- each of these calls those that have another number than 0 in a field that the letter does not name. Letters are
 -- written as their bytes. Proved in `proofs/Examples.antt`.
-use Rattle.std.specs.Prelude.{◌≡◌, true, false, cond, List, [], ◌∷◌, ◌++◌, map, eqb, length}
+use Rattle.std.specs.Prelude.{◌≡◌, true, false, cond, List, [], ◌∷◌, ◌++◌, map, eqb, length, None, Some}
 use Rattle.base.specs.Lists.{concat_map}
 use Rattle.call.specs.declared.request.Request.{Request}
 use Rattle.call.specs.declared.request.Request.TheVariants as request
-use Rattle.call.specs.declared.request.Decoded.TheVariants.{WellFormed, Corrupt}
 use Rattle.call.specs.Calls.{Call, call_with, table, decoded, record_fits}
 use Rattle.call.specs.Numbers.{decoded_number, decoded_values}
 
@@ -44,23 +43,23 @@ spoilt x =
 pub record Examples : Type 0 where
   -- each row of the table has its worked call
   pub every_letter_lem : map (λ w. w.call.letter) one_each ≡ map (λ r. r.letter) (table 7 5 2)
-  pub requests : map (λ w. decoded w.call) one_each ≡ map (λ w. WellFormed w.request) one_each
+  pub requests : map (λ w. decoded w.call) one_each ≡ map (λ w. Some w.request) one_each
   pub values :
-      map (λ w. decoded_values (WellFormed w.request)) one_each
+      map (λ w. decoded_values (Some w.request)) one_each
       ≡ map (λ w. w.call.letter ∷ w.call.a ∷ w.call.b ∷ w.call.c ∷ []) one_each
   -- a field that the letter does not name is not 0: 14 calls
   pub unnamed_count : length (concat_map (λ w. spoilt w.call) one_each) ≡ 14
   pub unnamed_fields :
       map decoded (concat_map (λ w. spoilt w.call) one_each)
-      ≡ map (λ x. Corrupt) (concat_map (λ w. spoilt w.call) one_each)
+      ≡ map (λ x. None) (concat_map (λ w. spoilt w.call) one_each)
   -- B and u are no letters of the table
-  pub unknown_letter : decoded (call_with 66 0 0 0 []) ≡ Corrupt
-  pub small_letter : decoded (call_with 117 0 0 0 []) ≡ Corrupt
+  pub unknown_letter : decoded (call_with 66 0 0 0 []) ≡ None
+  pub small_letter : decoded (call_with 117 0 0 0 []) ≡ None
   -- a text outside L
-  pub text_in_new_user : decoded (call_with 85 0 0 0 (85 ∷ [])) ≡ Corrupt
-  pub text_in_access : decoded (call_with 65 7 5 2 (85 ∷ 48 ∷ [])) ≡ Corrupt
+  pub text_in_new_user : decoded (call_with 85 0 0 0 (85 ∷ [])) ≡ None
+  pub text_in_access : decoded (call_with 65 7 5 2 (85 ∷ 48 ∷ [])) ≡ None
   -- an L without a text is well formed, but no record
-  pub lock_without_text : decoded (call_with 76 7 5 2 []) ≡ WellFormed (request.AddLock 7 5 2)
+  pub lock_without_text : decoded (call_with 76 7 5 2 []) ≡ Some (request.AddLock 7 5 2)
   pub text_of_none : record_fits 76 7 5 2 0 ≡ false
   -- '1 to 96 bytes'
   pub text_of_one : record_fits 76 7 5 2 1 ≡ true
@@ -68,6 +67,6 @@ pub record Examples : Type 0 where
   pub text_of_97 : record_fits 76 7 5 2 97 ≡ false
   pub text_outside_lock : record_fits 65 7 5 2 1 ≡ false
   -- numbers and values
-  pub corrupt_number : decoded_number Corrupt ≡ 18
-  pub corrupt_values : decoded_values Corrupt ≡ 0 ∷ []
-  pub well_formed_number : (q : Request) → decoded_number (WellFormed q) ≡ 0
+  pub corrupt_number : decoded_number None ≡ 18
+  pub corrupt_values : decoded_values None ≡ 0 ∷ []
+  pub well_formed_number : (q : Request) → decoded_number (Some q) ≡ 0

@@ -7,8 +7,7 @@ use borrow.Author.Tests.{eq-eqb, ne_eqb}
 use Rattle.base.proofs.Truth.{or_right}
 use Rattle.model.specs.Operations.{execute, is_access}
 use Rattle.model.specs.Cells.{Table}
-use Rattle.checking.specs.declared.Checked.{Checked}
-use Rattle.checking.specs.Deciding.{check_of}
+use Rattle.checking.specs.Deciding.{Checked, check_of}
 use Rattle.checking.specs.Internal.{opening_of, head_checked, code_checked}
 use Rattle.checking.proofs.DecidingRow.{answered, no_check}
 use Rattle.checking.proofs.check.Goals as goal

@@ -54,7 +54,7 @@ pub record Examples : Type 0 where
   pub read_and_write : answered 3 6 ≡ (15, 0)
   pub deny : answered 3 8 ≡ (15, 0)
   pub sixteen : answered 3 16 ≡ (15, 0)
-  pub lock_unit_lem : answered 3 65536 ≡ (15, 0)
+  pub lock_unit : answered 3 65536 ≡ (15, 0)
   -- of the locks that open the tightest answers, the lower of equal ones; the lowest deny lock is named, whatever is
   -- longer
   pub tightest : answered_by several 3 2 ≡ (0, 4)

@@ -2,8 +2,7 @@
 -- Proved in `proofs/DecidingRow.antt`.
 use Rattle.std.specs.Prelude.{◌≡◌}
 use Rattle.model.specs.Answers.{answer_number, answer_value}
-use Rattle.checking.specs.declared.Checked.{Checked}
-use Rattle.checking.specs.Deciding.{checked_number, checked_value, answer_of}
+use Rattle.checking.specs.Deciding.{Checked, checked_number, checked_value, answer_of}
 
 abbrev pub SameNumbers : Type 0
 SameNumbers =

@@ -1,7 +1,6 @@
 -- The reader of formula texts, by document 01's 'Lock text'. There is nothing to believe here: it is proved to answer
 -- exactly the tree that a text spells, and the theorems speak of texts and trees alone.
-use Rattle.std.specs.Prelude.{Bool, not, cond, ◌&&◌, List, [], ◌∷◌, ℕ, zero, suc, ◌+◌, ◌*◌, ◌-◌, leb, eqb, length, get_or, drop}
-use Rattle.std.proofs.Math.Option.{Option, none, some}
+use Rattle.std.specs.Prelude.{Bool, not, cond, ◌&&◌, List, [], ◌∷◌, ℕ, zero, suc, ◌+◌, ◌*◌, ◌-◌, leb, eqb, length, get_or, drop, Option, None, Some}
 use Rattle.product.specs.declared.literal.Key.TheVariants.{User, Thread, Segment, Defined}
 use Rattle.product.specs.Atom.{Atom}
 use Rattle.formula.specs.Spelling.{digit_zero, digit_nine, letter_u, letter_r, letter_s, letter_d, not_sign, and_sign, or_sign, open_bracket, close_bracket}
@@ -24,7 +23,7 @@ read_digits sofar (b ∷ s) =
 unfoldable pub read_number : List ℕ → Option (ℕ × List ℕ)
 read_number s =
     cond (digit (get_or s 0 0) && not (eqb (get_or s 0 0) digit_zero && digit (get_or s 1 0)))
-    (some (read_digits 0 s)) none
+    (Some (read_digits 0 s)) None
 
 -- trees
 
@@ -33,36 +32,36 @@ abbrev pub Found : Level → Type 0
 Found l = Option (Tree l × List ℕ)
 
 abbrev pub found : {l : Level} → Tree l → List ℕ → Found l
-found t r = some (t, r)
+found t r = Some (t, r)
 
 abbrev pub next : {l m : Level} → Found l → (Tree l → List ℕ → Found m) → Found m
-next none g = none
-next (some p) g = g p.0 p.1
+next None g = None
+next (Some p) g = g p.0 p.1
 
 abbrev pub close : Tree ors → List ℕ → Found nots
-close t r = cond (eqb (get_or r 0 0) close_bracket) (found (bracket t) (drop 1 r)) none
+close t r = cond (eqb (get_or r 0 0) close_bracket) (found (bracket t) (drop 1 r)) None
 
 -- the key of a letter and a number
 abbrev pub key_named : ℕ → ℕ → Option Atom
 key_named b n =
-    cond (eqb b letter_u) (some (User n))
-    (cond (eqb b letter_r) (some (Thread n))
-    (cond (eqb b letter_s) (some (Segment n)) (cond (eqb b letter_d) (some (Defined n)) none)))
+    cond (eqb b letter_u) (Some (User n))
+    (cond (eqb b letter_r) (Some (Thread n))
+    (cond (eqb b letter_s) (Some (Segment n)) (cond (eqb b letter_d) (Some (Defined n)) None)))
 
 -- the tree, where nothing is left of the text
 abbrev pub whole_of : Found ors → Option (Tree ors)
-whole_of none = none
-whole_of (some p) = cond (eqb (length p.1) 0) (some p.0) none
+whole_of None = None
+whole_of (Some p) = cond (eqb (length p.1) 0) (Some p.0) None
 
 module _ (known : Atom → Bool) where
   -- the key, where it is known
   abbrev pub keep : Option Atom → List ℕ → Found nots
-  keep none r = none
-  keep (some a) r = cond (known a) (found (atom a) r) none
+  keep None r = None
+  keep (Some a) r = cond (known a) (found (atom a) r) None
 
   abbrev pub named : ℕ → Option (ℕ × List ℕ) → Found nots
-  named b none = none
-  named b (some p) = keep (key_named b p.0) p.1
+  named b None = None
+  named b (Some p) = keep (key_named b p.0) p.1
 
   unfoldable pub read_atom : List ℕ → Found nots
   read_atom s = named (get_or s 0 0) (read_number (drop 1 s))
@@ -70,33 +69,33 @@ module _ (known : Atom → Bool) where
   -- with fuel, one unit for each call, and with k brackets still to be opened
   unfoldable mutual
     pub read_nots : ℕ → ℕ → List ℕ → Found nots
-    read_nots zero k s = none
+    read_nots zero k s = None
     read_nots (suc f) k s =
         let negated = next (read_nots f k (drop 1 s)) (λ t r. found (negate t) r) in
         let bracketed = read_bracket f k (drop 1 s) in
         cond (eqb (get_or s 0 0) not_sign) negated (cond (eqb (get_or s 0 0) open_bracket) bracketed (read_atom s))
 
     pub read_bracket : ℕ → ℕ → List ℕ → Found nots
-    read_bracket zero k s = none
-    read_bracket (suc f) zero s = none
+    read_bracket zero k s = None
+    read_bracket (suc f) zero s = None
     read_bracket (suc f) (suc k) s = next (read_ors f k s) close
 
     pub read_ands : ℕ → ℕ → List ℕ → Found ands
-    read_ands zero k s = none
+    read_ands zero k s = None
     read_ands (suc f) k s = next (read_nots f k s) (λ t r. more_ands f k (factor t) r)
 
     pub more_ands : ℕ → ℕ → Tree ands → List ℕ → Found ands
-    more_ands zero k t s = none
+    more_ands zero k t s = None
     more_ands (suc f) k t s =
         let longer = next (read_nots f k (drop 1 s)) (λ u r. more_ands f k (and t u) r) in
         cond (eqb (get_or s 0 0) and_sign) longer (found t s)
 
     pub read_ors : ℕ → ℕ → List ℕ → Found ors
-    read_ors zero k s = none
+    read_ors zero k s = None
     read_ors (suc f) k s = next (read_ands f k s) (λ t r. more_ors f k (term t) r)
 
     pub more_ors : ℕ → ℕ → Tree ors → List ℕ → Found ors
-    more_ors zero k t s = none
+    more_ors zero k t s = None
     more_ors (suc f) k t s =
         let longer = next (read_ands f k (drop 1 s)) (λ u r. more_ors f k (or t u) r) in
         cond (eqb (get_or s 0 0) or_sign) longer (found t s)

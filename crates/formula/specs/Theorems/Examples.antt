@@ -1,7 +1,7 @@
 -- Worked examples: document 01's texts under 'Trial desks', those that just fit and those that just do not, and texts
 -- that show each rule of 'Lock text' and each limit. With each its refusal's number, 0 for none, and its products,
 -- worked out by hand from document 01. Proved in `proofs/Examples.antt`, by computing.
-use Rattle.std.specs.Prelude.{◌≡◌, Bool, true, false, List, [], ◌∷◌, ◌++◌, map, ℕ, length, replicate}
+use Rattle.std.specs.Prelude.{◌≡◌, Bool, true, false, List, [], ◌∷◌, ◌++◌, map, ℕ, length, replicate, Ok, Err}
 use Prim.Native.String.{String}
 use Rattle.product.specs.declared.literal.Literal.TheVariants.{Plain}
 use Rattle.product.specs.declared.literal.Key.TheVariants.{User, Thread, Segment}
@@ -9,9 +9,9 @@ use Rattle.product.specs.Sum.{Sum, opens_any}
 use Rattle.product.specs.Cells.{blank_row}
 use Rattle.product.specs.Held.{held_by}
 use Rattle.formula.specs.declared.text.Issued.{Issued}
-use Rattle.formula.specs.declared.text.Status.TheVariants.{Accepted, Unsatisfiable}
+use Rattle.formula.specs.declared.text.Refusal.TheVariants.{Unsatisfiable}
 use Rattle.formula.specs.Spelling.{not_sign}
-use Rattle.formula.specs.Outcome.{outcome_of, sum_in, row_with, compiled_of}
+use Rattle.formula.specs.Outcome.{outcome_of, sum_in, compiled_of}
 use Rattle.formula.specs.Meaning.{text_holds}
 use Rattle.formula.specs.Compiler.{everything}
 use Rattle.base.specs.Bytes.{bytes}
@@ -37,16 +37,14 @@ pub record Examples : Type 0 where
   pub nine : compiled 9 "D0|D1|D2|D3|D4|D5|D6|D7|D8" ≡ (12, [])
   pub six : compiled 9 "D0&D1&D2&D3&D4&D5" ≡ (0, map plain (0 ∷ 1 ∷ 2 ∷ 3 ∷ 4 ∷ 5 ∷ []) ∷ [])
   pub seven : compiled 9 "D0&D1&D2&D3&D4&D5&D6" ≡ (12, [])
-  -- the answer in arrays, every place of it: of an accepted text, where 393,217 and 393,219 are D0 and D1 barred, and
-  -- of a refusal
+  -- the answer in arrays, every place of it, of an accepted text, where 393,217 and 393,219 are D0 and D1 barred; and
+  -- that of a refusal
   pub rows : compiled_of (made 2) (bytes "!(D0|D1)")
-      ≡ record {
-        status = Accepted;
+      ≡ Ok (record {
         count = 1;
-        rows = row_with (393217 ∷ 393219 ∷ 0 ∷ 0 ∷ 0 ∷ 0 ∷ 0 ∷ 2 ∷ []) ∷ replicate 7 (row_with blank_row);
-      }
-  pub blank : compiled_of (made 2) (bytes "D0&!D0")
-      ≡ record { status = Unsatisfiable; count = 0; rows = replicate 8 (row_with blank_row) }
+        rows = (393217 ∷ 393219 ∷ 0 ∷ 0 ∷ 0 ∷ 0 ∷ 0 ∷ 2 ∷ []) ∷ replicate 7 blank_row;
+      })
+  pub blank : compiled_of (made 2) (bytes "D0&!D0") ≡ Err Unsatisfiable
 
 -- a different number of keys of each kind: U0; R0, R1; S0 to S2; D0 to D3
 abbrev pub several : Issued

@@ -1,8 +1,7 @@
 -- The opening law: document 01, 'Lock text'. A text is accepted exactly where it is in the grammar, every node fits and
 -- some key set makes its formula true; its products are then its formula's, within the bounds, and a key set opens one
 -- of them exactly where it makes the formula true. Proved in `proofs/Opening.antt`.
-use Rattle.std.specs.Prelude.{◌≡◌, Bool, true, false, List, ℕ, length}
-use Rattle.std.proofs.Math.Option.{some}
+use Rattle.std.specs.Prelude.{◌≡◌, Bool, true, false, List, ℕ, length, Some}
 use Rattle.product.specs.Atom.{Atom}
 use Rattle.product.specs.Sum.{Sum, opens_any}
 use Rattle.product.specs.Cells.{sum_of, rows_of}
@@ -41,7 +40,7 @@ HoldsSpelt = (i : Issued) (s : List ℕ) (t : Tree ors) → Text i s t → (ρ :
 -- what is stored of an accepted text, its products as rows of numbers, is read back as its products
 abbrev pub StoredLaw : Type 0
 StoredLaw =
-    (i : Issued) (s : List ℕ) (ps : Sum) → outcome_of i s ≡ accepted ps → sum_of (length ps) (rows_of ps) ≡ some ps
+    (i : Issued) (s : List ℕ) (ps : Sum) → outcome_of i s ≡ accepted ps → sum_of (length ps) (rows_of ps) ≡ Some ps
 
 -- so a key set opens what is stored exactly where it makes the formula true
 abbrev pub StoredOpens : Type 0

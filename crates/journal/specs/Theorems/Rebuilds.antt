@@ -1,10 +1,8 @@
 -- Appending a record to a readable file gives the file of its records with that one at the end, and changes no byte
 -- after it. So records appended in order to the empty file give their file, and a readable file's records the same
 -- file, in any buffer that holds it (demand 2). Proved in `proofs/Rebuilds.antt`.
-use Rattle.std.specs.Prelude.{◌≡◌, List, [], ◌∷◌, ◌++◌, ℕ, ◌≤◌, length, take, drop}
+use Rattle.std.specs.Prelude.{◌≡◌, List, [], ◌∷◌, ◌++◌, ℕ, ◌≤◌, length, take, drop, Ok}
 use Rattle.call.specs.Calls.{Call}
-use Rattle.journal.specs.declared.file.Verdict.TheVariants.{Readable}
-use Rattle.journal.specs.declared.append.Appended.TheVariants.{Length}
 use Rattle.journal.specs.Format.{Bytes, AllRecordable, file_bytes, most_bytes}
 use Rattle.journal.specs.Reading.{records_of, verdict_of}
 use Rattle.journal.specs.Appending.{append_answer, buffer_after, length_after, empty_answer, empty_after}
@@ -15,12 +13,12 @@ use Rattle.journal.specs.Appending.{append_answer, buffer_after, length_after, e
 -- afterwards.
 pub record Added (d : List ℕ) (len : ℕ) (r : Call) (n : ℕ) : Type 0 where
   pub size : n ≡ length (file_bytes (records_of (take len d) ++ r ∷ []))
-  pub bytes : buffer_after (Length n) d len r ≡ file_bytes (records_of (take len d) ++ r ∷ []) ++ drop n d
-  pub readable : verdict_of (take n (buffer_after (Length n) d len r)) ≡ Readable
-  pub records : records_of (take n (buffer_after (Length n) d len r)) ≡ records_of (take len d) ++ r ∷ []
+  pub bytes : buffer_after (Ok n) d len r ≡ file_bytes (records_of (take len d) ++ r ∷ []) ++ drop n d
+  pub readable : verdict_of (take n (buffer_after (Ok n) d len r)) ≡ Ok tt
+  pub records : records_of (take n (buffer_after (Ok n) d len r)) ≡ records_of (take len d) ++ r ∷ []
 
 abbrev pub AddsOne : Type 0
-AddsOne = (d : List ℕ) (len : ℕ) (r : Call) (n : ℕ) → Bytes d → append_answer d len r ≡ Length n → Added d len r n
+AddsOne = (d : List ℕ) (len : ℕ) (r : Call) (n : ℕ) → Bytes d → append_answer d len r ≡ Ok n → Added d len r n
 
 -- ---- a list of records
 
@@ -55,5 +53,5 @@ AppendsAll =
 -- so a readable file's records give that file again
 abbrev pub Rebuilds : Type 0
 Rebuilds =
-    (s : List ℕ) → Bytes s → verdict_of s ≡ Readable → (d : List ℕ) → length s ≤ length d
+    (s : List ℕ) → Bytes s → verdict_of s ≡ Ok tt → (d : List ℕ) → length s ≤ length d
     → append_all (emptied d) (records_of s) ≡ holding d s

@@ -1,10 +1,9 @@
 -- A file is refused exactly by the listed conditions, in their order (demand 1; document 01: 'Desk file'). Of the way
 -- in which records are read nothing is said here: a file is broken where no records write it. With `ReadableExactly`
 -- (WritesBack) the verdict on every file is fixed. Proved in `proofs/Refuses.antt`.
-use Rattle.std.specs.Prelude.{◌≡◌, List, ◌∷◌, ◌↔◌, ◌≢◌, ℕ, ◌<◌, ◌≤◌, length}
+use Rattle.std.specs.Prelude.{◌≡◌, List, ◌∷◌, ◌↔◌, ◌≢◌, ℕ, ◌<◌, ◌≤◌, length, Err}
 use Rattle.journal.specs.declared.file.Refusal.{Refusal}
 use Rattle.journal.specs.declared.file.Refusal.TheVariants.{NotJournal, OtherVersion, Corrupt}
-use Rattle.journal.specs.declared.file.Verdict.TheVariants.{Refused}
 use Rattle.journal.specs.Format.{Bytes, mark_k, mark_l, mark_d, file_head_size, file_version, version_at, most_bytes, Written}
 use Rattle.journal.specs.Reading.{word, verdict_of}
 
@@ -25,4 +24,4 @@ pub data RefusedBy (s : List ℕ) : Refusal → Type 0 where
       → (Written s → ⊥) → RefusedBy s Corrupt
 
 abbrev pub RefusedExactly : Type 0
-RefusedExactly = (s : List ℕ) → Bytes s → (f : Refusal) → (verdict_of s ≡ Refused f) ↔ RefusedBy s f
+RefusedExactly = (s : List ℕ) → Bytes s → (f : Refusal) → (verdict_of s ≡ Err f) ↔ RefusedBy s f

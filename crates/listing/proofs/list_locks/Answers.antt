@@ -1,6 +1,6 @@
--- What the maker gives, once its rows are written over the first of the lent ones, is the listing.
-use Rattle.listing.proofs.MadeRows.{lists_made}
+-- Rows that are told as they are.
+use Rattle.listing.proofs.MadeRows.{lists_as_they_are}
 use Rattle.listing.proofs.list_locks.Goals as goal
 
 pub returns : goal.returns
-returns c = lists_made _ _ _ _ _ _ c.make-made.ensures c.fill.ensures
+returns c = lists_as_they_are _ _ _ _ c.list.ensures

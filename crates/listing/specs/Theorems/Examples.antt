@@ -1,12 +1,11 @@
 -- Rows in numbers, worked out by hand: the letters are 85 (U), 82 (R), 83 (S) and 68 (D). And a listing in numbers, for
 -- the owner and for a colleague, with one lent row more than each needs. Proved in `proofs/Examples.antt`, by
 -- computing.
-use Rattle.std.specs.Prelude.{◌≡◌, List, [], ◌∷◌, ℕ}
+use Rattle.std.specs.Prelude.{◌≡◌, List, [], ◌∷◌, ℕ, Ok}
 use Rattle.product.specs.declared.literal.Key.TheVariants.{User, Thread, Segment, Defined}
 use Rattle.product.specs.declared.literal.Literal.TheVariants.{Plain, Barred}
 use Rattle.formula.specs.Outcome.{outcome_of}
 use Rattle.base.specs.Bytes.{bytes}
-use Rattle.model.specs.declared.answer.Answer.TheVariants.{Accepted}
 use Rattle.model.specs.State.{State}
 use Rattle.model.specs.Cells.{state_of}
 use Rattle.model.specs.Notation.{Expected, U, S, N, L, ok, Happens, calls_of}
@@ -30,7 +29,7 @@ scribble = (9 ∷ 8 ∷ 7 ∷ []) ∷ no_key ∷ no_key ∷ no_key ∷ no_key �
 -- user u lends two scribbled rows, and of segment 0 gets this one
 abbrev pub Gets : ℕ → List (List ℕ) → Type 0
 Gets u row =
-    listed_numbers desk u 0 (scribble ∷ scribble ∷ []) ≡ record { answer = Accepted 1; rows = row ∷ scribble ∷ [] }
+    listed_numbers desk u 0 (scribble ∷ scribble ∷ []) ≡ record { answer = Ok 1; rows = row ∷ scribble ∷ [] }
 
 pub record Examples : Type 0 where
   pub happens : Happens office

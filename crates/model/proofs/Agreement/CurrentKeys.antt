@@ -1,10 +1,10 @@
 -- The D keys that an open call hands over are in its segment's list: C copies the list, G, N, L and D take no key out
 -- of one, and T takes a key out of the list and of every open call of its segment.
+use Rattle.std.specs.Prelude.{None}
 use mathlib.Core.Path.{◌≡◌, refl, sym, ap, ◌∙◌}
 use mathlib.Core.Bool.{true, not, false≢true}
 use mathlib.Core.List.{List, [], ◌∷◌, ◌++◌, map, Memᴰ}
 use mathlib.Core.Logic.{◌⊎◌, inl, inr, ⊎_elim}
-use mathlib.Core.Option.{none}
 use Prim.Native.Nat.{ℕ, zero, suc}
 use lib.Dec.{eqb}
 use lib.ListN.{length, get_or, set}
@@ -131,7 +131,7 @@ module _ (compile : Compiler) (d : State) (h : Current d) (text : List ℕ) wher
   on_segment_lem b f keeps =
       places_grown d.segments (set d.segments b (f (segment_at d b))) (grows_set d.segments b f keeps) d.places h
 
-  keep_accepted : (q : Request) → first_refusal (conditions compile d q text) ≡ none → Current (update compile d q text)
+  keep_accepted : (q : Request) → first_refusal (conditions compile d q text) ≡ None → Current (update compile d q text)
   unfolding update
   keep_accepted request.NewUser e = h
   keep_accepted (request.StartThread a) e =

@@ -1,9 +1,9 @@
 -- Request P4: its parts put together.
+use Rattle.std.specs.Prelude.{Err, Option, None, Some}
 use mathlib.Core.Path.{◌≡◌, refl, sym, ap, subst, ◌∙◌}
 use mathlib.Core.Bool.{Bool, true, false, ◌&&◌, cond, false≢true}
 use mathlib.Core.List.{List, [], ◌∷◌, ◌++◌}
 use mathlib.Core.Logic.{◌↔◌}
-use mathlib.Core.Option.{Option, none, some}
 use Prim.Native.Nat.{ℕ}
 use lib.Dec.{eqb}
 use borrow.Author.Tests.{eqb-true}
@@ -15,7 +15,6 @@ use Rattle.call.specs.Calls.{Call, decoded}
 use Rattle.call.specs.Letters as letters
 use Rattle.call.proofs.Requests.{requests_exactly}
 use Rattle.model.specs.declared.answer.Refusal.TheVariants.{UnknownUser, NoThread, NotOwner}
-use Rattle.model.specs.declared.answer.Answer.TheVariants.{Refused}
 use Rattle.model.specs.Threads.{Thread}
 use Rattle.model.specs.Cells.{Cells, state_of}
 use Rattle.model.specs.History.{History, Event, event, empty_history, history, makers_of, editor_in, counts}
@@ -24,9 +23,8 @@ use Rattle.model.specs.Theorems.Mirror.{Mirrors}
 use Rattle.model.specs.Theorems.Neighbours.{has_letter}
 use Rattle.model.specs.Theorems.Editing.{edit_letters, run_letters, owner_in, Edits, Editing, user_in}
 use Rattle.model.specs.Answers.{is_accepted, answer_value}
-use Rattle.call.specs.declared.request.Decoded.{Decoded}
-use Rattle.call.specs.declared.request.Decoded.TheVariants.{WellFormed, Corrupt as NotWellFormed}
-use Rattle.model.specs.declared.answer.Answer.{Answer}
+use Rattle.call.specs.Calls.{Decoded}
+use Rattle.model.specs.Answers.{Answer}
 use Rattle.model.proofs.Refusals.Refusing.{refused_as, refusing}
 use Rattle.model.proofs.Agreement.Mirror.{mirror}
 use Rattle.model.proofs.Agreement.EditsWritten.{history_one, makers_one, users_after, owners_after}
@@ -34,11 +32,11 @@ use Rattle.model.proofs.Agreement.EditsAlike.{call_alike}
 use Rattle.model.proofs.Agreement.EditsRefused.{through, first_two, first_gone, never_one, give_six, take_six, lock_six, drop_six}
 use Rattle.model.proofs.Agreement.EditsAccepted.{start_one, new_free, key_free, give_free, take_free, drop_free}
 
-same_where : {u : Option ℕ} {v : ℕ} (w : Option ℕ) (b : Bool) → (b ≡ true → u ≡ some v) → cond b (some v) w ≡ cond b u w
+same_where : {u : Option ℕ} {v : ℕ} (w : Option ℕ) (b : Bool) → (b ≡ true → u ≡ Some v) → cond b (Some v) w ≡ cond b u w
 same_where w true h = sym (h refl)
 same_where w false h = refl
 
-made_by_lem : {u : Option ℕ} {v : ℕ} (b : Bool) → (b ≡ true → u ≡ some v) → cond b (v ∷ []) [] ≡ cond b (or_default [] (λ x. x ∷ []) u) []
+made_by_lem : {u : Option ℕ} {v : ℕ} (b : Bool) → (b ≡ true → u ≡ Some v) → cond b (v ∷ []) [] ≡ cond b (or_default [] (λ x. x ∷ []) u) []
 made_by_lem true h = sym (ap (or_default [] (λ x. x ∷ [])) (h refl))
 made_by_lem false h = refl
 
@@ -55,30 +53,30 @@ module _ (xs : List Call) (next : Call) where
   m : Mirrors es (state_of d)
   m = mirror.state xs
 
-  no_thread_lem : (q : Request) → decoded next ≡ WellFormed q → has_letter edit_letters next ≡ true → (r ≡ Refused NoThread) ↔ ((history es).threads next.a ≡ none)
+  no_thread_lem : (q : Request) → decoded next ≡ Some q → has_letter edit_letters next ≡ true → (r ≡ Err NoThread) ↔ ((history es).threads next.a ≡ None)
   no_thread_lem q e h =
       let s = (requests_exactly next q).0 e in
-      subst (λ (a : ℕ). (r ≡ Refused NoThread) ↔ ((history es).threads a ≡ none)) (sym (ap (λ (y : Call). y.a) s))
+      subst (λ (a : ℕ). (r ≡ Err NoThread) ↔ ((history es).threads a ≡ None)) (sym (ap (λ (y : Call). y.a) s))
       (through (refused_as outcome_of d next q e NoThread) (first_two es d m next.text q (sym (ap (has_letter edit_letters) s) ∙ h)))
 
-  formed : decoded next ≡ NotWellFormed → is_accepted r ≡ false
+  formed : decoded next ≡ None → is_accepted r ≡ false
   formed e = ap is_accepted ((refusing outcome_of d next).corrupt.1 e)
 
   -- an accepted edit has an editor
-  edited : (l : ℕ) → any (eqb l) edit_letters ≡ true → counts l (event next r) ≡ true → user_in es next.a ≡ some (editor_in (history es) next.a)
+  edited : (l : ℕ) → any (eqb l) edit_letters ≡ true → counts l (event next r) ≡ true → user_in es next.a ≡ Some (editor_in (history es) next.a)
   edited l h t = by_request (decoded next) refl
     where
-      by_thread_lem : (q : Request) → decoded next ≡ WellFormed q → (o : Option Thread) → (history es).threads next.a ≡ o
-          → user_in es next.a ≡ some (editor_in (history es) next.a)
-      by_thread_lem q e none p =
+      by_thread_lem : (q : Request) → decoded next ≡ Some q → (o : Option Thread) → (history es).threads next.a ≡ o
+          → user_in es next.a ≡ Some (editor_in (history es) next.a)
+      by_thread_lem q e None p =
           let letter = eqb-true next.letter l (and_right (is_accepted r) _ t) in
           let gone = (no_thread_lem q e (ap (λ (k : ℕ). any (eqb k) edit_letters) letter ∙ h)).1 p in
           absurd (false≢true (sym (ap is_accepted gone) ∙ and_left (is_accepted r) _ t))
-      by_thread_lem q e (some u) p = rw p refl
+      by_thread_lem q e (Some u) p = rw p refl
 
-      by_request : (k : Decoded) → decoded next ≡ k → user_in es next.a ≡ some (editor_in (history es) next.a)
-      by_request NotWellFormed e = absurd (false≢true (sym (formed e) ∙ and_left (is_accepted r) _ t))
-      by_request (WellFormed q) e = by_thread_lem q e ((history es).threads next.a) refl
+      by_request : (k : Decoded) → decoded next ≡ k → user_in es next.a ≡ Some (editor_in (history es) next.a)
+      by_request None e = absurd (false≢true (sym (formed e) ∙ and_left (is_accepted r) _ t))
+      by_request (Some q) e = by_thread_lem q e ((history es).threads next.a) refl
 
   edits_after : Edits es next r
   edits_after =
@@ -86,7 +84,7 @@ module _ (xs : List Call) (next : Call) where
         no_thread = no_thread_lem;
         not_live = λ q e h.
             let s = (requests_exactly next q).0 e in
-            subst (λ (a : ℕ). (r ≡ Refused NoThread) ↔ ((history es).threads a ≡ none)) (sym (ap (λ (y : Call). y.a) s))
+            subst (λ (a : ℕ). (r ≡ Err NoThread) ↔ ((history es).threads a ≡ None)) (sym (ap (λ (y : Call). y.a) s))
             (through (refused_as outcome_of d next q e NoThread) (first_gone es d m next.text q (sym (ap (has_letter run_letters) s) ∙ h)));
         no_stranger = λ q e h p.
             let s = (requests_exactly next q).0 e in

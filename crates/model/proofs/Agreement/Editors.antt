@@ -1,8 +1,8 @@
 -- Who edits, who owns and who made what, as the history says it of a state that it mirrors.
+use Rattle.std.specs.Prelude.{Option, None, Some}
 use mathlib.Core.Path.{◌≡◌, refl, sym, ap, subst, ◌∙◌}
 use mathlib.Core.Bool.{true, false, ◌&&◌, not}
 use mathlib.Core.List.{List}
-use mathlib.Core.Option.{Option, none, some}
 use Prim.Native.Nat.{ℕ, ◌<◌}
 use lib.ListN.{length, get_or}
 use borrow.Author.Tests.{ltb-true, lt-ltb, eqb-true, eq-eqb, ne_eqb}
@@ -18,15 +18,15 @@ use Rattle.model.specs.Theorems.Mirror.{Mirrors}
 use Rattle.model.specs.Theorems.Editing.{AnothersSegment, AnothersSegmentOrKey, OwnSegment}
 
 some_user : (o : Option Thread) → is_some (map_option (λ t. t.user) o) ≡ is_some o
-some_user none = refl
-some_user (some t) = refl
+some_user None = refl
+some_user (Some t) = refl
 
 -- what the history says of a state
 module _ (es : List Event) (d : State) (m : Mirrors es d) where
   pub live_as : (a : ℕ) → is_some (editor d a) ≡ is_some ((history es).threads a)
   live_as a = ap is_some (m.editors a) ∙ some_user ((history es).threads a)
 
-  pub user_as : (a : ℕ) (t : Thread) → (history es).threads a ≡ some t → user_of d a ≡ t.user
+  pub user_as : (a : ℕ) (t : Thread) → (history es).threads a ≡ Some t → user_of d a ≡ t.user
   user_as a t h = ap (or_default 0 (λ u. u)) (m.editors a ∙ ap (map_option (λ r. r.user)) h)
 
   pub keys_as : length d.makers ≡ accepted_of letters.K es
@@ -81,7 +81,7 @@ module _ (es : List Event) (d : State) (m : Mirrors es d) where
   segments_as = ap (λ (i : Issued). i.segments) m.handed_out
 
   -- conditions that don't hold
-  pub passes_live : (a : ℕ) (t : Thread) → (history es).threads a ≡ some t → not (is_some (editor d a)) ≡ false
+  pub passes_live : (a : ℕ) (t : Thread) → (history es).threads a ≡ Some t → not (is_some (editor d a)) ≡ false
   passes_live a t h = ap not (live_as a ∙ ap is_some h)
 
   pub passes_key : (k : ℕ) → k < accepted_of letters.K es → not (is_key d k) ≡ false

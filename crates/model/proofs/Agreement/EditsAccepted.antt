@@ -1,9 +1,9 @@
 -- An edit is accepted exactly where none of its conditions holds, each of which the history tells; and 1 of an S.
+use Rattle.std.specs.Prelude.{Option, Some}
 use mathlib.Core.Path.{◌≡◌, refl, sym, ap, subst, ◌∙◌}
 use mathlib.Core.Bool.{true, false, not}
 use mathlib.Core.List.{List, [], Memᴰ}
 use mathlib.Core.Logic.{◌↔◌}
-use mathlib.Core.Option.{Option, some}
 use Prim.Native.Nat.{ℕ, suc, ◌≤◌, ◌<◌}
 use native.Mathlib.Omega.{arith}
 use lib.Dec.{eqb}
@@ -40,7 +40,7 @@ module _ (es : List Event) (d : Cells) (m : Mirrors es (state_of d)) (text : Lis
   first q = first_refusal (conditions outcome_of s₀ q text)
 
   -- 1 of an S
-  pub start_one : (a : ℕ) → (first (request.StartThread a) ≡ some UnknownUser) ↔ (accepted_of letters.U es ≤ a)
+  pub start_one : (a : ℕ) → (first (request.StartThread a) ≡ Some UnknownUser) ↔ (accepted_of letters.U es ≤ a)
   unfolding conditions
   start_one a =
       let (to, from) = alone es d m text UnknownUser (request.StartThread a) [] (not (is_user s₀ a)) _ refl refl refl in

@@ -1,21 +1,19 @@
 -- An edit asks nothing of a thread but whose it is.
+use Rattle.std.specs.Prelude.{Ok, Option, None, Some}
 use mathlib.Core.Path.{◌≡◌, refl, sym, ap, ◌∙◌}
 use mathlib.Core.Bool.{true, false≢true}
 use mathlib.Core.List.{List}
-use mathlib.Core.Option.{Option, none, some}
 use Prim.Native.Nat.{ℕ}
 use Rattle.base.specs.Conditions.{Condition, first_refusal}
 use Rattle.formula.specs.Outcome.{outcome_of}
 use Rattle.call.specs.declared.request.Request.{Request}
 use Rattle.call.specs.declared.request.Request.TheVariants as request
-use Rattle.call.specs.declared.request.Decoded.{Decoded}
-use Rattle.call.specs.declared.request.Decoded.TheVariants.{WellFormed}
+use Rattle.call.specs.Calls.{Decoded}
 use Rattle.call.specs.Calls.{Call, decoded}
 use Rattle.call.specs.Requests.{call_of}
 use Rattle.call.proofs.Requests.{requests_exactly}
 use Rattle.model.specs.declared.answer.Refusal.{Refusal}
-use Rattle.model.specs.declared.answer.Answer.TheVariants.{Accepted}
-use Rattle.model.specs.declared.answer.Answer.{Answer}
+use Rattle.model.specs.Answers.{Answer}
 use Rattle.model.specs.State.{editor}
 use Rattle.model.specs.Refusals.{conditions}
 use Rattle.model.specs.Cells.{Cells, state_of}
@@ -26,7 +24,7 @@ use Rattle.model.specs.Theorems.Editing.{edit_letters, by_thread}
 
 module _ (d : Cells) (text : List ℕ) (a : ℕ) where
   abbrev does : Request → record { cells : Cells; answer : Answer }
-  does q = step_cells_decoded outcome_of d (WellFormed q) text
+  does q = step_cells_decoded outcome_of d (Some q) text
 
   judged_alike : (q q' : Request) → conditions outcome_of (state_of d) q' text ≡ conditions outcome_of (state_of d) q text
       → store outcome_of d q' text ≡ store outcome_of d q text → answer outcome_of (state_of d) q' text ≡ answer outcome_of (state_of d) q text → does q' ≡ does q
@@ -34,8 +32,8 @@ module _ (d : Cells) (text : List ℕ) (a : ℕ) where
       ap (λ (cs : List (Condition Refusal)). judged_cells outcome_of d q' text (first_refusal cs)) same ∙ by (first_refusal (conditions outcome_of (state_of d) q text))
     where
       by : (o : Option Refusal) → judged_cells outcome_of d q' text o ≡ judged_cells outcome_of d q text o
-      by none = λ i. record { cells = stored i; answer = Accepted (answered i) }
-      by (some r) = refl
+      by None = λ i. record { cells = stored i; answer = Ok (answered i) }
+      by (Some r) = refl
 
   -- an edit that names the one, and the same with the other
   request_alike : (q : Request) → has_letter edit_letters (call_of q text) ≡ true → editor (state_of d) a ≡ editor (state_of d) (call_of q text).a
@@ -55,11 +53,11 @@ module _ (d : Cells) (text : List ℕ) (a : ℕ) where
   request_alike (request.Access n b c) h e = absurd (false≢true h)
 
 module _ (d : Cells) where
-  step_as : (x : Call) (q : Request) → decoded x ≡ WellFormed q → step_cells outcome_of d x ≡ step_cells_decoded outcome_of d (WellFormed q) x.text
+  step_as : (x : Call) (q : Request) → decoded x ≡ Some q → step_cells outcome_of d x ≡ step_cells_decoded outcome_of d (Some q) x.text
   unfolding step_cells
   step_as x q e = ap (λ (k : Decoded). step_cells_decoded outcome_of d k x.text) e
 
-  pub call_alike : (x : Call) (q : Request) (a : ℕ) → decoded x ≡ WellFormed q → has_letter edit_letters x ≡ true
+  pub call_alike : (x : Call) (q : Request) (a : ℕ) → decoded x ≡ Some q → has_letter edit_letters x ≡ true
       → editor (state_of d) a ≡ editor (state_of d) x.a → step_cells outcome_of d (by_thread a x) ≡ step_cells outcome_of d x
   call_alike x q a e h same =
       let s = (requests_exactly x q).0 e in

@@ -1,10 +1,10 @@
 -- 2 and 6 of an edit are each the refusal of one condition alone, so they are given exactly where that holds and none
 -- before it does; and 1 is no condition's.
+use Rattle.std.specs.Prelude.{Option, None, Some}
 use mathlib.Core.Path.{◌≡◌, refl, sym, ap, subst, ◌∙◌}
 use mathlib.Core.Bool.{Bool, true, false, ◌&&◌, not, cond, false≢true}
 use mathlib.Core.List.{List, [], ◌∷◌, ◌++◌, Memᴰ}
 use mathlib.Core.Logic.{◌↔◌}
-use mathlib.Core.Option.{Option, none, some}
 use Prim.Native.Nat.{ℕ, ◌<◌}
 use lib.Dec.{eqb}
 use lib.ListN.{length}
@@ -33,9 +33,9 @@ use Rattle.model.specs.Theorems.Editing.{edit_letters, run_letters, AnothersSegm
 use Rattle.model.proofs.Refusals.Refusing.{gives, refusal_in, exactly_here}
 use Rattle.model.proofs.Agreement.Editors.{live_as, keys_as, anothers, is_anothers, anothers_key, is_anothers_key, passes_live, passes_key}
 
-is_none : (o : Option Thread) → (not (is_some o) ≡ true) ↔ (o ≡ none)
-is_none none = (λ h. refl, λ h. refl)
-is_none (some t) = (λ h. absurd (false≢true h), λ h. absurd (some≢none h))
+is_none : (o : Option Thread) → (not (is_some o) ≡ true) ↔ (o ≡ None)
+is_none None = (λ h. refl, λ h. refl)
+is_none (Some t) = (λ h. absurd (false≢true h), λ h. absurd (some≢none h))
 
 pub through : {A B C : Type 0} → A ↔ B → B ↔ C → A ↔ C
 through f g = (λ a. g.0 (f.0 a), λ c. f.1 (g.1 c))
@@ -53,7 +53,7 @@ module _ (es : List Event) (d : Cells) (m : Mirrors es (state_of d)) (text : Lis
   pub alone : (r : Refusal) (q : Request) (earlier : List (Condition Refusal)) (b : Bool) (later : List (Condition Refusal))
       → conditions outcome_of s₀ q text ≡ earlier ++ when b r ∷ later
       → any (λ c. gives r c.refusal) earlier ≡ false → any (λ c. gives r c.refusal) later ≡ false
-      → (first q ≡ some r) ↔ ((some_holds earlier ≡ false) × (b ≡ true))
+      → (first q ≡ Some r) ↔ ((some_holds earlier ≡ false) × (b ≡ true))
   alone r q earlier b later same h k =
       let (to, from) = exactly_here r earlier b later h k in
       (λ e. to (sym (ap first_refusal same) ∙ e), λ p. ap first_refusal same ∙ from p)
@@ -61,7 +61,7 @@ module _ (es : List Event) (d : Cells) (m : Mirrors es (state_of d)) (text : Lis
   -- 2 is the first's
   no_editor : (q : Request) (a : ℕ) {later : List (Condition Refusal)} → conditions outcome_of s₀ q text ≡ unknown_editor s₀ a ∷ later
       → any (λ c. gives NoThread c.refusal) later ≡ false
-      → (first q ≡ some NoThread) ↔ ((history es).threads a ≡ none)
+      → (first q ≡ Some NoThread) ↔ ((history es).threads a ≡ None)
   no_editor q a same h =
       let (to, from) = alone NoThread q [] (not (is_some (editor s₀ a))) _ same refl h in
       let (gone, was) = is_none ((history es).threads a) in
@@ -90,7 +90,7 @@ module _ (es : List Event) (d : Cells) (m : Mirrors es (state_of d)) (text : Lis
   unfolding conditions
   no_one q = every_request (λ r. edits r && any (λ c. gives UnknownUser c.refusal) (conditions outcome_of s₀ r text)) (λ r. false) (λ a b c. refl) q
 
-  pub first_two : (q : Request) → edits q ≡ true → (first q ≡ some NoThread) ↔ ((history es).threads (call_of q text).a ≡ none)
+  pub first_two : (q : Request) → edits q ≡ true → (first q ≡ Some NoThread) ↔ ((history es).threads (call_of q text).a ≡ None)
   first_two q h =
       no_editor q (call_of q text).a
       (begins q ∙ ap (λ (b : Bool). cond b (unknown_editor s₀ (call_of q text).a ∷ later q) (conditions outcome_of s₀ q text)) h)
@@ -112,7 +112,7 @@ module _ (es : List Event) (d : Cells) (m : Mirrors es (state_of d)) (text : Lis
   unfolding conditions
   runs_no_two q = every_request (λ r. runs r && any (λ c. gives NoThread c.refusal) (later r)) (λ r. false) (λ a b c. refl) q
 
-  pub first_gone : (q : Request) → runs q ≡ true → (first q ≡ some NoThread) ↔ ((history es).threads (call_of q text).a ≡ none)
+  pub first_gone : (q : Request) → runs q ≡ true → (first q ≡ Some NoThread) ↔ ((history es).threads (call_of q text).a ≡ None)
   first_gone q h =
       let a : ℕ = (call_of q text).a in
       let (to, from) = alone NoThread q [] (not (is_live s₀ a)) (later q)
@@ -122,13 +122,13 @@ module _ (es : List Event) (d : Cells) (m : Mirrors es (state_of d)) (text : Lis
       let lives : not (is_live s₀ a) ≡ not (is_some ((history es).threads a)) = ap not (m.live a) in
       (λ e. gone (sym lives ∙ (to e).1), λ e. from (refl, lives ∙ was e))
 
-  pub never_one : (q : Request) → edits q ≡ true → first q ≡ some UnknownUser → ⊥
+  pub never_one : (q : Request) → edits q ≡ true → first q ≡ Some UnknownUser → ⊥
   never_one q h e =
       clash (eqb_self 1) (refusal_in (gives UnknownUser) UnknownUser (conditions outcome_of s₀ q text)
       (sym (ap (λ (b : Bool). b && any (λ c. gives UnknownUser c.refusal) (conditions outcome_of s₀ q text)) h) ∙ no_one q) e)
 
   -- 6
-  pub give_six : (a b c : ℕ) → (first (request.GiveKey a b c) ≡ some NotOwner) ↔ AnothersSegmentOrKey es a b c
+  pub give_six : (a b c : ℕ) → (first (request.GiveKey a b c) ≡ Some NotOwner) ↔ AnothersSegmentOrKey es a b c
   unfolding conditions
   give_six a b c =
       let (to, from) = alone NotOwner (request.GiveKey a b c) (unknown_editor s₀ a ∷ unless (is_segment s₀ b) NoSegment ∷ unless (is_key s₀ c) NoKey ∷ [])
@@ -144,7 +144,7 @@ module _ (es : List Event) (d : Cells) (m : Mirrors es (state_of d)) (text : Lis
         ),
       )
 
-  pub take_six : (a b c : ℕ) → (first (request.TakeKey a b c) ≡ some NotOwner) ↔ (AnothersSegment es a b × (c < accepted_of letters.K es))
+  pub take_six : (a b c : ℕ) → (first (request.TakeKey a b c) ≡ Some NotOwner) ↔ (AnothersSegment es a b × (c < accepted_of letters.K es))
   unfolding conditions
   take_six a b c =
       let (to, from) = alone NotOwner (request.TakeKey a b c) (unknown_editor s₀ a ∷ unless (is_segment s₀ b) NoSegment ∷ unless (is_key s₀ c) NoKey ∷ [])
@@ -162,7 +162,7 @@ module _ (es : List Event) (d : Cells) (m : Mirrors es (state_of d)) (text : Lis
         ),
       )
 
-  pub lock_six : (a b c : ℕ) → (first (request.AddLock a b c) ≡ some NotOwner) ↔ AnothersSegment es a b
+  pub lock_six : (a b c : ℕ) → (first (request.AddLock a b c) ≡ Some NotOwner) ↔ AnothersSegment es a b
   unfolding conditions
   lock_six a b c =
       let (to, from) = alone NotOwner (request.AddLock a b c) (unknown_editor s₀ a ∷ unless (is_segment s₀ b) NoSegment ∷ [])
@@ -178,7 +178,7 @@ module _ (es : List Event) (d : Cells) (m : Mirrors es (state_of d)) (text : Lis
       )
 
   pub drop_six : (a b : ℕ)
-      → (first (request.DropLock a b) ≡ some NotOwner)
+      → (first (request.DropLock a b) ≡ Some NotOwner)
       ↔ ((l : Lock) × Memᴰ l (history es).locks × (l.number ≡ b) × AnothersSegment es a l.segment)
   unfolding conditions
   drop_six a b =

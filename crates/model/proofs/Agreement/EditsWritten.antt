@@ -1,8 +1,8 @@
 -- Whose threads and segments are after any event: S and E write the one, N the other, and nothing else does.
+use Rattle.std.specs.Prelude.{Ok, Err, Option, None, Some}
 use mathlib.Core.Path.{◌≡◌, refl, sym, ap, ◌∙◌}
 use mathlib.Core.Bool.{false, ◌&&◌, cond, true≢false}
 use mathlib.Core.List.{List, [], ◌∷◌, ◌++◌, append-nil, append_assoc}
-use mathlib.Core.Option.{Option, none, some}
 use Prim.Native.Nat.{ℕ}
 use lib.Dec.{eqb}
 use Rattle.base.specs.Lists.{adjust, map_option}
@@ -10,14 +10,12 @@ use Rattle.base.proofs.Lists.{case_bool}
 use Rattle.product.specs.declared.literal.Key.{Key}
 use Rattle.call.specs.declared.request.Request.{Request}
 use Rattle.call.specs.declared.request.Request.TheVariants as request
-use Rattle.call.specs.declared.request.Decoded.{Decoded}
-use Rattle.call.specs.declared.request.Decoded.TheVariants.{WellFormed, Corrupt as NotWellFormed}
+use Rattle.call.specs.Calls.{Decoded}
 use Rattle.call.specs.Calls.{Call, decoded}
 use Rattle.call.specs.Requests.{call_of}
 use Rattle.call.specs.Letters as letters
 use Rattle.call.proofs.Requests.{requests_exactly}
-use Rattle.model.specs.declared.answer.Answer.TheVariants.{Accepted, Refused}
-use Rattle.model.specs.declared.answer.Answer.{Answer}
+use Rattle.model.specs.Answers.{Answer}
 use Rattle.model.specs.Answers.{is_accepted, answer_value}
 use Rattle.model.specs.Threads.{Frame, Thread}
 use Rattle.model.specs.History.{History, Event, Entry, event, on_keys, on_frames, editor_in, note, note_answer, advance, history_from, counts, maker_in, makers_from}
@@ -37,12 +35,12 @@ makers_one e h (x ∷ xs) =
 -- ---- what an accepted request writes
 
 user_kept : (f : List Frame → List Frame) (o : Option Thread) → map_option (λ t. t.user) (map_option (on_frames f) o) ≡ map_option (λ t. t.user) o
-user_kept f none = refl
-user_kept f (some t) = refl
+user_kept f None = refl
+user_kept f (Some t) = refl
 
 owner_kept : (f : List Key → List Key) (o : Option Entry) → map_option (λ e. e.owner) (map_option (on_keys f) o) ≡ map_option (λ e. e.owner) o
-owner_kept f none = refl
-owner_kept f (some e) = refl
+owner_kept f None = refl
+owner_kept f (Some e) = refl
 
 module _ (h : History) (text : List ℕ) (k : ℕ) where
   called : (a n : ℕ) (f : List Frame → List Frame) → map_option (λ t. t.user) (adjust h.threads a (on_frames f) n) ≡ map_option (λ t. t.user) (h.threads n)
@@ -53,8 +51,8 @@ module _ (h : History) (text : List ℕ) (k : ℕ) where
 
   note_users : (q : Request) (n : ℕ)
       → map_option (λ t. t.user) ((note h q text k).threads n)
-      ≡ cond (eqb (call_of q text).letter letters.S && eqb n k) (some (call_of q text).a)
-      (cond (eqb (call_of q text).letter letters.E && eqb n (call_of q text).a) none (map_option (λ t. t.user) (h.threads n)))
+      ≡ cond (eqb (call_of q text).letter letters.S && eqb n k) (Some (call_of q text).a)
+      (cond (eqb (call_of q text).letter letters.E && eqb n (call_of q text).a) None (map_option (λ t. t.user) (h.threads n)))
   unfolding note
   note_users request.NewUser n = refl
   note_users (request.StartThread a) n = case_bool (eqb n k) (λ p. simp p) (λ p. simp p)
@@ -71,7 +69,7 @@ module _ (h : History) (text : List ℕ) (k : ℕ) where
 
   note_owners : (q : Request) (s : ℕ)
       → map_option (λ e. e.owner) ((note h q text k).segments s)
-      ≡ cond (eqb (call_of q text).letter letters.N && eqb s k) (some (editor_in h (call_of q text).a)) (map_option (λ e. e.owner) (h.segments s))
+      ≡ cond (eqb (call_of q text).letter letters.N && eqb s k) (Some (editor_in h (call_of q text).a)) (map_option (λ e. e.owner) (h.segments s))
   unfolding note
   note_owners request.NewUser s = refl
   note_owners (request.StartThread a) s = refl
@@ -92,46 +90,46 @@ module _ (h : History) (x : Call) where
   abbrev UsersAfter : ℕ → Decoded → Answer → Type 0
   UsersAfter n k r =
       map_option (λ t. t.user) ((note_answer h k x.text r).threads n)
-      ≡ cond (counts letters.S (event x r) && eqb n (answer_value r)) (some x.a)
-      (cond (counts letters.E (event x r) && eqb n x.a) none (map_option (λ t. t.user) (h.threads n)))
+      ≡ cond (counts letters.S (event x r) && eqb n (answer_value r)) (Some x.a)
+      (cond (counts letters.E (event x r) && eqb n x.a) None (map_option (λ t. t.user) (h.threads n)))
 
   abbrev OwnersAfter : ℕ → Decoded → Answer → Type 0
   OwnersAfter s k r =
       map_option (λ e. e.owner) ((note_answer h k x.text r).segments s)
-      ≡ cond (counts letters.N (event x r) && eqb s (answer_value r)) (some (editor_in h x.a)) (map_option (λ e. e.owner) (h.segments s))
+      ≡ cond (counts letters.N (event x r) && eqb s (answer_value r)) (Some (editor_in h x.a)) (map_option (λ e. e.owner) (h.segments s))
 
-  accepted_users : (q : Request) → decoded x ≡ WellFormed q → (k n : ℕ) → UsersAfter n (WellFormed q) (Accepted k)
+  accepted_users : (q : Request) → decoded x ≡ Some q → (k n : ℕ) → UsersAfter n (Some q) (Ok k)
   accepted_users q e k n =
       let s = (requests_exactly x q).0 e in
       rw (ap (λ (y : Call). y.letter) s, ap (λ (y : Call). y.a) s) (note_users h x.text k q n)
 
-  accepted_owners : (q : Request) → decoded x ≡ WellFormed q → (k s : ℕ) → OwnersAfter s (WellFormed q) (Accepted k)
+  accepted_owners : (q : Request) → decoded x ≡ Some q → (k s : ℕ) → OwnersAfter s (Some q) (Ok k)
   accepted_owners q e k s =
       let i = (requests_exactly x q).0 e in
       rw (ap (λ (y : Call). y.letter) i, ap (λ (y : Call). y.a) i) (note_owners h x.text k q s)
 
-  module _ (r : Answer) (formed : decoded x ≡ NotWellFormed → is_accepted r ≡ false) where
+  module _ (r : Answer) (formed : decoded x ≡ None → is_accepted r ≡ false) where
     pub users_after : (n : ℕ)
         → map_option (λ t. t.user) ((advance h (event x r)).threads n)
-        ≡ cond (counts letters.S (event x r) && eqb n (answer_value r)) (some x.a)
-        (cond (counts letters.E (event x r) && eqb n x.a) none (map_option (λ t. t.user) (h.threads n)))
+        ≡ cond (counts letters.S (event x r) && eqb n (answer_value r)) (Some x.a)
+        (cond (counts letters.E (event x r) && eqb n x.a) None (map_option (λ t. t.user) (h.threads n)))
     unfolding advance
     users_after n = by (decoded x) refl r refl
       where
         by : (k : Decoded) → decoded x ≡ k → (y : Answer) → r ≡ y → UsersAfter n k y
-        by NotWellFormed e (Accepted k) p = absurd (true≢false (sym (ap is_accepted p) ∙ formed e))
-        by NotWellFormed e (Refused z) p = refl
-        by (WellFormed q) e (Accepted k) p = accepted_users q e k n
-        by (WellFormed q) e (Refused z) p = refl
+        by None e (Ok k) p = absurd (true≢false (sym (ap is_accepted p) ∙ formed e))
+        by None e (Err z) p = refl
+        by (Some q) e (Ok k) p = accepted_users q e k n
+        by (Some q) e (Err z) p = refl
 
     pub owners_after : (s : ℕ)
         → map_option (λ e. e.owner) ((advance h (event x r)).segments s)
-        ≡ cond (counts letters.N (event x r) && eqb s (answer_value r)) (some (editor_in h x.a)) (map_option (λ e. e.owner) (h.segments s))
+        ≡ cond (counts letters.N (event x r) && eqb s (answer_value r)) (Some (editor_in h x.a)) (map_option (λ e. e.owner) (h.segments s))
     unfolding advance
     owners_after s = by (decoded x) refl r refl
       where
         by : (k : Decoded) → decoded x ≡ k → (y : Answer) → r ≡ y → OwnersAfter s k y
-        by NotWellFormed e (Accepted k) p = absurd (true≢false (sym (ap is_accepted p) ∙ formed e))
-        by NotWellFormed e (Refused z) p = refl
-        by (WellFormed q) e (Accepted k) p = accepted_owners q e k s
-        by (WellFormed q) e (Refused z) p = refl
+        by None e (Ok k) p = absurd (true≢false (sym (ap is_accepted p) ∙ formed e))
+        by None e (Err z) p = refl
+        by (Some q) e (Ok k) p = accepted_owners q e k s
+        by (Some q) e (Err z) p = refl

@@ -1,9 +1,9 @@
 -- The first three conditions of a C or an A are a live thread, a segment handed out, and an operation that the segment
 -- takes; `Mirror` says that the history tells them.
+use Rattle.std.specs.Prelude.{Ok, Err, Option, None, Some}
 use mathlib.Core.Path.{◌≡◌, sym, ap, ◌∙◌}
 use mathlib.Core.Bool.{Bool, true, false, ◌&&◌}
 use mathlib.Core.List.{List}
-use mathlib.Core.Option.{Option, none, some}
 use Prim.Native.Nat.{ℕ}
 use borrow.Author.Tests.{not-false}
 use Rattle.formula.specs.Outcome.{outcome_of}
@@ -11,7 +11,6 @@ use Rattle.formula.specs.Meaning.{text_holds, Meaning}
 use Rattle.formula.specs.Compiler.{Compiler, Laws}
 use Rattle.formula.proofs.Opening.{laws}
 use Rattle.call.specs.declared.request.Request.TheVariants as request
-use Rattle.call.specs.declared.request.Decoded.TheVariants.{WellFormed}
 use Rattle.call.specs.Calls.{Call, decoded}
 use Rattle.base.specs.Conditions.{first_refusal}
 use Rattle.base.specs.Lists.{is_some}
@@ -20,7 +19,6 @@ use Rattle.base.proofs.Truth.{and_left, and_right}
 use Rattle.base.proofs.Lists.{case_bool, is_some_some}
 use Rattle.model.specs.declared.answer.Refusal.{Refusal}
 use Rattle.model.specs.declared.answer.Refusal.TheVariants.{NoSegment, Unfit}
-use Rattle.model.specs.declared.answer.Answer.TheVariants.{Accepted, Refused}
 use Rattle.model.specs.Operations.{takes}
 use Rattle.model.specs.Threads.{Thread}
 use Rattle.model.specs.State.{State, segment_at, is_live, is_segment}
@@ -43,7 +41,7 @@ record Passed (d : State) (o : Operation) : Type 0 where
   out : is_segment d (target_of o) ≡ true
   fit : (is_known o && takes (segment_at d (target_of o)).kind (operation_of o)) ≡ true
 
-passed : (compile : Compiler) (d : State) (text : List ℕ) (o : Operation) → first_refusal (conditions compile d (request_of o) text) ≡ none → Passed d o
+passed : (compile : Compiler) (d : State) (text : List ℕ) (o : Operation) → first_refusal (conditions compile d (request_of o) text) ≡ None → Passed d o
 unfolding conditions
 passed compile d text (calls a b) e =
     let f = all_fail (conditions compile d (request.CallSegment a b) text) e in
@@ -53,26 +51,26 @@ passed compile d text (accesses a b c) e =
     record { live = not-false _ f.0; out = not-false _ f.1.0; fit = not-false _ f.1.1.0 }
 
 segment_missing : (compile : Compiler) (d : State) (text : List ℕ) (o : Operation) → is_live d (thread_of o) ≡ true → is_segment d (target_of o) ≡ false
-    → first_refusal (conditions compile d (request_of o) text) ≡ some NoSegment
+    → first_refusal (conditions compile d (request_of o) text) ≡ Some NoSegment
 unfolding conditions
 segment_missing compile d text (calls a b) live out = simp (live, out)
 segment_missing compile d text (accesses a b c) live out = simp (live, out)
 
 unfit : (compile : Compiler) (d : State) (text : List ℕ) (o : Operation) → is_live d (thread_of o) ≡ true → is_segment d (target_of o) ≡ true
     → (is_known o && takes (segment_at d (target_of o)).kind (operation_of o)) ≡ false
-    → first_refusal (conditions compile d (request_of o) text) ≡ some Unfit
+    → first_refusal (conditions compile d (request_of o) text) ≡ Some Unfit
 unfolding conditions
 unfit compile d text (calls a b) live out isnt = simp (live, out, isnt)
 unfit compile d text (accesses a b c) live out isnt = simp (live, out, isnt)
 
-refused_by : (compile : Compiler) (d : State) (next : Call) (o : Operation) (r : Refusal) → decoded next ≡ WellFormed (request_of o)
-    → first_refusal (conditions compile d (request_of o) next.text) ≡ some r → (step compile d next).answer ≡ Refused r
+refused_by : (compile : Compiler) (d : State) (next : Call) (o : Operation) (r : Refusal) → decoded next ≡ Some (request_of o)
+    → first_refusal (conditions compile d (request_of o) next.text) ≡ Some r → (step compile d next).answer ≡ Err r
 refused_by compile d next o r e f =
     answer_is compile d next (request_of o) e ∙ ap (λ (k : Option Refusal). (judged compile d (request_of o) next.text k).answer) f
 
 -- ---- on the arrays
 
-module _ (compile : Compiler) (holds : Meaning) (law : Laws compile holds) (xs : List Call) (next : Call) (o : Operation) (e : decoded next ≡ WellFormed (request_of o)) where
+module _ (compile : Compiler) (holds : Meaning) (law : Laws compile holds) (xs : List Call) (next : Call) (o : Operation) (e : decoded next ≡ Some (request_of o)) where
   d : State
   d = state_of (reached compile xs)
 
@@ -99,7 +97,7 @@ module _ (compile : Compiler) (holds : Meaning) (law : Laws compile holds) (xs :
         taken = sym (ap (λ (j : ℕ). takes j (operation_of o)) (m.kind (target_of o) entry has)) ∙ and_right (is_known o) _ fits;
       }
 
-  fits_unrefused : (t : Thread) → h.threads (thread_of o) ≡ some t → (answer_to compile xs next ≡ Refused NoSegment → ⊥) → (answer_to compile xs next ≡ Refused Unfit → ⊥)
+  fits_unrefused : (t : Thread) → h.threads (thread_of o) ≡ Some t → (answer_to compile xs next ≡ Err NoSegment → ⊥) → (answer_to compile xs next ≡ Err Unfit → ⊥)
       → Fits h next o
   unfolding d h
   fits_unrefused t live here takes-it =
@@ -110,7 +108,7 @@ module _ (compile : Compiler) (holds : Meaning) (law : Laws compile holds) (xs :
       (λ isnt. absurd (takes-it (same_answer ∙ refused_by compile d next o Unfit e (unfit compile d next.text o alive out isnt)))))
       (λ out. absurd (here (same_answer ∙ refused_by compile d next o NoSegment e (segment_missing compile d next.text o alive out))))
 
-  fits_accepted : (n : ℕ) → answer_to compile xs next ≡ Accepted n → Judged h next o
+  fits_accepted : (n : ℕ) → answer_to compile xs next ≡ Ok n → Judged h next o
   unfolding d h
   fits_accepted n a =
       let k = passed compile d next.text o (taken compile d next (request_of o) n e (sym same_answer ∙ a)).free in

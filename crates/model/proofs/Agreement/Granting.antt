@@ -1,8 +1,8 @@
 -- Demand 3: the agreement of model and history, read at the call after the list; the arrays hold the model.
+use Rattle.std.specs.Prelude.{Option, None, Some}
 use mathlib.Core.Path.{◌≡◌, refl, sym, ap, ◌∙◌}
 use mathlib.Core.Bool.{Bool, true, false, ◌&&◌, not}
 use mathlib.Core.List.{List}
-use mathlib.Core.Option.{Option, none, some}
 use Prim.Native.Nat.{ℕ}
 use borrow.Author.Tests.{not-true}
 use Rattle.formula.specs.Outcome.{outcome_of}
@@ -10,8 +10,7 @@ use Rattle.formula.specs.Meaning.{text_holds, Meaning}
 use Rattle.formula.specs.Compiler.{Compiler, Laws}
 use Rattle.formula.proofs.Opening.{laws}
 use Rattle.call.specs.declared.request.Request.{Request}
-use Rattle.call.specs.declared.request.Decoded.{Decoded}
-use Rattle.call.specs.declared.request.Decoded.TheVariants.{WellFormed}
+use Rattle.call.specs.Calls.{Decoded}
 use Rattle.call.specs.Calls.{Call, decoded}
 use Rattle.base.specs.Conditions.{first_refusal}
 use Rattle.base.proofs.Truth.{and_left, and_right}
@@ -68,17 +67,17 @@ module _ (holds : Meaning) (h : History) (o : Operation) (t : Thread) where
   answer_accepts g e = accepts (first barring h.locks) g (has_room o t) ∙ rw (is_some_first barring h.locks, e)
     where
       accepts : (d g : Option Lock) (room : Bool) → is_accepted (check_answer d g room) ≡ (not (is_some d) && (is_some g && room))
-      accepts (some l) g room = refl
-      accepts none none room = refl
-      accepts none (some l) true = refl
-      accepts none (some l) false = refl
+      accepts (Some l) g room = refl
+      accepts None None room = refl
+      accepts None (Some l) true = refl
+      accepts None (Some l) false = refl
 
   pub some_tightest : (compile : Compiler) → is_some (tightest_lock compile holds h o t) ≡ any giving h.locks
   some_tightest compile = is_some_greatest (tightness compile (key_set (thread_of o) t)) giving h.locks
 
 -- ---- on the model
 
-pub answer_is : (compile : Compiler) (d : State) (x : Call) (q : Request) → decoded x ≡ WellFormed q
+pub answer_is : (compile : Compiler) (d : State) (x : Call) (q : Request) → decoded x ≡ Some q
     → (step compile d x).answer ≡ (judged compile d q x.text (first_refusal (conditions compile d q x.text))).answer
 unfolding step
 answer_is compile d x q e = ap (λ (k : Decoded). (step_decoded compile d k x.text).answer) e
@@ -108,12 +107,12 @@ on_model compile holds l xs next =
     c : Agrees compile d h (λ m. accepted_of m es)
     c = agree compile holds l xs
 
-    whole : (o : Operation) (t : Thread) → Fits h next o → h.threads (thread_of o) ≡ some t → (step compile d next).answer ≡ answer_from compile holds h o t
+    whole : (o : Operation) (t : Thread) → Fits h next o → h.threads (thread_of o) ≡ Some t → (step compile d next).answer ≡ answer_from compile holds h o t
     whole o t fits live =
         answer_is compile d next (request_of o) fits.well_formed
         ∙ answers_from compile holds l next.text _ _ _ c o t live fits.entry fits.handed_out fits.known fits.taken
 
-    equation : (o : Operation) (t : Thread) → Fits h next o → h.threads (thread_of o) ≡ some t → is_accepted (step compile d next).answer ≡ granted holds h o t
+    equation : (o : Operation) (t : Thread) → Fits h next o → h.threads (thread_of o) ≡ Some t → is_accepted (step compile d next).answer ≡ granted holds h o t
     equation o t f live = ap is_accepted (whole o t f live) ∙ answer_accepts holds h o t (tightest_lock compile holds h o t) (some_tightest holds h o t compile)
 
 -- ---- on the arrays

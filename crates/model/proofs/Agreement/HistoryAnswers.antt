@@ -1,10 +1,10 @@
 -- What the model answers, read from a history that agrees with it. Of a fitting C or A of a live thread the conditions
 -- before the check fail, and the check's two locks are the history's, the lowest deny lock and the tightest grant lock;
 -- the numbers handed out are the counts.
+use Rattle.std.specs.Prelude.{Ok, Err, Option, None, Some}
 use mathlib.Core.Path.{◌≡◌, refl, sym, ap, ◌∙◌}
 use mathlib.Core.Bool.{Bool, true, false, ◌||◌, not, cond, false≢true}
 use mathlib.Core.List.{List}
-use mathlib.Core.Option.{Option, none, some}
 use Prim.Native.Nat.{ℕ, suc}
 use native.Mathlib.Omega.{arith}
 use lib.Dec.{eqb, ltb}
@@ -13,16 +13,14 @@ use borrow.Author.Tests.{eqb-true, lt-ltb, ltb-true, ltb-false, le-ltb}
 use Rattle.formula.specs.Compiler.{Compiler, Laws}
 use Rattle.formula.specs.Meaning.{Meaning}
 use Rattle.call.specs.declared.request.Request.{Request}
-use Rattle.call.specs.declared.request.Decoded.{Decoded}
-use Rattle.call.specs.declared.request.Decoded.TheVariants.{WellFormed}
+use Rattle.call.specs.Calls.{Decoded}
 use Rattle.call.specs.Calls.{Call, decoded}
 use Rattle.call.specs.Letters as letters
 use Rattle.call.specs.Requests.{call_of}
 use Rattle.base.specs.Conditions.{first_refusal}
 use Rattle.model.specs.declared.answer.Refusal.{Refusal}
 use Rattle.model.specs.declared.answer.Refusal.TheVariants.{Full, Denied, NotGranted}
-use Rattle.model.specs.declared.answer.Answer.{Answer}
-use Rattle.model.specs.declared.answer.Answer.TheVariants.{Accepted, Refused}
+use Rattle.model.specs.Answers.{Answer}
 use Rattle.base.specs.Lists.{any, first, is_some, map_option}
 use Rattle.model.specs.Limits.{most_frames, passes}
 use Rattle.model.specs.Operations.{denies, grants, takes}
@@ -44,36 +42,36 @@ use Rattle.call.proofs.EveryRequest.{every_request}
 
 -- an accepted call: no condition held, its answer is the model's, and the state is what it changes
 pub record Taken (compile : Compiler) (d : State) (next : Call) (q : Request) (n : ℕ) : Type 0 where
-  pub free : first_refusal (conditions compile d q next.text) ≡ none
+  pub free : first_refusal (conditions compile d q next.text) ≡ None
   pub number : n ≡ answer compile d q next.text
   pub state : (step compile d next).state ≡ update compile d q next.text
 
-pub taken : (compile : Compiler) (d : State) (next : Call) (q : Request) (n : ℕ) → decoded next ≡ WellFormed q → (step compile d next).answer ≡ Accepted n
+pub taken : (compile : Compiler) (d : State) (next : Call) (q : Request) (n : ℕ) → decoded next ≡ Some q → (step compile d next).answer ≡ Ok n
     → Taken compile d next q n
 unfolding step
 taken compile d next q n e a = by (first_refusal (conditions compile d q next.text)) refl (sym (ap (λ (k : Decoded). (step_decoded compile d k next.text).answer) e) ∙ a)
   where
-    by : (o : Option Refusal) → first_refusal (conditions compile d q next.text) ≡ o → (judged compile d q next.text (first_refusal (conditions compile d q next.text))).answer ≡ Accepted n
+    by : (o : Option Refusal) → first_refusal (conditions compile d q next.text) ≡ o → (judged compile d q next.text (first_refusal (conditions compile d q next.text))).answer ≡ Ok n
         → Taken compile d next q n
-    by none f h =
+    by None f h =
         record {
           free = f;
-          number = let k : Accepted (answer compile d q next.text) ≡ Accepted n = sym (ap (λ (o : Option Refusal). (judged compile d q next.text o).answer) f) ∙ h in cc;
+          number = let k : Ok (answer compile d q next.text) ≡ Ok n = sym (ap (λ (o : Option Refusal). (judged compile d q next.text o).answer) f) ∙ h in cc;
           state = ap (λ (k : Decoded). (step_decoded compile d k next.text).state) e ∙ ap (λ (o : Option Refusal). (judged compile d q next.text o).state) f;
         }
-    by (some r) f h =
+    by (Some r) f h =
         let k = sym (ap (λ (o : Option Refusal). (judged compile d q next.text o).answer) f) ∙ h in
         let z : ◌≡◌ {A = ℕ} 0 1 = cc in absurd (omega arith)
 
 -- an answer, by the first refusal
 abbrev pub answered : Option Refusal → ℕ → Answer
-answered none n = Accepted n
-answered (some r) n = Refused r
+answered None n = Ok n
+answered (Some r) n = Err r
 
 pub judged_answer : (compile : Compiler) (d : State) (q : Request) (text : List ℕ) (o : Option Refusal)
     → (judged compile d q text o).answer ≡ answered o (answer compile d q text)
-judged_answer compile d q text none = refl
-judged_answer compile d q text (some r) = refl
+judged_answer compile d q text None = refl
+judged_answer compile d q text (Some r) = refl
 
 -- a grant lock opens exactly when there is a tightest
 pub granted_some : (d : State) (a b n : ℕ) → is_some (opening_product d grants a b n) ≡ is_some (tightest_product d a b n)
@@ -85,16 +83,16 @@ granted_some d a b n =
 -- the check's conditions and the limit, by the two locks that open
 check_answers : (od og : Option LockProduct) (ld lg : Option Lock) (room : Bool)
     → map_option (λ r. r.lock) od ≡ map_option (λ l. l.number) ld → map_option (λ r. r.lock) og ≡ map_option (λ l. l.number) lg
-    → answered (cond (is_some od) (some (Denied (lock_of od))) (cond (not (is_some og)) (some NotGranted) (cond (not room) (some Full) none))) (lock_of og)
+    → answered (cond (is_some od) (Some (Denied (lock_of od))) (cond (not (is_some og)) (Some NotGranted) (cond (not room) (Some Full) None))) (lock_of og)
     ≡ check_answer ld lg room
-check_answers (some r) og (some l) lg room p q = ap (λ (n : ℕ). Refused (Denied n)) (some_inj p)
-check_answers (some r) og none lg room p q = absurd (some≢none p)
-check_answers none og (some l) lg room p q = absurd (some≢none (sym p))
-check_answers none (some r) none (some l) true p q = ap Accepted (some_inj q)
-check_answers none (some r) none (some l) false p q = refl
-check_answers none (some r) none none room p q = absurd (some≢none q)
-check_answers none none none (some l) room p q = absurd (some≢none (sym q))
-check_answers none none none none room p q = refl
+check_answers (Some r) og (Some l) lg room p q = ap (λ (n : ℕ). Err (Denied n)) (some_inj p)
+check_answers (Some r) og None lg room p q = absurd (some≢none p)
+check_answers None og (Some l) lg room p q = absurd (some≢none (sym p))
+check_answers None (Some r) None (Some l) true p q = ap Ok (some_inj q)
+check_answers None (Some r) None (Some l) false p q = refl
+check_answers None (Some r) None None room p q = absurd (some≢none q)
+check_answers None None None (Some l) room p q = absurd (some≢none (sym q))
+check_answers None None None None room p q = refl
 
 pub under_limit : (most n : ℕ) → passes most (suc n) ≡ not (ltb n most)
 under_limit most n =
@@ -103,8 +101,8 @@ under_limit most n =
     (λ e. simp e (let h = ltb-false n most e in lt-ltb most (suc n) (omega arith)))
 
 module _ (compile : Compiler) (holds : Meaning) (laws : Laws compile holds) (text : List ℕ) (d : State) (h : History) (count : ℕ → ℕ) (c : Agrees compile d h count) where
-  module _ (o : Operation) (t : Thread) (live : h.threads (thread_of o) ≡ some t) (entry : Entry) (out : h.segments (target_of o) ≡ some entry) where
-    found : find_thread (thread_of o) d.places ≡ some t
+  module _ (o : Operation) (t : Thread) (live : h.threads (thread_of o) ≡ Some t) (entry : Entry) (out : h.segments (target_of o) ≡ Some entry) where
+    found : find_thread (thread_of o) d.places ≡ Some t
     found = found_as compile d h count c (thread_of o) ∙ live
 
     out_test : is_segment d (target_of o) ≡ true
@@ -127,7 +125,7 @@ module _ (compile : Compiler) (holds : Meaning) (laws : Laws compile holds) (tex
         ∙ rw (thread_as compile d h count c (thread_of o) t live)
 
   -- with the grant product and the grant lock that the answer goes by, which are there exactly where a grant lock opens
-  checked_from : (o : Operation) (t : Thread) → h.threads (thread_of o) ≡ some t → (entry : Entry) → h.segments (target_of o) ≡ some entry
+  checked_from : (o : Operation) (t : Thread) → h.threads (thread_of o) ≡ Some t → (entry : Entry) → h.segments (target_of o) ≡ Some entry
       → is_known o ≡ true → takes entry.kind (operation_of o) ≡ true → (og : Option LockProduct) (lg : Option Lock)
       → is_some (opening_product d grants (thread_of o) (target_of o) (operation_of o)) ≡ is_some og → map_option (λ r. r.lock) og ≡ map_option (λ l. l.number) lg
       → answered (first_refusal (conditions compile d (request_of o) text)) (lock_of og) ≡ check_answer (first (lock_opens holds denies o t) h.locks) lg (has_room o t)
@@ -147,7 +145,7 @@ module _ (compile : Compiler) (holds : Meaning) (laws : Laws compile holds) (tex
   checks_answer (calls a b) = refl
   checks_answer (accesses a b n) = refl
 
-  pub answers_from : (o : Operation) (t : Thread) → h.threads (thread_of o) ≡ some t → (entry : Entry) → h.segments (target_of o) ≡ some entry
+  pub answers_from : (o : Operation) (t : Thread) → h.threads (thread_of o) ≡ Some t → (entry : Entry) → h.segments (target_of o) ≡ Some entry
       → is_known o ≡ true → takes entry.kind (operation_of o) ≡ true
       → (judged compile d (request_of o) text (first_refusal (conditions compile d (request_of o) text))).answer ≡ answer_from compile holds h o t
   answers_from o t live entry out number fits =
@@ -158,7 +156,7 @@ module _ (compile : Compiler) (holds : Meaning) (laws : Laws compile holds) (tex
       (granted_some d (thread_of o) (target_of o) (operation_of o)) (tight o t live entry out)
 
   -- and as it was before request P6, with the first grant product
-  pub lowest_from : (o : Operation) (t : Thread) → h.threads (thread_of o) ≡ some t → (entry : Entry) → h.segments (target_of o) ≡ some entry
+  pub lowest_from : (o : Operation) (t : Thread) → h.threads (thread_of o) ≡ Some t → (entry : Entry) → h.segments (target_of o) ≡ Some entry
       → is_known o ≡ true → takes entry.kind (operation_of o) ≡ true
       → answered (first_refusal (conditions compile d (request_of o) text)) (lock_of (opening_product d grants (thread_of o) (target_of o) (operation_of o)))
       ≡ check_answer (first (lock_opens holds denies o t) h.locks) (first (lock_opens holds grants o t) h.locks) (has_room o t)

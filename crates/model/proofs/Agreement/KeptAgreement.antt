@@ -1,8 +1,8 @@
 -- Every accepted request keeps the agreement of model and history.
+use Rattle.std.specs.Prelude.{Option, None, Some}
 use mathlib.Core.Path.{◌≡◌, refl, sym, ap, ◌∙◌}
 use mathlib.Core.Bool.{true, false, not}
 use mathlib.Core.List.{List, ◌∷◌, map}
-use mathlib.Core.Option.{Option, none, some}
 use Prim.Native.Nat.{ℕ, suc, ◌+◌, ◌<◌}
 use native.Mathlib.Omega.{arith}
 use lib.Dec.{eqb}
@@ -34,8 +34,8 @@ use Rattle.call.specs.Letters as letters
 use Rattle.model.proofs.Agreement.Agrees.{AgreeCounts, Agrees, bump, recounted, with_counted, with_threads_lem, with_segments_lem, one_user, one_thread, one_ended, same_places, one_segment, one_key, same_segments, one_lock}
 
 user_found : (o : Option Thread) → or_default 0 (λ t. t.user) o ≡ or_default 0 (λ (u : ℕ). u) (map_option (λ t. t.user) o)
-user_found none = refl
-user_found (some t) = refl
+user_found None = refl
+user_found (Some t) = refl
 
 -- the history strikes the key as the model does
 frame_struck : (b k : ℕ) (f : Frame) → strike_from b k f ≡ revoke_frame b k f
@@ -92,7 +92,7 @@ module _ (compile : Compiler) (d : State) (h : History) (count : ℕ → ℕ) (c
 module _ (compile : Compiler) (holds : Meaning) (laws : Laws compile holds) (text : List ℕ) (d : State) (h : History) (count : ℕ → ℕ) (c : Agrees compile d h count) where
   abbrev Kept : Request → Type 0
   Kept q =
-      first_refusal (conditions compile d q text) ≡ none
+      first_refusal (conditions compile d q text) ≡ None
       → Agrees compile (update compile d q text) (note h q text (answer compile d q text)) (bump (call_of q text).letter count)
 
   pub keep_accepted : (q : Request) → Kept q

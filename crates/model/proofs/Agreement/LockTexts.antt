@@ -1,10 +1,10 @@
 -- The conditions of an L are tests on the state, each of which the history tells; the text's outcome is the compiler's,
 -- whose laws say where it is which.
+use Rattle.std.specs.Prelude.{Err, Option, None, Some}
 use mathlib.Core.Path.{◌≡◌, refl, sym, ap, ◌∙◌}
 use mathlib.Core.Bool.{Bool, true, false, true≢false}
 use mathlib.Core.List.{List}
 use mathlib.Core.Logic.{◌↔◌}
-use mathlib.Core.Option.{Option, none, some}
 use Prim.Native.Nat.{ℕ, suc, ◌+◌}
 use lib.ListN.{length}
 use borrow.Author.Tests.{ltb-false, le-ltb, eqb-true, eq-eqb}
@@ -21,14 +21,12 @@ use Rattle.formula.proofs.Width.{too_wide_exactly}
 use Rattle.formula.proofs.Opening.{opening_law, accepted_where}
 use Rattle.formula.proofs.Unsatisfiable.{unsatisfiable_exactly_lem}
 use Rattle.call.specs.declared.request.Request.TheVariants.{AddLock}
-use Rattle.call.specs.declared.request.Decoded.TheVariants.{WellFormed}
 use Rattle.call.specs.Calls.{Call, decoded}
 use Rattle.base.specs.Conditions.{first_refusal}
 use Rattle.base.proofs.Truth.{neither}
 use Rattle.call.specs.Letters as letters
 use Rattle.model.specs.declared.answer.Refusal.{Refusal}
 use Rattle.model.specs.declared.answer.Refusal.TheVariants.{Full, Malformed, TooWide, Unsatisfiable}
-use Rattle.model.specs.declared.answer.Answer.TheVariants.{Refused}
 use Rattle.model.specs.Answers.{is_accepted}
 use Rattle.model.specs.Limits.{most_standing, most_numbers, passes}
 use Rattle.model.specs.Operations.{takes_set}
@@ -53,7 +51,7 @@ use Rattle.model.proofs.Agreement.TextTests.{tests, late, is_late, reaches_text,
 
 -- ---- of an L after some events
 
-module _ (es : List Event) (d : Cells) (m : Mirrors es (state_of d)) (k : Stores outcome_of text_holds es (state_of d)) (next : Call) (a b c : ℕ) (e : decoded next ≡ WellFormed (AddLock a b c)) where
+module _ (es : List Event) (d : Cells) (m : Mirrors es (state_of d)) (k : Stores outcome_of text_holds es (state_of d)) (next : Call) (a b c : ℕ) (e : decoded next ≡ Some (AddLock a b c)) where
   abbrev text : List ℕ
   text = next.text
 
@@ -75,13 +73,13 @@ module _ (es : List Event) (d : Cells) (m : Mirrors es (state_of d)) (k : Stores
   abbrev first_of : Option Refusal
   first_of = first_refusal (conditions outcome_of (state_of d) (AddLock a b c) text)
 
-  refused_first : (r : Refusal) → ((step_cells outcome_of d next).answer ≡ Refused r) ↔ (first_of ≡ some r)
+  refused_first : (r : Refusal) → ((step_cells outcome_of d next).answer ≡ Err r) ↔ (first_of ≡ Some r)
   refused_first = refused_as outcome_of d next (AddLock a b c) e
 
-  accepted_as : (is_accepted (step_cells outcome_of d next).answer ≡ true) ↔ (first_of ≡ none)
+  accepted_as : (is_accepted (step_cells outcome_of d next).answer ≡ true) ↔ (first_of ≡ None)
   accepted_as =
       let (to, from) = judged_accepted outcome_of d (AddLock a b c) text first_of in
-      let same = ap is_accepted (answer_decoded outcome_of d next (WellFormed (AddLock a b c)) e) in
+      let same = ap is_accepted (answer_decoded outcome_of d next (Some (AddLock a b c)) e) in
       (λ h. to (sym same ∙ h), λ h. same ∙ from h)
 
   allowed : live ≡ true → is_segment (state_of d) b ≡ true → own ≡ true → takes_set (segment_at (state_of d) b).kind c ≡ true → Allowed es a b c
@@ -130,15 +128,15 @@ module _ (es : List Event) (d : Cells) (m : Mirrors es (state_of d)) (k : Stores
       same u s o f = rw (u, s, o, f)
 
   -- a refusal of the text, exactly where the compiler gives it
-  by_outcome : {P : Type 0} (r : Refusal) (x : Outcome) → is_late (some r) ≡ true → ((y : Outcome) (t : Bool) → late y t ≡ some r → y ≡ x) → ((t : Bool) → late x t ≡ some r)
+  by_outcome : {P : Type 0} (r : Refusal) (x : Outcome) → is_late (Some r) ≡ true → ((y : Outcome) (t : Bool) → late y t ≡ Some r → y ≡ x) → ((t : Bool) → late x t ≡ Some r)
       → (outcome_of (issued_by es) text ≡ x) ↔ P
-      → ((step_cells outcome_of d next).answer ≡ Refused r) ↔ (Allowed es a b c × P)
+      → ((step_cells outcome_of d next).answer ≡ Err r) ↔ (Allowed es a b c × P)
   by_outcome {P} r x l to from laws = (there, back)
     where
-      there : (step_cells outcome_of d next).answer ≡ Refused r → Allowed es a b c × P
-      there h = let (w, q) = is_late_lem (some r) l ((refused_first r).0 h) in (w, laws.0 (sym outcome_as ∙ to outcome over q))
+      there : (step_cells outcome_of d next).answer ≡ Err r → Allowed es a b c × P
+      there h = let (w, q) = is_late_lem (Some r) l ((refused_first r).0 h) in (w, laws.0 (sym outcome_as ∙ to outcome over q))
 
-      back : Allowed es a b c × P → (step_cells outcome_of d next).answer ≡ Refused r
+      back : Allowed es a b c × P → (step_cells outcome_of d next).answer ≡ Err r
       back p = (refused_first r).1 (reaches p.0 ∙ ap (λ (y : Outcome). late y over) (outcome_as ∙ laws.1 p.1) ∙ from over)
 
   -- ---- the limits
@@ -163,17 +161,17 @@ module _ (es : List Event) (d : Cells) (m : Mirrors es (state_of d)) (k : Stores
   accepts : (f : Satisfiable (issued_by es) text) → outcome ≡ accepted (products false f.tree)
   accepts f = outcome_as ∙ accepted_where (issued_by es) text f.tree f.text f.fit f.true_for.0 f.true_for.1
 
-  full_as : ((step_cells outcome_of d next).answer ≡ Refused Full) ↔ (Allowed es a b c × (f : Satisfiable (issued_by es) text) × (Room es b (length (products false f.tree)) → ⊥))
+  full_as : ((step_cells outcome_of d next).answer ≡ Err Full) ↔ (Allowed es a b c × (f : Satisfiable (issued_by es) text) × (Room es b (length (products false f.tree)) → ⊥))
   full_as = (there, back)
     where
-      there : (step_cells outcome_of d next).answer ≡ Refused Full → Allowed es a b c × (f : Satisfiable (issued_by es) text) × (Room es b (length (products false f.tree)) → ⊥)
+      there : (step_cells outcome_of d next).answer ≡ Err Full → Allowed es a b c × (f : Satisfiable (issued_by es) text) × (Room es b (length (products false f.tree)) → ⊥)
       there h =
-          let (w, q) = is_late_lem (some Full) refl ((refused_first Full).0 h) in
+          let (w, q) = is_late_lem (Some Full) refl ((refused_first Full).0 h) in
           let (ps, v, o) = late_full outcome over q in
           let f = satisfiable ps v in
           (w, f, λ r. true≢false (sym o ∙ room_over (products false f.tree) (accepts f) r))
 
-      back : Allowed es a b c × (f : Satisfiable (issued_by es) text) × (Room es b (length (products false f.tree)) → ⊥) → (step_cells outcome_of d next).answer ≡ Refused Full
+      back : Allowed es a b c × (f : Satisfiable (issued_by es) text) × (Room es b (length (products false f.tree)) → ⊥) → (step_cells outcome_of d next).answer ≡ Err Full
       back p =
           let (w, f, none_left) = p in
           let o : over ≡ true = case_bool over (λ t. t) (λ t. absurd (none_left (over_room (products false f.tree) (accepts f) t))) in
@@ -184,7 +182,7 @@ module _ (es : List Event) (d : Cells) (m : Mirrors es (state_of d)) (k : Stores
     where
       there : is_accepted (step_cells outcome_of d next).answer ≡ true → Allowed es a b c × (f : Satisfiable (issued_by es) text) × Room es b (length (products false f.tree))
       there h =
-          let (w, q) = is_late_lem none refl (accepted_as.0 h) in
+          let (w, q) = is_late_lem None refl (accepted_as.0 h) in
           let (ps, v, o) = late_none outcome over q in
           let f = satisfiable ps v in
           (w, f, over_room (products false f.tree) (accepts f) o)
@@ -196,11 +194,11 @@ module _ (es : List Event) (d : Cells) (m : Mirrors es (state_of d)) (k : Stores
 
   -- ---- the whole
 
-  unsatisfiable_as : ((step_cells outcome_of d next).answer ≡ Refused Unsatisfiable) ↔ (Allowed es a b c × Never (issued_by es) text)
+  unsatisfiable_as : ((step_cells outcome_of d next).answer ≡ Err Unsatisfiable) ↔ (Allowed es a b c × Never (issued_by es) text)
   unsatisfiable_as = by_outcome Unsatisfiable unsatisfiable refl late_unsatisfiable (λ t. refl) (unsatisfiable_exactly_lem (issued_by es) text)
 
   unsatisfiable_words : Allowed es a b c → (t : Tree ors) → Text (issued_by es) text t → fits false t ≡ true
-      → ((step_cells outcome_of d next).answer ≡ Refused Unsatisfiable) ↔ ((keys : KeySet) → holds keys t ≡ false)
+      → ((step_cells outcome_of d next).answer ≡ Err Unsatisfiable) ↔ ((keys : KeySet) → holds keys t ≡ false)
   unsatisfiable_words w t h f = (
     λ q keys.
         let never = (unsatisfiable_as.0 q).1 in

@@ -1,9 +1,9 @@
 -- What the table asks of the state is read off the agreement of model and history; the makers are counted along the
 -- list of calls, and a segment's own key is what the arrays say it is.
+use Rattle.std.specs.Prelude.{Ok, Option, None, Some}
 use mathlib.Core.Path.{◌≡◌, refl, sym, ap, ◌∙◌}
 use mathlib.Core.Bool.{true, not, cond}
 use mathlib.Core.List.{List, [], ◌∷◌, ◌++◌, map, append-nil, append_assoc, Memᴰ}
-use mathlib.Core.Option.{Option, none, some}
 use Prim.Native.Nat.{ℕ}
 use native.Mathlib.Omega.{arith}
 use lib.Dec.{eqb}
@@ -18,15 +18,13 @@ use Rattle.formula.specs.Meaning.{Meaning, text_holds}
 use Rattle.formula.specs.Compiler.{Compiler, Laws, everything}
 use Rattle.formula.proofs.Opening.{laws, opening_law, holds_spelt}
 use Rattle.call.specs.declared.request.Request.{Request}
-use Rattle.call.specs.declared.request.Decoded.{Decoded}
-use Rattle.call.specs.declared.request.Decoded.TheVariants.{WellFormed, Corrupt as NotWellFormed}
+use Rattle.call.specs.Calls.{Decoded}
 use Rattle.call.specs.Calls.{Call, decoded}
 use Rattle.call.specs.Letters as letters
 use Rattle.call.specs.Requests.{call_of}
 use Rattle.base.specs.Conditions.{first_refusal}
 use Rattle.call.proofs.Requests.{requests_exactly}
 use Rattle.model.specs.declared.answer.Refusal.{Refusal}
-use Rattle.model.specs.declared.answer.Answer.TheVariants.{Accepted}
 use Rattle.base.specs.Lists.{is_some, map_option, keep, tail_of}
 use Rattle.model.specs.State.{State, empty_state, Segment, user_of, issued, blank_segment, segment_at, is_segment, is_lock, lock_segment}
 use Rattle.model.specs.Refusals.{conditions}
@@ -63,7 +61,7 @@ module _ (compile : Compiler) (es : List Event) (d : State) (c : Agrees compile 
       (λ t. let (e, h) = is_some_some ((history es).segments s) t in
       lt-ltb s (length d.segments) (entry_low d.segments (history es).segments c.segments s e h))
 
-  entry_as : (s : ℕ) (e : Entry) → (history es).segments s ≡ some e → entry_of (segment_at d s) ≡ e
+  entry_as : (s : ℕ) (e : Entry) → (history es).segments s ≡ Some e → entry_of (segment_at d s) ≡ e
   entry_as s e h = entry_is d.segments (history es).segments c.segments s e h
 
   home_as : (l : Lock) → Memᴰ l (history es).locks → lock_segment d l.number ≡ l.segment
@@ -87,11 +85,11 @@ module _ (compile : Compiler) (d : State) (h : History) (same : (a : ℕ) → ed
       (λ t. simp t (ap (λ (u : ℕ). d.makers ++ u ∷ []) (sym (same e.call.a))))
       (λ t. simp t (sym (append-nil d.makers)))
 
-  accepted_makers : (text : List ℕ) (n : ℕ) (q : Request) → (update compile d q text).makers ≡ d.makers ++ maker_in h (event (call_of q text) (Accepted n))
+  accepted_makers : (text : List ℕ) (n : ℕ) (q : Request) → (update compile d q text).makers ≡ d.makers ++ maker_in h (event (call_of q text) (Ok n))
   unfolding update
   accepted_makers text n q =
-      every_request (λ r. (update compile d r text).makers) (λ r. makers_with (event (call_of r text) (Accepted n))) (λ a b c. refl) q
-      ∙ makers_added (event (call_of q text) (Accepted n))
+      every_request (λ r. (update compile d r text).makers) (λ r. makers_with (event (call_of r text) (Ok n))) (λ a b c. refl) q
+      ∙ makers_added (event (call_of q text) (Ok n))
 
 step_makers : (compile : Compiler) (d : State) (h : History) → ((a : ℕ) → editor_in h a ≡ user_of d a) → (x : Call)
     → (step compile d x).state.makers ≡ d.makers ++ maker_in h (event x (step compile d x).answer)
@@ -100,15 +98,15 @@ step_makers compile d h same x = by_request (decoded x) refl
   where
     by_refusal : (q : Request) → x ≡ call_of q x.text → (o : Option Refusal)
         → (judged compile d q x.text o).state.makers ≡ d.makers ++ maker_in h (event x (judged compile d q x.text o).answer)
-    by_refusal q e none =
+    by_refusal q e None =
         let n = answer compile d q x.text in
-        accepted_makers compile d h same x.text n q ∙ ap (λ (y : Call). d.makers ++ maker_in h (event y (Accepted n))) (sym e)
-    by_refusal q e (some r) = sym (append-nil d.makers)
+        accepted_makers compile d h same x.text n q ∙ ap (λ (y : Call). d.makers ++ maker_in h (event y (Ok n))) (sym e)
+    by_refusal q e (Some r) = sym (append-nil d.makers)
 
     by_request : (k : Decoded) → decoded x ≡ k
         → (step_decoded compile d k x.text).state.makers ≡ d.makers ++ maker_in h (event x (step_decoded compile d k x.text).answer)
-    by_request NotWellFormed e = sym (append-nil d.makers)
-    by_request (WellFormed q) e = by_refusal q ((requests_exactly x q).0 e) (first_refusal (conditions compile d q x.text))
+    by_request None e = sym (append-nil d.makers)
+    by_request (Some q) e = by_refusal q ((requests_exactly x q).0 e) (first_refusal (conditions compile d q x.text))
 
 module _ (compile : Compiler) (meaning : Meaning) (law : Laws compile meaning) where
   makers_after : (xs : List Call) (d : State) (h : History) (count : ℕ → ℕ) → Agrees compile d h count

@@ -1,8 +1,8 @@
 -- What an accepted call answers, by the agreement of model and history: before it, and for key lists after it.
+use Rattle.std.specs.Prelude.{Ok, Some}
 use mathlib.Core.Path.{◌≡◌, sym, ap, ap₂, ◌∙◌}
 use mathlib.Core.Bool.{true}
 use mathlib.Core.List.{List, ◌∷◌, Memᴰ}
-use mathlib.Core.Option.{some}
 use Prim.Native.Nat.{ℕ, ◌<◌}
 use native.Mathlib.Omega.{arith}
 use lib.ListN.{length, get_or, set, length-set, length-map}
@@ -13,11 +13,9 @@ use Rattle.formula.specs.Meaning.{text_holds, Meaning}
 use Rattle.formula.specs.Compiler.{Compiler, Laws}
 use Rattle.formula.proofs.Opening.{laws}
 use Rattle.call.specs.declared.request.Request.TheVariants.{EndThread, GiveKey, TakeKey, DropLock, ReturnCall}
-use Rattle.call.specs.declared.request.Decoded.TheVariants.{WellFormed}
 use Rattle.call.specs.Calls.{Call, decoded}
 use Rattle.base.proofs.Conditions.{all_fail}
-use Rattle.model.specs.declared.answer.Answer.{Answer}
-use Rattle.model.specs.declared.answer.Answer.TheVariants.{Accepted}
+use Rattle.model.specs.Answers.{Answer}
 use Rattle.base.specs.Lists.{keep}
 use Rattle.model.specs.Threads.{Frame, Thread}
 use Rattle.model.specs.State.{State, empty_state, Segment, blank_segment, segment_at, is_lock, is_of_lock, lock_segment}
@@ -44,11 +42,11 @@ module _ (compile : Compiler) (holds : Meaning) (law : Laws compile holds) (d : 
   abbrev text : List ℕ
   text = next.text
 
-  ended_as : (a n : ℕ) → decoded next ≡ WellFormed (EndThread a) → r ≡ Accepted n → (t : Thread) → h.threads a ≡ some t → n ≡ length t.frames
+  ended_as : (a n : ℕ) → decoded next ≡ Some (EndThread a) → r ≡ Ok n → (t : Thread) → h.threads a ≡ Some t → n ≡ length t.frames
   unfolding answer
   ended_as a n e k t live = (taken compile d next (EndThread a) n e k).number ∙ ap (λ (x : Thread). length x.frames) (thread_as compile d h count c a t live)
 
-  left_as : (a n : ℕ) → decoded next ≡ WellFormed (ReturnCall a) → r ≡ Accepted n → (t : Thread) → h.threads a ≡ some t
+  left_as : (a n : ℕ) → decoded next ≡ Some (ReturnCall a) → r ≡ Ok n → (t : Thread) → h.threads a ≡ Some t
       → (f : Frame) (fs : List Frame) → t.frames ≡ f ∷ fs → n ≡ f.segment
   unfolding answer
   left_as a n e k t live f fs w =
@@ -64,21 +62,21 @@ module _ (compile : Compiler) (holds : Meaning) (law : Laws compile holds) (d : 
       ∙ ap (λ (gs : List Segment). (get_or gs b blank_segment).keys) w
       ∙ ap (λ (g : Segment). g.keys) (get_or-set_same d.segments b (f (segment_at d b)) blank_segment lt)
 
-  given_as : (a b k n : ℕ) → decoded next ≡ WellFormed (GiveKey a b k) → r ≡ Accepted n → n ≡ length (list_of (advance h (event next r)) b)
+  given_as : (a b k n : ℕ) → decoded next ≡ Some (GiveKey a b k) → r ≡ Ok n → n ≡ length (list_of (advance h (event next r)) b)
   unfolding answer conditions update
   given_as a b k n e w =
       let t = taken compile d next (GiveKey a b k) n e w in
       let lt = ltb-true b (length d.segments) (not-false _ (all_fail (conditions compile d (GiveKey a b k) text) t.free).1.0) in
       t.number ∙ ap length (sym (listed_as b (give_key k) lt (ap (λ (s : State). s.segments) t.state)))
 
-  taken_as : (a b k n : ℕ) → decoded next ≡ WellFormed (TakeKey a b k) → r ≡ Accepted n → n ≡ length (list_of (advance h (event next r)) b)
+  taken_as : (a b k n : ℕ) → decoded next ≡ Some (TakeKey a b k) → r ≡ Ok n → n ≡ length (list_of (advance h (event next r)) b)
   unfolding answer conditions update
   taken_as a b k n e w =
       let t = taken compile d next (TakeKey a b k) n e w in
       let lt = ltb-true b (length d.segments) (not-false _ (all_fail (conditions compile d (TakeKey a b k) text) t.free).1.0) in
       t.number ∙ ap length (sym (listed_as b (take_key k) lt (ap (λ (s : State). s.segments) t.state)))
 
-  dropped_as : (a b n : ℕ) → decoded next ≡ WellFormed (DropLock a b) → r ≡ Accepted n → (l : Lock) → Memᴰ l h.locks → l.number ≡ b
+  dropped_as : (a b n : ℕ) → decoded next ≡ Some (DropLock a b) → r ≡ Ok n → (l : Lock) → Memᴰ l h.locks → l.number ≡ b
       → n ≡ length (products_of compile l.text)
   unfolding answer conditions
   dropped_as a b n e w l m same =

@@ -1,26 +1,24 @@
 -- What a still open call hands over is its list less what was taken since: along the list of events, with the open
 -- calls of one thread beside the history. An event that is no T takes nothing from an open call, and a T strikes in the
 -- history what it takes.
+use Rattle.std.specs.Prelude.{Ok, Err, Option, None, Some}
 use mathlib.Core.Path.{◌≡◌, refl, sym, ap, subst, ◌∙◌}
 use mathlib.Core.Bool.{Bool, true, false, ◌&&◌, ◌||◌, not, cond, true≢false}
 use mathlib.Core.List.{List, [], ◌∷◌, ◌++◌, map, map-append, append-nil}
-use mathlib.Core.Option.{Option, none, some}
 use Prim.Native.Nat.{ℕ}
 use lib.Dec.{eqb}
 use Rattle.product.specs.declared.literal.Key.{Key}
 use Rattle.product.specs.declared.literal.Key.TheVariants.{Defined}
 use Rattle.call.specs.declared.request.Request.{Request}
 use Rattle.call.specs.declared.request.Request.TheVariants as request
-use Rattle.call.specs.declared.request.Decoded.{Decoded}
-use Rattle.call.specs.declared.request.Decoded.TheVariants.{WellFormed, Corrupt as NotWellFormed}
+use Rattle.call.specs.Calls.{Decoded}
 use Rattle.call.specs.Calls.{Call, decoded}
 use Rattle.call.specs.Requests.{call_of}
 use Rattle.call.specs.Letters as letters
 use Rattle.call.proofs.Requests.{requests_exactly}
 use Rattle.base.specs.Lists.{keep, map_option, tail_of}
 use Rattle.base.proofs.Lists.{All, case_bool, some_inj, some≢none, any_append, keep_all, keep_append, keep_same, map_map, map_same, all_members}
-use Rattle.model.specs.declared.answer.Answer.{Answer}
-use Rattle.model.specs.declared.answer.Answer.TheVariants.{Accepted, Refused}
+use Rattle.model.specs.Answers.{Answer}
 use Rattle.model.specs.Answers.{is_accepted}
 use Rattle.model.specs.Threads.{Frame, Thread, same_key, is_in}
 use Rattle.model.specs.History.{History, Event, event, empty_history, on_frames, strike_key, strike_from, list_of, note, note_answer, advance, history_from, history, counts}
@@ -104,13 +102,13 @@ abbrev pub frames_in : History → ℕ → Option (List Frame)
 frames_in h n = map_option (λ t. t.frames) (h.threads n)
 
 frames_on : (f : List Frame → List Frame) (o : Option Thread) → map_option (λ t. t.frames) (map_option (on_frames f) o) ≡ map_option f (map_option (λ t. t.frames) o)
-frames_on f none = refl
-frames_on f (some t) = refl
+frames_on f None = refl
+frames_on f (Some t) = refl
 
-map_some : (f : List Frame → List Frame) (o : Option (List Frame)) (fs : List Frame) → map_option f o ≡ some fs
-    → (gs : List Frame) × (o ≡ some gs) × (fs ≡ f gs)
-map_some f none fs e = absurd (some≢none (sym e))
-map_some f (some gs) fs e = (gs, refl, some_inj (sym e))
+map_some : (f : List Frame → List Frame) (o : Option (List Frame)) (fs : List Frame) → map_option f o ≡ Some fs
+    → (gs : List Frame) × (o ≡ Some gs) × (fs ≡ f gs)
+map_some f None fs e = absurd (some≢none (sym e))
+map_some f (Some gs) fs e = (gs, refl, some_inj (sym e))
 
 tail_map : (os : List OpenCall) → map handed_over (tail_of os) ≡ tail_of (map handed_over os)
 tail_map [] = refl
@@ -119,21 +117,21 @@ tail_map (o ∷ os) = refl
 module _ (n : ℕ) where
   -- the frames of thread n, if it is live, are what these open calls hand over
   abbrev Handed : History → List OpenCall → Type 0
-  Handed h os = (fs : List Frame) → frames_in h n ≡ some fs → fs ≡ map handed_over os
+  Handed h os = (fs : List Frame) → frames_in h n ≡ Some fs → fs ≡ map handed_over os
 
   module _ (es : List Event) (os : List OpenCall) (inv : Handed (history es) os) (k : ℕ) where
     abbrev h : History
     h = history es
 
     abbrev Next : Request → List ℕ → Type 0
-    Next q text = Handed (note h q text k) (open_next n es (event (call_of q text) (Accepted k)) os)
+    Next q text = Handed (note h q text k) (open_next n es (event (call_of q text) (Ok k)) os)
 
     -- a request that changes no frame
     idle : (e : Event) → counts letters.T e ≡ false → Handed h (map (and_then e) os)
     idle e f fs p = inv fs p ∙ sym (still_same e os f)
 
     -- a change of the frames that the thread has
-    changed : (f : List Frame → List Frame) (fs : List Frame) → map_option (λ t. t.frames) (map_option (on_frames f) (h.threads n)) ≡ some fs
+    changed : (f : List Frame → List Frame) (fs : List Frame) → map_option (λ t. t.frames) (map_option (on_frames f) (h.threads n)) ≡ Some fs
         → fs ≡ f (map handed_over os)
     changed f fs p =
         let (gs, q, r) = map_some f (frames_in h n) fs (sym (frames_on f (h.threads n)) ∙ p) in
@@ -141,27 +139,27 @@ module _ (n : ℕ) where
 
     next_request : (q : Request) (text : List ℕ) → Next q text
     unfolding note
-    next_request request.NewUser text fs p = idle (event (call_of request.NewUser text) (Accepted k)) refl fs p
+    next_request request.NewUser text fs p = idle (event (call_of request.NewUser text) (Ok k)) refl fs p
     next_request (request.StartThread a) text fs p =
-        let e = event (call_of (request.StartThread a) text) (Accepted k) in
+        let e = event (call_of (request.StartThread a) text) (Ok k) in
         case_bool (eqb n k)
         (λ t. simp t (some_inj (sym (rw t at p))))
         (λ t. simp t (idle e refl fs (rw t at p)))
     next_request (request.EndThread a) text fs p =
-        let e = event (call_of (request.EndThread a) text) (Accepted k) in
+        let e = event (call_of (request.EndThread a) text) (Ok k) in
         case_bool (eqb n a)
         (λ t. absurd (some≢none (sym (rw t at p))))
         (λ t. simp t (idle e refl fs (rw t at p)))
-    next_request (request.NewSegment a b) text fs p = idle (event (call_of (request.NewSegment a b) text) (Accepted k)) refl fs p
-    next_request (request.NewKey a) text fs p = idle (event (call_of (request.NewKey a) text) (Accepted k)) refl fs p
-    next_request (request.GiveKey a b c) text fs p = idle (event (call_of (request.GiveKey a b c) text) (Accepted k)) refl fs p
+    next_request (request.NewSegment a b) text fs p = idle (event (call_of (request.NewSegment a b) text) (Ok k)) refl fs p
+    next_request (request.NewKey a) text fs p = idle (event (call_of (request.NewKey a) text) (Ok k)) refl fs p
+    next_request (request.GiveKey a b c) text fs p = idle (event (call_of (request.GiveKey a b c) text) (Ok k)) refl fs p
     next_request (request.TakeKey a b c) text fs p =
-        let e = event (call_of (request.TakeKey a b c) text) (Accepted k) in
+        let e = event (call_of (request.TakeKey a b c) text) (Ok k) in
         changed (map (strike_from b c)) fs p ∙ sym (still_struck e os refl)
-    next_request (request.AddLock a b c) text fs p = idle (event (call_of (request.AddLock a b c) text) (Accepted k)) refl fs p
-    next_request (request.DropLock a b) text fs p = idle (event (call_of (request.DropLock a b) text) (Accepted k)) refl fs p
+    next_request (request.AddLock a b c) text fs p = idle (event (call_of (request.AddLock a b c) text) (Ok k)) refl fs p
+    next_request (request.DropLock a b) text fs p = idle (event (call_of (request.DropLock a b) text) (Ok k)) refl fs p
     next_request (request.CallSegment a b) text fs p =
-        let e = event (call_of (request.CallSegment a b) text) (Accepted k) in
+        let e = event (call_of (request.CallSegment a b) text) (Ok k) in
         case_bool (eqb n a)
         (λ t. simp t
         (changed (λ gs. record { segment = b; keys = list_of h b } ∷ gs) fs (rw t at p)
@@ -169,15 +167,15 @@ module _ (n : ℕ) where
         ∙ ap (λ (gs : List Frame). handed_over (record { before = es; segment = b; since = [] }) ∷ gs) (sym (still_same e os refl))))
         (λ t. simp t (idle e refl fs (rw t at p)))
     next_request (request.ReturnCall a) text fs p =
-        let e = event (call_of (request.ReturnCall a) text) (Accepted k) in
+        let e = event (call_of (request.ReturnCall a) text) (Ok k) in
         case_bool (eqb n a)
         (λ t. simp t (changed tail_of fs (rw t at p) ∙ ap tail_of (sym (still_same e os refl)) ∙ sym (tail_map (map (and_then e) os))))
         (λ t. simp t (idle e refl fs (rw t at p)))
-    next_request (request.Access a b c) text fs p = idle (event (call_of (request.Access a b c) text) (Accepted k)) refl fs p
+    next_request (request.Access a b c) text fs p = idle (event (call_of (request.Access a b c) text) (Ok k)) refl fs p
 
   -- a call that is accepted only if it is well formed
   abbrev pub Formed : Event → Type 0
-  Formed e = decoded e.call ≡ NotWellFormed → is_accepted e.answer ≡ false
+  Formed e = decoded e.call ≡ None → is_accepted e.answer ≡ false
 
   module _ (es : List Event) (os : List OpenCall) (inv : Handed (history es) os) where
     next_event : (e : Event) → Formed e → Handed (advance (history es) e) (open_next n es e os)
@@ -192,12 +190,12 @@ module _ (n : ℕ) where
 
         by : (d : Decoded) → decoded e.call ≡ d → (y : Answer) → e.answer ≡ y
             → Handed (note_answer (history es) d e.call.text y) (open_next n es (event e.call y) os)
-        by NotWellFormed q (Accepted k) p = absurd (true≢false (sym (ap is_accepted p) ∙ formed q))
-        by NotWellFormed q (Refused z) p = refused (Refused z) refl
-        by (WellFormed r) q (Accepted k) p =
-            subst (λ (c : Call). Handed (note (history es) r e.call.text k) (open_next n es (event c (Accepted k)) os)) (sym ((requests_exactly e.call r).0 q))
+        by None q (Ok k) p = absurd (true≢false (sym (ap is_accepted p) ∙ formed q))
+        by None q (Err z) p = refused (Err z) refl
+        by (Some r) q (Ok k) p =
+            subst (λ (c : Call). Handed (note (history es) r e.call.text k) (open_next n es (event c (Ok k)) os)) (sym ((requests_exactly e.call r).0 q))
             (next_request es os inv k r e.call.text)
-        by (WellFormed r) q (Refused z) p = refused (Refused z) refl
+        by (Some r) q (Err z) p = refused (Err z) refl
 
   handed_from : (rest es : List Event) (os : List OpenCall) → Handed (history es) os → All Formed rest
       → Handed (history_from (history es) rest) (open_from n es os rest)

@@ -1,10 +1,10 @@
 -- The places and the history's live threads. A ghost map tells the place of each thread number: what the history has of
 -- thread n is what stands at n's place, and a place that is taken is its number's. So no number stands twice, and to
 -- take, change or free a place is one equation.
+use Rattle.std.specs.Prelude.{Option, None, Some}
 use mathlib.Core.Path.{◌≡◌, refl, sym, ap, ◌∙◌}
 use mathlib.Core.Bool.{Bool, true, false, cond, false≢true}
 use mathlib.Core.List.{List, [], ◌∷◌, map}
-use mathlib.Core.Option.{Option, none, some}
 use Prim.Native.Nat.{ℕ, zero, suc, ◌+◌, ◌%◌, ◌<◌}
 use native.Mathlib.Omega.{arith}
 use lib.Dec.{eqb}
@@ -46,10 +46,10 @@ module _ (p : Place → Bool) where
 
 -- what stands at a place, if it is thread n
 abbrev pub standing : ℕ → Place → Option Thread
-standing n free = none
-standing n (taken k t) = cond (eqb n k) (some t) none
+standing n free = None
+standing n (taken k t) = cond (eqb n k) (Some t) None
 
-stands_not : (m n : ℕ) (t : Thread) → eqb m n ≡ false → standing m (taken n t) ≡ none
+stands_not : (m n : ℕ) (t : Thread) → eqb m n ≡ false → standing m (taken n t) ≡ None
 stands_not m n t e = simp e
 
 -- the thread that is found is what stands at its place
@@ -68,7 +68,7 @@ pub record Lives (n : ℕ) (places : List Place) : Type 0 where
   pub thread : Thread
   pub taken_by : get_or places (place_of n places) free ≡ taken n thread
   pub low : place_of n places < length places
-  pub is_found_lem : find_thread n places ≡ some thread
+  pub is_found_lem : find_thread n places ≡ Some thread
 
 taken_low : (places : List Place) (i k : ℕ) (t : Thread) → get_or places i free ≡ taken k t → i < length places
 taken_low [] i k t e = let z : ◌≡◌ {A = ℕ} 0 1 = cc in absurd (omega arith)
@@ -164,7 +164,7 @@ taken_number e = cc
 
 module _ (places : List Place) (numbers : ℕ) (threads : Map Thread) (c : AgreeThreads places numbers threads) where
   -- whatever place holds thread n, the history has it
-  stands_home : (n i : ℕ) (t : Thread) → get_or places i free ≡ taken n t → threads n ≡ some t
+  stands_home : (n i : ℕ) (t : Thread) → get_or places i free ≡ taken n t → threads n ≡ Some t
   stands_home n i t e =
       c.written n ∙ ap (λ (j : ℕ). standing n (get_or places j free)) (c.here i n t e) ∙ ap (standing n) e ∙ simp (eqb_self n)
 
@@ -172,7 +172,7 @@ module _ (places : List Place) (numbers : ℕ) (threads : Map Thread) (c : Agree
   look n = go (get_or places (place_of n places) free) refl ∙ sym (found_stands n places)
     where
       -- no place passes: then n's own doesn't
-      blank_segment : is_thread n (get_or places (place_of n places) free) ≡ false → (x : Place) → get_or places (c.home n) free ≡ x → standing n x ≡ none
+      blank_segment : is_thread n (get_or places (place_of n places) free) ≡ false → (x : Place) → get_or places (c.home n) free ≡ x → standing n x ≡ None
       blank_segment h free e = refl
       blank_segment h (taken k t) e =
           case_bool (eqb n k)

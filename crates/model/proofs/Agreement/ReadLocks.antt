@@ -1,9 +1,9 @@
 -- What is read off locks that agree: the check, the order of numbers, where a lock stands, and what the segments store
 -- for each. The check is a chain of laws of lists, and the opening law enters at one place.
+use Rattle.std.specs.Prelude.{Option, None, Some}
 use mathlib.Core.Path.{◌≡◌, refl, sym, ap, subst, ◌∙◌}
 use mathlib.Core.Bool.{Bool, true, ◌&&◌, cond}
 use mathlib.Core.List.{List, [], ◌∷◌, map, append-nil, Memᴰ}
-use mathlib.Core.Option.{Option, none, some}
 use Prim.Native.Nat.{ℕ, ◌<◌}
 use native.Mathlib.Omega.{arith}
 use lib.Dec.{eqb}
@@ -54,8 +54,8 @@ module _ (compile : Compiler) where
       ∙ numbers_same (first (λ l. q (lock_in l)) c.standing))
     where
       numbers_same : (o : Option Standing) → map_option (λ (l : Lock). l.number) (map_option lock_in o) ≡ map_option (λ (l : Standing). l.number) o
-      numbers_same none = refl
-      numbers_same (some l) = refl
+      numbers_same None = refl
+      numbers_same (Some l) = refl
 
   -- ---- numbers
 

@@ -1,10 +1,10 @@
 -- Request P5: its parts put together. What an event writes to a segment's list is read off it, what an accepted T
 -- leaves of an open call by whether a key is in a list without one (`Keys`); the rest is in `OpenCalls` and
 -- `CurrentKeys`.
+use Rattle.std.specs.Prelude.{Ok, Err, Option, None, Some}
 use mathlib.Core.Path.{◌≡◌, refl, sym, ap, subst, ◌∙◌}
 use mathlib.Core.Bool.{true, false, ◌&&◌, not, cond, false≢true, true≢false}
 use mathlib.Core.List.{List, [], ◌∷◌, ◌++◌, map, Memᴰ}
-use mathlib.Core.Option.{Option, none, some}
 use Prim.Native.Nat.{ℕ, zero, suc, ◌≤◌, ◌%◌}
 use native.Mathlib.Omega.{arith}
 use lib.Dec.{eqb, ltb, eqb-suc-zero}
@@ -15,8 +15,7 @@ use Rattle.product.specs.declared.literal.Key.TheVariants.{Segment as SegmentKey
 use Rattle.formula.specs.Outcome.{outcome_of}
 use Rattle.call.specs.declared.request.Request.{Request}
 use Rattle.call.specs.declared.request.Request.TheVariants as request
-use Rattle.call.specs.declared.request.Decoded.{Decoded}
-use Rattle.call.specs.declared.request.Decoded.TheVariants.{WellFormed, Corrupt as NotWellFormed}
+use Rattle.call.specs.Calls.{Decoded}
 use Rattle.call.specs.Calls.{Call, decoded}
 use Rattle.call.specs.Requests.{call_of}
 use Rattle.call.specs.Letters as letters
@@ -26,8 +25,7 @@ use Rattle.model.specs.Refusals.{conditions}
 use Rattle.base.proofs.Lists.{All, case_bool, any_found, any_passes, map_same}
 use Rattle.base.proofs.Truth.{never_true, neither}
 use mathlib.Core.Logic.{◌↔◌}
-use Rattle.model.specs.declared.answer.Answer.{Answer}
-use Rattle.model.specs.declared.answer.Answer.TheVariants.{Accepted, Refused}
+use Rattle.model.specs.Answers.{Answer}
 use Rattle.model.specs.Answers.{is_accepted, answer_value}
 use Rattle.model.specs.Threads.{Frame, Thread, same_key, is_in}
 use Rattle.model.specs.State.{State, Segment, Place, free, taken, blank_thread, is_thread, place_of, thread_in, find_thread, blank_segment, segment_at, is_live, thread_at}
@@ -53,12 +51,12 @@ use Rattle.model.proofs.Agreement.CurrentKeys.{Current, current_after, frame_lis
 -- ---- lists
 
 list_on : (f : List Key → List Key) (o : Option Entry) → (is_some o ≡ true) → or_default [] (λ e. e.keys) (map_option (on_keys f) o) ≡ f (or_default [] (λ e. e.keys) o)
-list_on f none h = absurd (false≢true h)
-list_on f (some e) h = refl
+list_on f None h = absurd (false≢true h)
+list_on f (Some e) h = refl
 
 list_struck : (c : ℕ) (o : Option Entry) → or_default [] (λ e. e.keys) (map_option (on_keys (strike_key c)) o) ≡ strike_key c (or_default [] (λ e. e.keys) o)
-list_struck c none = refl
-list_struck c (some e) = refl
+list_struck c None = refl
+list_struck c (Some e) = refl
 
 -- a G names a segment that is handed out
 abbrev Given : History → Request → Type 0
@@ -72,7 +70,7 @@ list_after h x y s =
     (cond (counts letters.T (event x y) && eqb s x.b) (strike_key x.c (list_of h s)) (list_of h s)))
 
 module _ (h : History) (k : ℕ) where
-  note_list : (q : Request) (text : List ℕ) → Given h q → (s : ℕ) → list_of (note h q text k) s ≡ list_after h (call_of q text) (Accepted k) s
+  note_list : (q : Request) (text : List ℕ) → Given h q → (s : ℕ) → list_of (note h q text k) s ≡ list_after h (call_of q text) (Ok k) s
   unfolding note
   note_list request.NewUser text g s = refl
   note_list (request.StartThread a) text g s = refl
@@ -94,7 +92,7 @@ module _ (h : History) (k : ℕ) where
 -- ---- kinds and locks
 
 abbrev kind_after : History → Call → Answer → ℕ → Option ℕ
-kind_after h x y s = cond (counts letters.N (event x y) && eqb s (answer_value y)) (some x.b) (map_option (λ e. e.kind) (h.segments s))
+kind_after h x y s = cond (counts letters.N (event x y) && eqb s (answer_value y)) (Some x.b) (map_option (λ e. e.kind) (h.segments s))
 
 abbrev locks_after : History → Call → Answer → List Lock
 locks_after h x y =
@@ -102,14 +100,14 @@ locks_after h x y =
     (cond (counts letters.D (event x y)) (keep (λ l. not (eqb l.number x.b)) h.locks) h.locks)
 
 kind_kept : (f : List Key → List Key) (o : Option Entry) → map_option (λ e. e.kind) (map_option (on_keys f) o) ≡ map_option (λ e. e.kind) o
-kind_kept f none = refl
-kind_kept f (some e) = refl
+kind_kept f None = refl
+kind_kept f (Some e) = refl
 
 module _ (h : History) (k : ℕ) where
   kind_listed : (b s : ℕ) (f : List Key → List Key) → map_option (λ e. e.kind) (adjust h.segments b (on_keys f) s) ≡ map_option (λ e. e.kind) (h.segments s)
   kind_listed b s f = case_bool (eqb s b) (λ p. simp p (kind_kept f (h.segments s))) (λ p. simp p)
 
-  note_kind : (q : Request) (text : List ℕ) (s : ℕ) → map_option (λ e. e.kind) ((note h q text k).segments s) ≡ kind_after h (call_of q text) (Accepted k) s
+  note_kind : (q : Request) (text : List ℕ) (s : ℕ) → map_option (λ e. e.kind) ((note h q text k).segments s) ≡ kind_after h (call_of q text) (Ok k) s
   unfolding note
   note_kind request.NewUser text s = refl
   note_kind (request.StartThread a) text s = refl
@@ -124,7 +122,7 @@ module _ (h : History) (k : ℕ) where
   note_kind (request.ReturnCall a) text s = refl
   note_kind (request.Access a b c) text s = refl
 
-  note_locks : (q : Request) (text : List ℕ) → (note h q text k).locks ≡ locks_after h (call_of q text) (Accepted k)
+  note_locks : (q : Request) (text : List ℕ) → (note h q text k).locks ≡ locks_after h (call_of q text) (Ok k)
   unfolding note
   note_locks request.NewUser text = refl
   note_locks (request.StartThread a) text = refl
@@ -194,24 +192,24 @@ all_revoked b c fs =
 
 of_thread : (b c : ℕ) (o : Option Thread)
     → AllWithdrawn b c (or_default blank_thread (λ t. t) o).frames (or_default blank_thread (λ t. t) (map_option (revoke_thread b c) o)).frames
-of_thread b c none = tt
-of_thread b c (some t) = all_revoked b c t.frames
+of_thread b c None = tt
+of_thread b c (Some t) = all_revoked b c t.frames
 
-on_arrays : (d : Cells) → Sized d → (next : Call) (a b c : ℕ) → decoded next ≡ WellFormed (request.TakeKey a b c) → is_accepted (step_cells outcome_of d next).answer ≡ true
+on_arrays : (d : Cells) → Sized d → (next : Call) (a b c : ℕ) → decoded next ≡ Some (request.TakeKey a b c) → is_accepted (step_cells outcome_of d next).answer ≡ true
     → (n : ℕ) → AllWithdrawn b c (frames_at d n) (frames_at (step_cells outcome_of d next).cells n)
 unfolding update
 on_arrays d z next a b c e y n = by (step outcome_of (state_of d) next).answer refl (ap is_accepted (sym (refinement.call d z next).answer) ∙ y)
   where
     by : (r : Answer) → (step outcome_of (state_of d) next).answer ≡ r → is_accepted (step outcome_of (state_of d) next).answer ≡ true
         → AllWithdrawn b c (frames_at d n) (frames_at (step_cells outcome_of d next).cells n)
-    by (Accepted k) p q =
+    by (Ok k) p q =
         let t = taken_as outcome_of (state_of d) next (request.TakeKey a b c) k e p in
         let same : (state_of (step_cells outcome_of d next).cells).places ≡ map (on_thread (revoke_thread b c)) (state_of d).places =
         ap (λ (s : State). s.places) ((refinement.call d z next).state ∙ t.state) in
         let found : thread_at (state_of (step_cells outcome_of d next).cells) n ≡ or_default blank_thread (λ t. t) (map_option (revoke_thread b c) (find_thread n (state_of d).places)) =
         ap (λ (ps : List Place). or_default blank_thread (λ t. t) (find_thread n ps)) same ∙ ap (or_default blank_thread (λ t. t)) (find_each n (revoke_thread b c) (state_of d).places) in
         subst (λ (u : Thread). AllWithdrawn b c (frames_at d n) u.frames) (sym found) (of_thread b c (find_thread n (state_of d).places))
-    by (Refused x) p q = absurd (false≢true (sym (ap is_accepted p) ∙ q))
+    by (Err x) p q = absurd (false≢true (sym (ap is_accepted p) ∙ q))
 
 -- ---- one call
 
@@ -231,7 +229,7 @@ module _ (xs : List Call) (next : Call) where
   one : history (es ++ e ∷ []) ≡ advance h e
   one = history_one e empty_history es
 
-  formed : decoded next ≡ NotWellFormed → is_accepted r ≡ false
+  formed : decoded next ≡ None → is_accepted r ≡ false
   formed d = ap is_accepted ((refusing outcome_of (reached outcome_of xs) next).corrupt.1 d)
 
   unmoved : is_accepted r ≡ false → advance h e ≡ h
@@ -239,57 +237,57 @@ module _ (xs : List Call) (next : Call) where
   unmoved f = by (decoded next) r f
     where
       by : (d : Decoded) (y : Answer) → is_accepted y ≡ false → note_answer h d next.text y ≡ h
-      by NotWellFormed y f = refl
-      by (WellFormed q) (Accepted k) f = absurd (true≢false f)
-      by (WellFormed q) (Refused z) f = refl
+      by None y f = refl
+      by (Some q) (Ok k) f = absurd (true≢false f)
+      by (Some q) (Err z) f = refl
 
-  accepted_as : is_accepted r ≡ true → (q : Request) → decoded next ≡ WellFormed q → advance h e ≡ note h q next.text (answer_value r)
+  accepted_as : is_accepted r ≡ true → (q : Request) → decoded next ≡ Some q → advance h e ≡ note h q next.text (answer_value r)
   unfolding advance
   accepted_as t q d = ap (λ (k : Decoded). note_answer h k next.text r) d ∙ by r t
     where
-      by : (y : Answer) → is_accepted y ≡ true → note_answer h (WellFormed q) next.text y ≡ note h q next.text (answer_value y)
-      by (Accepted k) t = refl
-      by (Refused z) t = absurd (false≢true t)
+      by : (y : Answer) → is_accepted y ≡ true → note_answer h (Some q) next.text y ≡ note h q next.text (answer_value y)
+      by (Ok k) t = refl
+      by (Err z) t = absurd (false≢true t)
 
-  given : is_accepted r ≡ true → (q : Request) → decoded next ≡ WellFormed q → Given h q
+  given : is_accepted r ≡ true → (q : Request) → decoded next ≡ Some q → Given h q
   given t q d a b c s =
-      ap is_some (((editing.edits xs next).key_given a b c (d ∙ ap WellFormed s)).0 t).0.segment
+      ap is_some (((editing.edits xs next).key_given a b c (d ∙ ap Some s)).0 t).0.segment
 
   lists_after : (s : ℕ) → list_of (advance h e) s ≡ list_after h next r s
   unfolding advance
   lists_after s = by (decoded next) refl r refl
     where
       by : (d : Decoded) → decoded next ≡ d → (y : Answer) → r ≡ y → list_of (note_answer h d next.text y) s ≡ list_after h next y s
-      by NotWellFormed d (Accepted k) p = absurd (true≢false (sym (ap is_accepted p) ∙ formed d))
-      by NotWellFormed d (Refused z) p = refl
-      by (WellFormed q) d (Accepted k) p =
-          subst (λ (x : Call). list_of (note h q next.text k) s ≡ list_after h x (Accepted k) s) (sym ((requests_exactly next q).0 d))
+      by None d (Ok k) p = absurd (true≢false (sym (ap is_accepted p) ∙ formed d))
+      by None d (Err z) p = refl
+      by (Some q) d (Ok k) p =
+          subst (λ (x : Call). list_of (note h q next.text k) s ≡ list_after h x (Ok k) s) (sym ((requests_exactly next q).0 d))
           (note_list h k q next.text (given (ap is_accepted p) q d) s)
-      by (WellFormed q) d (Refused z) p = refl
+      by (Some q) d (Err z) p = refl
 
   kinds_after : (s : ℕ) → map_option (λ e. e.kind) ((advance h e).segments s) ≡ kind_after h next r s
   unfolding advance
   kinds_after s = by (decoded next) refl r refl
     where
       by : (d : Decoded) → decoded next ≡ d → (y : Answer) → r ≡ y → map_option (λ e. e.kind) ((note_answer h d next.text y).segments s) ≡ kind_after h next y s
-      by NotWellFormed d (Accepted k) p = absurd (true≢false (sym (ap is_accepted p) ∙ formed d))
-      by NotWellFormed d (Refused z) p = refl
-      by (WellFormed q) d (Accepted k) p =
-          subst (λ (x : Call). map_option (λ e. e.kind) ((note h q next.text k).segments s) ≡ kind_after h x (Accepted k) s) (sym ((requests_exactly next q).0 d))
+      by None d (Ok k) p = absurd (true≢false (sym (ap is_accepted p) ∙ formed d))
+      by None d (Err z) p = refl
+      by (Some q) d (Ok k) p =
+          subst (λ (x : Call). map_option (λ e. e.kind) ((note h q next.text k).segments s) ≡ kind_after h x (Ok k) s) (sym ((requests_exactly next q).0 d))
           (note_kind h k q next.text s)
-      by (WellFormed q) d (Refused z) p = refl
+      by (Some q) d (Err z) p = refl
 
   locks_after_lem : (advance h e).locks ≡ locks_after h next r
   unfolding advance
   locks_after_lem = by (decoded next) refl r refl
     where
       by : (d : Decoded) → decoded next ≡ d → (y : Answer) → r ≡ y → (note_answer h d next.text y).locks ≡ locks_after h next y
-      by NotWellFormed d (Accepted k) p = absurd (true≢false (sym (ap is_accepted p) ∙ formed d))
-      by NotWellFormed d (Refused z) p = refl
-      by (WellFormed q) d (Accepted k) p =
-          subst (λ (x : Call). (note h q next.text k).locks ≡ locks_after h x (Accepted k)) (sym ((requests_exactly next q).0 d))
+      by None d (Ok k) p = absurd (true≢false (sym (ap is_accepted p) ∙ formed d))
+      by None d (Err z) p = refl
+      by (Some q) d (Ok k) p =
+          subst (λ (x : Call). (note h q next.text k).locks ≡ locks_after h x (Ok k)) (sym ((requests_exactly next q).0 d))
           (note_locks h k q next.text)
-      by (WellFormed q) d (Refused z) p = refl
+      by (Some q) d (Err z) p = refl
 
   abbrev s₀ : State
   s₀ = state_of (reached outcome_of xs)
@@ -298,9 +296,9 @@ module _ (xs : List Call) (next : Call) where
   m₀ = mirror.state xs
 
   abbrev Open : ℕ → Type 0
-  Open a = (t : Thread) × (f : Frame) × (fs : List Frame) × (h.threads a ≡ some t) × (t.frames ≡ f ∷ fs)
+  Open a = (t : Thread) × (f : Frame) × (fs : List Frame) × (h.threads a ≡ Some t) × (t.frames ≡ f ∷ fs)
 
-  returned_after : (a : ℕ) → decoded next ≡ WellFormed (request.ReturnCall a) → (is_accepted r ≡ true) ↔ Open a
+  returned_after : (a : ℕ) → decoded next ≡ Some (request.ReturnCall a) → (is_accepted r ≡ true) ↔ Open a
   unfolding conditions
   returned_after a d =
       let (to, from) = (refusing outcome_of (reached outcome_of xs) next).accepted (request.ReturnCall a) d in (
@@ -315,16 +313,16 @@ module _ (xs : List Call) (next : Call) where
             from (rw (live, some_left)),
       )
     where
-      first : (t : Thread) (fs : List Frame) → t.frames ≡ fs → h.threads a ≡ some t → eqb (length fs) 0 ≡ false → Open a
+      first : (t : Thread) (fs : List Frame) → t.frames ≡ fs → h.threads a ≡ Some t → eqb (length fs) 0 ≡ false → Open a
       first t [] q p z = absurd (true≢false z)
       first t (f ∷ fs) q p z = (t, f, fs, p, q)
 
       by : (o : Option Thread) → h.threads a ≡ o → is_some (h.threads a) ≡ true → eqb (length (thread_at s₀ a).frames) 0 ≡ false → Open a
-      by none p l z = absurd (false≢true (sym (ap is_some p) ∙ l))
-      by (some t) p l z = first t t.frames refl p (ap (λ (u : Thread). eqb (length u.frames) 0) (sym (m₀.thread a t p)) ∙ z)
+      by None p l z = absurd (false≢true (sym (ap is_some p) ∙ l))
+      by (Some t) p l z = first t t.frames refl p (ap (λ (u : Thread). eqb (length u.frames) 0) (sym (m₀.thread a t p)) ∙ z)
 
-  taken_after : (a b c : ℕ) → decoded next ≡ WellFormed (request.TakeKey a b c) → is_accepted r ≡ true → (n : ℕ) (t : Thread) → h.threads n ≡ some t
-      → (history (es ++ e ∷ [])).threads n ≡ some (on_frames (map (strike_from b c)) t)
+  taken_after : (a b c : ℕ) → decoded next ≡ Some (request.TakeKey a b c) → is_accepted r ≡ true → (n : ℕ) (t : Thread) → h.threads n ≡ Some t
+      → (history (es ++ e ∷ [])).threads n ≡ Some (on_frames (map (strike_from b c)) t)
   unfolding note
   taken_after a b c d y n t live =
       ap (λ (g : History). g.threads n) (one ∙ accepted_as y (request.TakeKey a b c) d) ∙ ap (map_option (on_frames (map (strike_from b c)))) live
@@ -362,11 +360,11 @@ module _ (xs : List Call) where
       m = mirror.state xs
 
       by : (o : Option Entry) → (history (events outcome_of xs)).segments s ≡ o → is_in (Defined k) (or_default [] (λ x. x.keys) ((history (events outcome_of xs)).segments s)) ≡ true
-      by none p =
+      by None p =
           let out : ltb s (length state.segments) ≡ false = m.segment s ∙ ap is_some p in
           let blank : segment_at state s ≡ blank_segment = beyond state.segments s (ltb-false s _ out) in
           absurd (false≢true (ap (λ g. is_in (Defined k) g.keys) (sym blank) ∙ l))
-      by (some x) p = rw p (ap (is_in (Defined k)) (sym (m.keys s x p)) ∙ l)
+      by (Some x) p = rw p (ap (is_in (Defined k)) (sym (m.keys s x p)) ∙ l)
 
 pub revocation : Revocation
 revocation =

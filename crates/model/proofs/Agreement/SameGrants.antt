@@ -1,9 +1,9 @@
 -- Which number an accepted call answers decides nothing: the conditions and the changes are the same, and so is the
 -- state after every list of calls. Of the history: a grant lock opens exactly where there is a tightest.
+use Rattle.std.specs.Prelude.{Ok, Err, Option, None, Some}
 use mathlib.Core.Path.{◌≡◌, refl, sym, ap, subst, ◌∙◌}
 use mathlib.Core.Bool.{Bool, true, false, cond, true≢false, false≢true}
 use mathlib.Core.List.{List, [], ◌∷◌}
-use mathlib.Core.Option.{Option, none, some}
 use Prim.Native.Nat.{ℕ}
 use native.Mathlib.Omega.{arith}
 use Rattle.formula.specs.Outcome.{outcome_of}
@@ -11,16 +11,14 @@ use Rattle.formula.specs.Meaning.{text_holds, Meaning}
 use Rattle.formula.specs.Compiler.{Compiler, Laws}
 use Rattle.formula.proofs.Opening.{laws}
 use Rattle.call.specs.declared.request.Request.{Request}
-use Rattle.call.specs.declared.request.Decoded.{Decoded}
-use Rattle.call.specs.declared.request.Decoded.TheVariants.{WellFormed, Corrupt as NotWellFormed}
+use Rattle.call.specs.Calls.{Decoded}
 use Rattle.call.specs.Calls.{Call, decoded}
 use Rattle.call.proofs.EveryRequest.{every_request}
 use Rattle.base.specs.Conditions.{first_refusal}
 use Rattle.base.specs.Lists.{first, is_some}
 use Rattle.base.proofs.Lists.{is_some_first}
 use Rattle.model.specs.declared.answer.Refusal.{Refusal}
-use Rattle.model.specs.declared.answer.Answer.{Answer}
-use Rattle.model.specs.declared.answer.Answer.TheVariants.{Accepted, Refused}
+use Rattle.model.specs.Answers.{Answer}
 use Rattle.model.specs.Operations.{denies, grants}
 use Rattle.model.specs.State.{State, empty_state}
 use Rattle.model.specs.Refusals.{opening_product, lock_of, conditions}
@@ -38,7 +36,7 @@ use Rattle.model.proofs.Refinement.EveryCall.{refinement_by_laws, follows}
 alike_same : (r : Answer) → Alike r r
 alike_same r = record { accepted = refl; refused = λ x. (λ e. e, λ e. e) }
 
-alike_accepted : (m n : ℕ) → Alike (Accepted m) (Accepted n)
+alike_accepted : (m n : ℕ) → Alike (Ok m) (Ok n)
 alike_accepted m n =
     record {
       accepted = refl;
@@ -48,12 +46,12 @@ alike_accepted m n =
 -- ---- of the next check
 
 alike_answers : (d g g' : Option Lock) (room : Bool) → is_some g ≡ is_some g' → Alike (check_answer d g room) (check_answer d g' room)
-alike_answers (some l) g g' room s = alike_same (check_answer (some l) g room)
-alike_answers none none none room s = alike_same (check_answer none none room)
-alike_answers none none (some k) room s = absurd (false≢true s)
-alike_answers none (some l) none room s = absurd (true≢false s)
-alike_answers none (some l) (some k) true s = alike_accepted l.number k.number
-alike_answers none (some l) (some k) false s = alike_same (check_answer none (some l) false)
+alike_answers (Some l) g g' room s = alike_same (check_answer (Some l) g room)
+alike_answers None None None room s = alike_same (check_answer None None room)
+alike_answers None None (Some k) room s = absurd (false≢true s)
+alike_answers None (Some l) None room s = absurd (true≢false s)
+alike_answers None (Some l) (Some k) true s = alike_accepted l.number k.number
+alike_answers None (Some l) (Some k) false s = alike_same (check_answer None (Some l) false)
 
 same_checks : (compile : Compiler) (holds : Meaning) → Laws compile holds → (xs : List Call) (next : Call)
     → SameChecks holds (events compile xs) next (answer_to compile xs next)
@@ -74,12 +72,12 @@ record SameStep (before now : Stepped) : Type 0 where
 
 module _ (compile : Compiler) where
   same_judged : (d : State) (q : Request) (text : List ℕ) (o : Option Refusal) → SameStep (judged_before compile d q text o) (judged compile d q text o)
-  same_judged d q text none = record { state = refl; answers = alike_accepted (answer_before compile d q text) (answer compile d q text) }
-  same_judged d q text (some r) = record { state = refl; answers = alike_same (Refused r) }
+  same_judged d q text None = record { state = refl; answers = alike_accepted (answer_before compile d q text) (answer compile d q text) }
+  same_judged d q text (Some r) = record { state = refl; answers = alike_same (Err r) }
 
   same_decoded : (d : State) (k : Decoded) (text : List ℕ) → SameStep (decoded_before compile d k text) (step_decoded compile d k text)
-  same_decoded d NotWellFormed text = record { state = refl; answers = alike_same (decoded_before compile d NotWellFormed text).answer }
-  same_decoded d (WellFormed q) text = same_judged d q text (first_refusal (conditions compile d q text))
+  same_decoded d None text = record { state = refl; answers = alike_same (decoded_before compile d None text).answer }
+  same_decoded d (Some q) text = same_judged d q text (first_refusal (conditions compile d q text))
 
   same_step : (d : State) (x : Call) → SameStep (step_before compile d x) (step compile d x)
   unfolding step_before step
@@ -99,10 +97,10 @@ module _ (compile : Compiler) where
 
   other_judged : (d : State) (q : Request) (text : List ℕ) → is_checked q ≡ false → (o : Option Refusal)
       → (judged compile d q text o).answer ≡ (judged_before compile d q text o).answer
-  other_judged d q text e none = ap Accepted (other_answer d q text e)
-  other_judged d q text e (some r) = refl
+  other_judged d q text e None = ap Ok (other_answer d q text e)
+  other_judged d q text e (Some r) = refl
 
-  other_step : (d : State) (x : Call) (q : Request) → decoded x ≡ WellFormed q → is_checked q ≡ false → (step compile d x).answer ≡ (step_before compile d x).answer
+  other_step : (d : State) (x : Call) (q : Request) → decoded x ≡ Some q → is_checked q ≡ false → (step compile d x).answer ≡ (step_before compile d x).answer
   unfolding step_before step
   other_step d x q w e =
       ap (λ (k : Decoded). (step_decoded compile d k x.text).answer) w
@@ -132,10 +130,10 @@ module _ (compile : Compiler) (d : State) where
   checked_before_lem text (accesses a b c) = refl
 
   judged_before_lem : (q : Request) (text : List ℕ) (o : Option Refusal) → (judged_before compile d q text o).answer ≡ answered o (answer_before compile d q text)
-  judged_before_lem q text none = refl
-  judged_before_lem q text (some r) = refl
+  judged_before_lem q text None = refl
+  judged_before_lem q text (Some r) = refl
 
-  step_before_lem : (x : Call) (q : Request) → decoded x ≡ WellFormed q
+  step_before_lem : (x : Call) (q : Request) → decoded x ≡ Some q
       → (step_before compile d x).answer ≡ answered (first_refusal (conditions compile d q x.text)) (answer_before compile d q x.text)
   unfolding step_before
   step_before_lem x q e =

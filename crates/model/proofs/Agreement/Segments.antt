@@ -1,12 +1,12 @@
 -- The segments and the history's: the same owner, kind and key list at the same number.
+use Rattle.std.specs.Prelude.{slice_get, Option, None, Some}
 use mathlib.Core.Path.{◌≡◌, refl, sym, ap, ◌∙◌}
 use mathlib.Core.Bool.{cond}
 use mathlib.Core.List.{List, [], ◌∷◌, ◌++◌}
-use mathlib.Core.Option.{Option, none, some}
 use Prim.Native.Nat.{ℕ, zero, suc, ◌<◌}
 use native.Mathlib.Nat.{le_of_suc-le-suc, not-suc-le-zero}
 use lib.Dec.{eqb, eqb-suc-suc, eqb-suc-zero, eqb-zero-suc}
-use lib.ListN.{length, get_or, set, get_elem?}
+use lib.ListN.{length, get_or, set}
 use Rattle.base.specs.Lists.{put, adjust, Map, map_option}
 use Rattle.model.specs.State.{Segment, LockProduct, blank_segment}
 use Rattle.model.specs.History.{Entry}
@@ -16,18 +16,18 @@ abbrev pub entry_of : Segment → Entry
 entry_of g = record { owner = g.owner; kind = g.kind; keys = g.keys }
 
 abbrev pub AgreeSegments : List Segment → Map Entry → Type 0
-AgreeSegments segments entries = (s : ℕ) → entries s ≡ map_option entry_of (get_elem? segments s)
+AgreeSegments segments entries = (s : ℕ) → entries s ≡ map_option entry_of (slice_get segments s)
 
 module _ (segments : List Segment) (entries : Map Entry) (c : AgreeSegments segments entries) where
   -- a segment that the history has
-  pub entry_low : (s : ℕ) (e : Entry) → entries s ≡ some e → s < length segments
-  entry_low s e h = by (get_elem? segments s) refl
+  pub entry_low : (s : ℕ) (e : Entry) → entries s ≡ Some e → s < length segments
+  entry_low s e h = by (slice_get segments s) refl
     where
-      by : (o : Option Segment) → get_elem? segments s ≡ o → s < length segments
-      by none q = absurd (some≢none (sym h ∙ c s ∙ ap (map_option entry_of) q))
-      by (some g) q = at_some_lt segments s g q
+      by : (o : Option Segment) → slice_get segments s ≡ o → s < length segments
+      by None q = absurd (some≢none (sym h ∙ c s ∙ ap (map_option entry_of) q))
+      by (Some g) q = at_some_lt segments s g q
 
-  pub entry_is : (s : ℕ) (e : Entry) → entries s ≡ some e → entry_of (get_or segments s blank_segment) ≡ e
+  pub entry_is : (s : ℕ) (e : Entry) → entries s ≡ Some e → entry_of (get_or segments s blank_segment) ≡ e
   entry_is s e h = some_inj (sym (ap (map_option entry_of) (at_lt segments s blank_segment (entry_low s e h))) ∙ sym (c s) ∙ h)
 
   -- N
@@ -42,23 +42,23 @@ module _ (segments : List Segment) (entries : Map Entry) (c : AgreeSegments segm
     pub agree_adjust : (F : Entry → Entry) → ((g : Segment) → entry_of (f g) ≡ F (entry_of g)) → AgreeSegments changed (adjust entries s F)
     agree_adjust F h j =
         case_bool (eqb j s)
-        (λ t. simp (at_set segments s f blank_segment j, t, c j) (square (get_elem? segments j)))
+        (λ t. simp (at_set segments s f blank_segment j, t, c j) (square (slice_get segments j)))
         (λ t. simp (at_set segments s f blank_segment j, t) (c j))
       where
         square : (o : Option Segment) → map_option F (map_option entry_of o) ≡ map_option entry_of (map_option f o)
-        square none = refl
-        square (some g) = ap some (sym (h g))
+        square None = refl
+        square (Some g) = ap Some (sym (h g))
 
     -- a change that it doesn't see
     pub agree_unseen : ((g : Segment) → entry_of (f g) ≡ entry_of g) → AgreeSegments changed entries
     agree_unseen h j =
         case_bool (eqb j s)
-        (λ t. simp (at_set segments s f blank_segment j, t) (c j ∙ unseen (get_elem? segments j)))
+        (λ t. simp (at_set segments s f blank_segment j, t) (c j ∙ unseen (slice_get segments j)))
         (λ t. simp (at_set segments s f blank_segment j, t) (c j))
       where
         unseen : (o : Option Segment) → map_option entry_of o ≡ map_option entry_of (map_option f o)
-        unseen none = refl
-        unseen (some g) = ap some (sym (h g))
+        unseen None = refl
+        unseen (Some g) = ap Some (sym (h g))
 
 -- ---- the products of a segment's standing locks
 

@@ -1,10 +1,10 @@
 -- The products on the segments and the history's standing locks. A ghost list has the standing locks with their
 -- products, in the order of their numbers; a segment's products are those of the locks on it; and a ghost map tells
 -- each number's segment.
+use Rattle.std.specs.Prelude.{Some}
 use mathlib.Core.Path.{◌≡◌, refl, ap, ◌∙◌}
 use mathlib.Core.Bool.{Bool, true, false, ◌||◌, not, cond}
 use mathlib.Core.List.{List, [], ◌∷◌, ◌++◌, map}
-use mathlib.Core.Option.{some}
 use Prim.Native.Nat.{ℕ, ◌≤◌, ◌<◌}
 use native.Mathlib.Omega.{arith}
 use lib.Dec.{eqb}
@@ -69,7 +69,7 @@ keep_rows n l = case_bool (eqb l.number n) (λ e. simp e (none_stay e l.products
 
 -- the lock of the first row that passes is the first lock with a row that does
 first_rows : (p : LockProduct → Bool) (n o : ℕ) (ps : Sum) (rest : List LockProduct)
-    → map_option (λ r. r.lock) (first p (map (lock_product n o) ps ++ rest)) ≡ cond (any p (map (lock_product n o) ps)) (some n) (map_option (λ r. r.lock) (first p rest))
+    → map_option (λ r. r.lock) (first p (map (lock_product n o) ps ++ rest)) ≡ cond (any p (map (lock_product n o) ps)) (Some n) (map_option (λ r. r.lock) (first p rest))
 first_rows p n o [] rest = refl
 first_rows p n o (x ∷ ps) rest = case_bool (p (lock_product n o x)) (λ e. simp e) (λ e. simp e (first_rows p n o ps rest))
 

@@ -1,10 +1,10 @@
 -- The answer of the check, read from the history, is put in words: the greatest of the grant locks that open leads them
 -- all, its tightness is the length of one of its products, and no opening product is longer than its lock is tight. Of
 -- the deny locks the first of rising numbers is the lowest.
+use Rattle.std.specs.Prelude.{Ok, Err, Option, None, Some}
 use mathlib.Core.Path.{◌≡◌, refl, sym, ap, subst, ◌∙◌}
 use mathlib.Core.Bool.{Bool, true, false, false≢true}
 use mathlib.Core.List.{List, [], ◌∷◌, map, Memᴰ}
-use mathlib.Core.Option.{Option, none, some}
 use Prim.Native.Nat.{ℕ, ◌≤◌}
 use native.Mathlib.Omega.{arith}
 use lib.Dec.{eqb, ltb}
@@ -20,8 +20,7 @@ use Rattle.base.proofs.Truth.{and_left, and_last}
 use Rattle.base.proofs.Lists.{case_bool, all_at, clash, some_inj, is_some_some, some≢none, is_some_first, any_passes, keep_members, keep_member, rising_keep, rising_tail, rising_skip}
 use Rattle.base.proofs.Greatest.{Leads, greatest_has, greatest_leads}
 use Rattle.model.specs.declared.answer.Refusal.TheVariants.{Denied}
-use Rattle.model.specs.declared.answer.Answer.{Answer}
-use Rattle.model.specs.declared.answer.Answer.TheVariants.{Accepted, Refused}
+use Rattle.model.specs.Answers.{Answer}
 use Rattle.model.specs.Answers.{is_accepted}
 use Rattle.model.specs.Operations.{denies, grants}
 use Rattle.model.specs.Threads.{Thread, KeySet, key_set}
@@ -37,27 +36,27 @@ use Rattle.model.proofs.Agreement.Fitting.{fitting_by_laws}
 
 -- ---- an answer's lock
 
-accepted_is : {m n : ℕ} → ◌≡◌ {A = Answer} (Accepted m) (Accepted n) → m ≡ n
+accepted_is : {m n : ℕ} → ◌≡◌ {A = Answer} (Ok m) (Ok n) → m ≡ n
 accepted_is e = cc
 
-denied_is : {m n : ℕ} → ◌≡◌ {A = Answer} (Refused (Denied m)) (Refused (Denied n)) → m ≡ n
+denied_is : {m n : ℕ} → ◌≡◌ {A = Answer} (Err (Denied m)) (Err (Denied n)) → m ≡ n
 denied_is e = cc
 
-accepting : (d g : Option Lock) (room : Bool) (n : ℕ) → check_answer d g room ≡ Accepted n → (l : Lock) × (g ≡ some l) × (l.number ≡ n)
-accepting (some k) g room n e = let z : ◌≡◌ {A = ℕ} 0 1 = cc in absurd (omega arith)
-accepting none none room n e = let z : ◌≡◌ {A = ℕ} 0 1 = cc in absurd (omega arith)
-accepting none (some l) false n e = let z : ◌≡◌ {A = ℕ} 0 1 = cc in absurd (omega arith)
-accepting none (some l) true n e = (l, refl, accepted_is e)
+accepting : (d g : Option Lock) (room : Bool) (n : ℕ) → check_answer d g room ≡ Ok n → (l : Lock) × (g ≡ Some l) × (l.number ≡ n)
+accepting (Some k) g room n e = let z : ◌≡◌ {A = ℕ} 0 1 = cc in absurd (omega arith)
+accepting None None room n e = let z : ◌≡◌ {A = ℕ} 0 1 = cc in absurd (omega arith)
+accepting None (Some l) false n e = let z : ◌≡◌ {A = ℕ} 0 1 = cc in absurd (omega arith)
+accepting None (Some l) true n e = (l, refl, accepted_is e)
 
-denying : (d g : Option Lock) (room : Bool) (n : ℕ) → check_answer d g room ≡ Refused (Denied n) → (l : Lock) × (d ≡ some l) × (l.number ≡ n)
-denying (some l) g room n e = (l, refl, denied_is e)
-denying none none room n e = let z : ◌≡◌ {A = ℕ} 0 1 = cc in absurd (omega arith)
-denying none (some l) false n e = let z : ◌≡◌ {A = ℕ} 0 1 = cc in absurd (omega arith)
-denying none (some l) true n e = let z : ◌≡◌ {A = ℕ} 0 1 = cc in absurd (omega arith)
+denying : (d g : Option Lock) (room : Bool) (n : ℕ) → check_answer d g room ≡ Err (Denied n) → (l : Lock) × (d ≡ Some l) × (l.number ≡ n)
+denying (Some l) g room n e = (l, refl, denied_is e)
+denying None None room n e = let z : ◌≡◌ {A = ℕ} 0 1 = cc in absurd (omega arith)
+denying None (Some l) false n e = let z : ◌≡◌ {A = ℕ} 0 1 = cc in absurd (omega arith)
+denying None (Some l) true n e = let z : ◌≡◌ {A = ℕ} 0 1 = cc in absurd (omega arith)
 
-accepted_some : (r : Answer) → is_accepted r ≡ true → (n : ℕ) × (r ≡ Accepted n)
-accepted_some (Accepted n) e = (n, refl)
-accepted_some (Refused r) e = absurd (false≢true e)
+accepted_some : (r : Answer) → is_accepted r ≡ true → (n : ℕ) × (r ≡ Ok n)
+accepted_some (Ok n) e = (n, refl)
+accepted_some (Err r) e = absurd (false≢true e)
 
 -- ---- the first of rising numbers that passes
 
@@ -68,7 +67,7 @@ rising_above m (x ∷ xs) r k (Memᴰ.head e) =
     let same = ap (λ (l : Lock). l.number) e in omega arith
 rising_above m (x ∷ xs) r k (Memᴰ.tail i) = rising_above m xs (rising_skip m x.number (map (λ (l : Lock). l.number) xs) r) k i
 
-first_lowest : (p : Lock → Bool) (ls : List Lock) → rising (map (λ l. l.number) ls) ≡ true → (l : Lock) → first p ls ≡ some l
+first_lowest : (p : Lock → Bool) (ls : List Lock) → rising (map (λ l. l.number) ls) ≡ true → (l : Lock) → first p ls ≡ Some l
     → Memᴰ l ls × (p l ≡ true) × ((k : Lock) → Memᴰ k ls → p k ≡ true → l.number ≤ k.number)
 first_lowest p [] r l e = absurd (some≢none (sym e))
 first_lowest p (x ∷ xs) r l e =
@@ -108,7 +107,7 @@ module _ (compile : Compiler) (holds : Meaning) (h : History) (o : Operation) (t
   abbrev IsTightest : ℕ → Type 0
   IsTightest = Tightest compile holds h o t
 
-  is_tightest : (l : Lock) → tightest_lock compile holds h o t ≡ some l → (n : ℕ) → l.number ≡ n → IsTightest n
+  is_tightest : (l : Lock) → tightest_lock compile holds h o t ≡ Some l → (n : ℕ) → l.number ≡ n → IsTightest n
   is_tightest l is n number =
       let open-locks = keep giving h.locks in
       let (stands, gives) = greatest_has size (λ k. Memᴰ k h.locks × (giving k ≡ true)) open-locks (keep_members giving h.locks) l is in
@@ -148,7 +147,7 @@ module _ (compile : Compiler) (holds : Meaning) (h : History) (o : Operation) (t
         tightest = tight;
         only = λ n a w.
             let (m, e) = accepted_some (answer_from compile holds h o t) a in
-            e ∙ ap Accepted (one_tightest m n (tight m e) w);
+            e ∙ ap Ok (one_tightest m n (tight m e) w);
         denied = λ n. (deny n, denied_by_lem n);
       }
     where
@@ -158,16 +157,16 @@ module _ (compile : Compiler) (holds : Meaning) (h : History) (o : Operation) (t
       g : Option Lock
       g = tightest_lock compile holds h o t
 
-      tight : (n : ℕ) → answer_from compile holds h o t ≡ Accepted n → IsTightest n
+      tight : (n : ℕ) → answer_from compile holds h o t ≡ Ok n → IsTightest n
       tight n e = let (l, is, number) = accepting d g (has_room o t) n e in is_tightest l is n number
 
-      deny : (n : ℕ) → answer_from compile holds h o t ≡ Refused (Denied n) → LowestDeny compile holds h o t n
+      deny : (n : ℕ) → answer_from compile holds h o t ≡ Err (Denied n) → LowestDeny compile holds h o t n
       deny n e =
           let (l, is, number) = denying d g (has_room o t) n e in
           let (stands, bars, low) = first_lowest barring h.locks in_order l is in
           record { lock = l; number = number; standing = stands; opens = bars; lowest = λ k m u. let least = low k m u in omega arith }
 
-      denied_by_lem : (n : ℕ) → LowestDeny compile holds h o t n → answer_from compile holds h o t ≡ Refused (Denied n)
+      denied_by_lem : (n : ℕ) → LowestDeny compile holds h o t n → answer_from compile holds h o t ≡ Err (Denied n)
       denied_by_lem n w =
           let (l, is) = is_some_some d (is_some_first barring h.locks ∙ any_passes barring w.lock h.locks w.standing w.opens) in
           let (stands, bars, low) = first_lowest barring h.locks in_order l is in
@@ -175,7 +174,7 @@ module _ (compile : Compiler) (holds : Meaning) (h : History) (o : Operation) (t
           let above = w.lowest l stands bars in
           let number = w.number in
           let same : l.number ≡ n = omega arith in
-          ap (λ (x : Option Lock). check_answer x g (has_room o t)) is ∙ ap (λ (k : ℕ). Refused (Denied k)) same
+          ap (λ (x : Option Lock). check_answer x g (has_room o t)) is ∙ ap (λ (k : ℕ). Err (Denied k)) same
 
 -- ---- on the arrays
 

@@ -1,9 +1,9 @@
 -- The lock of the longest product that opens is the history's tightest lock. Both are found by going through marks, a
 -- lock's number with a count of literals: the marks of one lock, one after the other, are as the greatest of them.
+use Rattle.std.specs.Prelude.{Option, None, Some}
 use mathlib.Core.Path.{◌≡◌, refl, sym, ap, ◌∙◌}
 use mathlib.Core.Bool.{Bool, true, false, ◌&&◌, cond, false≢true}
 use mathlib.Core.List.{List, [], ◌∷◌, map, Memᴰ}
-use mathlib.Core.Option.{Option, none, some}
 use Prim.Native.Nat.{ℕ, max, ◌≤◌, zero-le, suc-le-suc}
 use native.Mathlib.Omega.{arith}
 use lib.Dec.{eqb, ltb}
@@ -45,26 +45,26 @@ marks n ks = map (λ k. (n, k)) ks
 
 -- two marks of one lock are as the greater of them
 merged : (n s m : ℕ) (o : Option Mark) → greater size_of (greater size_of o (n, s)) (n, m) ≡ greater size_of o (n, max s m)
-merged n s m none =
+merged n s m None =
     case_bool (ltb s m)
-    (λ e. let h = ltb-true s m e in let i : m ≡ max s m = omega arith in simp e (ap (λ (k : ℕ). some (n, k)) i))
-    (λ e. let h = ltb-false s m e in let i : s ≡ max s m = omega arith in simp e (ap (λ (k : ℕ). some (n, k)) i))
-merged n s m (some x) =
+    (λ e. let h = ltb-true s m e in let i : m ≡ max s m = omega arith in simp e (ap (λ (k : ℕ). Some (n, k)) i))
+    (λ e. let h = ltb-false s m e in let i : s ≡ max s m = omega arith in simp e (ap (λ (k : ℕ). Some (n, k)) i))
+merged n s m (Some x) =
     let t : ℕ = x.1 in
     case_bool (ltb t s)
     (λ e.
     let h = ltb-true t s e in
     let over : ltb t (max s m) ≡ true = lt-ltb t (max s m) (omega arith) in
     case_bool (ltb s m)
-    (λ f. let k = ltb-true s m f in let i : m ≡ max s m = omega arith in simp (e, f, over) (ap (λ (k : ℕ). some (n, k)) i))
-    (λ f. let k = ltb-false s m f in let i : s ≡ max s m = omega arith in simp (e, f, over) (ap (λ (k : ℕ). some (n, k)) i)))
+    (λ f. let k = ltb-true s m f in let i : m ≡ max s m = omega arith in simp (e, f, over) (ap (λ (k : ℕ). Some (n, k)) i))
+    (λ f. let k = ltb-false s m f in let i : s ≡ max s m = omega arith in simp (e, f, over) (ap (λ (k : ℕ). Some (n, k)) i)))
     (λ e.
     let h = ltb-false t s e in
     case_bool (ltb t m)
     (λ f.
     let k = ltb-true t m f in
     let over : ltb t (max s m) ≡ true = lt-ltb t (max s m) (omega arith) in
-    let i : m ≡ max s m = omega arith in simp (e, f, over) (ap (λ (k : ℕ). some (n, k)) i))
+    let i : m ≡ max s m = omega arith in simp (e, f, over) (ap (λ (k : ℕ). Some (n, k)) i))
     (λ f.
     let k = ltb-false t m f in
     let under : ltb t (max s m) ≡ false = le-ltb t (max s m) (omega arith) in simp (e, f, under)))
@@ -150,12 +150,12 @@ module _ (compile : Compiler) (holds : Meaning) (keys : KeySet) where
         (λ off. simp off (every_lock ls a.1 o))
 
 row_number : (o : Option LockProduct) → map_option (λ r. r.lock) o ≡ map_option (λ (m : Mark). m.0) (map_option mark_row o)
-row_number none = refl
-row_number (some r) = refl
+row_number None = refl
+row_number (Some r) = refl
 
 lock_number : (size : Lock → ℕ) (o : Option Lock) → map_option (λ (m : Mark). m.0) (map_option (λ l. (l.number, size l)) o) ≡ map_option (λ l. l.number) o
-lock_number size none = refl
-lock_number size (some l) = refl
+lock_number size None = refl
+lock_number size (Some l) = refl
 
 pub spelt_by_laws : (compile : Compiler) (holds : Meaning) → Laws compile holds → (keys : KeySet) (l : Lock)
     → compile everything l.text ≡ accepted (products_of compile l.text) → Spelt compile holds keys l
@@ -176,13 +176,13 @@ module _ (compile : Compiler) (holds : Meaning) (laws : Laws compile holds) (seg
       let on = keep (stands_on s) locks in
       row_number (greatest literal_count (keep p (products_at segments s)))
       ∙ ap (map_option (λ (k : Mark). k.0))
-      (greatest_map size_of mark_row none (keep p (products_at segments s))
-      ∙ ap (greatest_from size_of none)
+      (greatest_map size_of mark_row None (keep p (products_at segments s))
+      ∙ ap (greatest_from size_of None)
       (ap (λ (rs : List LockProduct). map mark_row (keep p rs)) (segment_stores compile holds laws segments numbers locks c s)
       ∙ ap (map mark_row) (keep_each p (stored_of compile) on)
       ∙ map_concat_map mark_row (λ l. keep p (stored_of compile l)) on)
-      ∙ every_lock compile holds keys s n locks (all_members (Spelt compile holds keys) locks lock_spelt) none
-      ∙ sym (greatest_map size_of (mark_lock compile holds keys) none (keep q locks)))
+      ∙ every_lock compile holds keys s n locks (all_members (Spelt compile holds keys) locks lock_spelt) None
+      ∙ sym (greatest_map size_of (mark_lock compile holds keys) None (keep q locks)))
       ∙ lock_number (tightness compile keys) (greatest (tightness compile keys) (keep q locks))
 
 -- ---- no opening product is longer than the lock is tight, and one is as long

@@ -1,7 +1,7 @@
 -- The trials, by computing. Each long list is a declaration of its own, so that the prover never holds two of them.
+use Rattle.std.specs.Prelude.{None, Some}
 use mathlib.Core.Path.{◌≡◌, refl, ap, ap₂, ◌∙◌}
 use mathlib.Core.List.{List, [], ◌∷◌, ◌++◌, map}
-use mathlib.Core.Option.{none, some}
 use lib.ListN.{get_or, replicate}
 use Rattle.base.specs.Lists.{tail_of}
 use Rattle.product.specs.declared.literal.Key.TheVariants.{Defined}
@@ -29,11 +29,11 @@ editors_happen_lem : Happens editors
 unfolding computing
 editors_happen_lem = refl
 
-editors_users_lem : map (user_in (events outcome_of (calls_of editors))) (0 ∷ 1 ∷ 2 ∷ 3 ∷ 4 ∷ 5 ∷ []) ≡ some 1 ∷ none ∷ some 0 ∷ some 3 ∷ some 2 ∷ some 3 ∷ []
+editors_users_lem : map (user_in (events outcome_of (calls_of editors))) (0 ∷ 1 ∷ 2 ∷ 3 ∷ 4 ∷ 5 ∷ []) ≡ Some 1 ∷ None ∷ Some 0 ∷ Some 3 ∷ Some 2 ∷ Some 3 ∷ []
 unfolding computing
 editors_users_lem = refl
 
-editors_owners_lem : map (owner_in (events outcome_of (calls_of editors))) (0 ∷ 1 ∷ 2 ∷ 3 ∷ []) ≡ some 0 ∷ some 3 ∷ some 2 ∷ none ∷ []
+editors_owners_lem : map (owner_in (events outcome_of (calls_of editors))) (0 ∷ 1 ∷ 2 ∷ 3 ∷ []) ≡ Some 0 ∷ Some 3 ∷ Some 2 ∷ None ∷ []
 unfolding computing
 editors_owners_lem = refl
 
@@ -46,25 +46,25 @@ unfolding computing
 revoked_happens_lem = refl
 
 handed_before_lem : map (hands_then in_progress) (0 ∷ 1 ∷ 2 ∷ [])
-    ≡ some (opened 0 (Defined 0 ∷ Defined 1 ∷ []) ∷ [])
-    ∷ some (opened 0 (Defined 0 ∷ Defined 1 ∷ []) ∷ opened 0 (Defined 0 ∷ Defined 1 ∷ []) ∷ [])
-    ∷ some (opened 1 (Defined 0 ∷ []) ∷ opened 0 (Defined 0 ∷ Defined 1 ∷ []) ∷ [])
+    ≡ Some (opened 0 (Defined 0 ∷ Defined 1 ∷ []) ∷ [])
+    ∷ Some (opened 0 (Defined 0 ∷ Defined 1 ∷ []) ∷ opened 0 (Defined 0 ∷ Defined 1 ∷ []) ∷ [])
+    ∷ Some (opened 1 (Defined 0 ∷ []) ∷ opened 0 (Defined 0 ∷ Defined 1 ∷ []) ∷ [])
     ∷ []
 unfolding computing
 handed_before_lem = refl
 
 handed_after_lem : map (hands_then (in_progress ++ withdrawal)) (0 ∷ 1 ∷ 2 ∷ [])
-    ≡ some (opened 0 (Defined 1 ∷ []) ∷ [])
-    ∷ some (opened 0 (Defined 1 ∷ []) ∷ opened 0 (Defined 1 ∷ []) ∷ [])
-    ∷ some (opened 1 (Defined 0 ∷ []) ∷ opened 0 (Defined 1 ∷ []) ∷ [])
+    ≡ Some (opened 0 (Defined 1 ∷ []) ∷ [])
+    ∷ Some (opened 0 (Defined 1 ∷ []) ∷ opened 0 (Defined 1 ∷ []) ∷ [])
+    ∷ Some (opened 1 (Defined 0 ∷ []) ∷ opened 0 (Defined 1 ∷ []) ∷ [])
     ∷ []
 unfolding computing
 handed_after_lem = refl
 
 handed_last_lem : map (hands_then revoked) (0 ∷ 1 ∷ 2 ∷ [])
-    ≡ some (opened 0 (Defined 1 ∷ []) ∷ [])
-    ∷ none
-    ∷ some (opened 0 (Defined 1 ∷ []) ∷ [])
+    ≡ Some (opened 0 (Defined 1 ∷ []) ∷ [])
+    ∷ None
+    ∷ Some (opened 0 (Defined 1 ∷ []) ∷ [])
     ∷ []
 unfolding computing
 handed_last_lem = refl

@@ -1,9 +1,9 @@
 -- What is answered of a thread or a segment has 16 bits: it is in a cell, or is a count of a list that the arrays
 -- bound.
+use Rattle.std.specs.Prelude.{Option, None, Some}
 use mathlib.Core.Path.{◌≡◌, refl, sym, ap, subst}
 use mathlib.Core.Bool.{Bool, true, not}
 use mathlib.Core.List.{List, [], ◌∷◌, map}
-use mathlib.Core.Option.{Option, none, some}
 use Prim.Native.Nat.{ℕ, zero, suc, ◌≤◌, ◌<◌}
 use native.Mathlib.Omega.{arith}
 use lib.Dec.{eqb, ltb}
@@ -35,8 +35,8 @@ pub record ThreadFits (r : Thread) : Type 0 where
   pub last : newest r.frames < word
 
 user_at : (o : Option Thread) → or_default 0 (λ (u : ℕ). u) (map_option (λ t. t.user) o) ≡ (or_default blank_thread (λ t. t) o).user
-user_at none = refl
-user_at (some t) = refl
+user_at None = refl
+user_at (Some t) = refl
 
 newest_low : (t : Table) → LowRows word t → (n : ℕ) → newest (frames_of t n) < word
 newest_low t h zero = omega arith
@@ -70,9 +70,9 @@ lock_low p (r ∷ rs) h = case_bool (p r) (λ e. simp e h.0) (λ e. simp e (lock
 longest_low : (p : LockProduct → Bool) (rs : List LockProduct) → All (λ r. r.lock < word) rs → lock_of (greatest literal_count (keep p rs)) < word
 longest_low p rs h = of (greatest literal_count (keep p rs)) (greatest_has literal_count (λ r. r.lock < word) (keep p rs) (All-keep (λ r. r.lock < word) p rs h))
   where
-    of : (o : Option LockProduct) → ((r : LockProduct) → o ≡ some r → r.lock < word) → lock_of o < word
-    of none f = omega arith
-    of (some r) f = f r refl
+    of : (o : Option LockProduct) → ((r : LockProduct) → o ≡ Some r → r.lock < word) → lock_of o < word
+    of None f = omega arith
+    of (Some r) f = f r refl
 
 table_fits : (s : ℕ) (g t : Table) → length (row_at g 1) ≡ 8 → length t ≡ most_standing → LowRows double_word t → SegmentFits (segment_of s g t)
 table_fits s g t eight rows h =

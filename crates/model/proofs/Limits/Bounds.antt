@@ -1,8 +1,8 @@
 -- The limits, by an invariant that every accepted call keeps: a call that adds something was not refused by 10, which
 -- is its limit, and the others add nothing.
+use Rattle.std.specs.Prelude.{None}
 use mathlib.Core.Path.{◌≡◌}
 use mathlib.Core.List.{List, [], ◌∷◌, ◌++◌}
-use mathlib.Core.Option.{none}
 use Prim.Native.Nat.{ℕ, suc, ◌+◌, ◌≤◌, zero-le, suc-le-suc}
 use native.Mathlib.Omega.{arith}
 use lib.ListN.{length, get_or, length-map}
@@ -32,7 +32,7 @@ use Rattle.model.proofs.Limits.Kept.{Shallow, SegmentKept, Kept, kept_empty, kep
 module _ (compile : Compiler) (d : State) (k : Kept d) (text : List ℕ) where
   -- an accepted q keeps the invariant
   abbrev Keeps : Request → Type 0
-  Keeps q = first_refusal (conditions compile d q text) ≡ none → Kept (update compile d q text)
+  Keeps q = first_refusal (conditions compile d q text) ≡ None → Kept (update compile d q text)
 
   at_place_lem : (a : ℕ) (f : Place → Place) → Shallow (f (get_or d.places (place_of a d.places) free)) → Kept (at_place d a f)
   at_place_lem a f h = with_places_lem k _ (places_set d.places k.places (place_of a d.places) _ h)

@@ -1,10 +1,10 @@
 -- What is stored fits its cell: an accepted call stores fields of the call, numbers that its limits bound, codes of
 -- keys and literals with numbers of 16 bits, and cells that were there; and a cell that is not stored stays. What it
 -- answers is such a number, or a count of a list that the arrays bound; a refusal's second number is a lock's.
+use Rattle.std.specs.Prelude.{None, Some}
 use mathlib.Core.Path.{◌≡◌, refl, sym, subst}
 use mathlib.Core.Bool.{Bool, true, not, false, cond}
 use mathlib.Core.List.{List, [], ◌∷◌, ◌++◌, map}
-use mathlib.Core.Option.{none, some}
 use Prim.Native.Nat.{ℕ, suc, ◌+◌, ◌≤◌, ◌<◌, min}
 use native.Mathlib.Omega.{arith}
 use lib.Dec.{eqb, ltb}
@@ -77,7 +77,7 @@ module _ (compile : Compiler) (holds : Meaning) (law : Laws compile holds) (d : 
     pub answered : answer compile (state_of d) q text < word
 
   abbrev Holds : Request → Type 0
-  Holds q = Fields (call_of q text) → first_refusal (conditions compile (state_of d) q text) ≡ none → AcceptedFits q
+  Holds q = Fields (call_of q text) → first_refusal (conditions compile (state_of d) q text) ≡ None → AcceptedFits q
 
   pub fit_accepted : (q : Request) → Holds q
   unfolding conditions store answer state_of
@@ -210,7 +210,7 @@ kept_low n ns h = by (eqb n 0) refl h
 abbrev seconds_of : List (Condition Refusal) → List ℕ
 seconds_of cs = map (λ x. second_number x.refusal) cs
 
-first_second : (cs : List (Condition Refusal)) → All (λ x. x < word) (keep nonzero (seconds_of cs)) → (r : Refusal) → first_refusal cs ≡ some r → second_number r < word
+first_second : (cs : List (Condition Refusal)) → All (λ x. x < word) (keep nonzero (seconds_of cs)) → (r : Refusal) → first_refusal cs ≡ Some r → second_number r < word
 first_second [] h r e = let z : ◌≡◌ {A = ℕ} 0 1 = cc in absurd (omega arith)
 first_second (x ∷ xs) h r e =
     let (here, there) = kept_low (second_number x.refusal) (seconds_of xs) h in
@@ -233,7 +233,7 @@ module _ (compile : Compiler) (d : Cells) (c : Sized d) (k : Fitting d) (text : 
   no_other q =
       every_request (λ r. keep nonzero (seconds_of (conditions compile (state_of d) r text))) (λ r. keep nonzero (denied_by (call_of r text))) (λ a b e. refl) q
 
-  pub fit_refused : (q : Request) (r : Refusal) → first_refusal (conditions compile (state_of d) q text) ≡ some r → second_number r < word
+  pub fit_refused : (q : Request) (r : Refusal) → first_refusal (conditions compile (state_of d) q text) ≡ Some r → second_number r < word
   fit_refused q =
       first_second (conditions compile (state_of d) q text)
       (subst (λ (ns : List ℕ). All (λ n. n < word) ns) (sym (no_other q)) (All-keep (λ n. n < word) nonzero (denied_by (call_of q text)) (denied_low (call_of q text))))

@@ -1,23 +1,21 @@
 -- What is stored fits its cell: every call, accepted or not, and every list of calls.
+use Rattle.std.specs.Prelude.{Ok, Err, Option, None, Some}
 use mathlib.Core.Path.{◌≡◌, refl, subst}
 use mathlib.Core.List.{List, [], ◌∷◌}
-use mathlib.Core.Option.{Option, none, some}
 use Prim.Native.Nat.{ℕ, ◌<◌}
 use native.Mathlib.Omega.{arith}
 use Rattle.formula.specs.Outcome.{outcome_of}
 use Rattle.formula.specs.Meaning.{text_holds}
 use Rattle.formula.proofs.Opening.{laws}
 use Rattle.call.specs.declared.request.Request.{Request}
-use Rattle.call.specs.declared.request.Decoded.{Decoded}
-use Rattle.call.specs.declared.request.Decoded.TheVariants.{WellFormed, Corrupt as NotWellFormed}
+use Rattle.call.specs.Calls.{Decoded}
 use Rattle.call.specs.Calls.{Call, decoded}
 use Rattle.base.specs.Conditions.{first_refusal}
 use Rattle.call.specs.Requests.{call_of}
 use Rattle.call.proofs.Requests.{requests_exactly}
 use Rattle.model.specs.declared.answer.Refusal.{Refusal}
 use Rattle.model.specs.declared.answer.Refusal.TheVariants.{Corrupt}
-use Rattle.model.specs.declared.answer.Answer.{Answer}
-use Rattle.model.specs.declared.answer.Answer.TheVariants.{Accepted, Refused}
+use Rattle.model.specs.Answers.{Answer}
 use Rattle.model.specs.Answers.{second_number}
 use Rattle.model.specs.Refusals.{conditions}
 use Rattle.model.specs.Effects.{answer}
@@ -30,23 +28,23 @@ use Rattle.model.proofs.Limits.FittingCells.{empty_fits}
 use Rattle.model.proofs.Limits.RequestWidths.{fit_accepted, fit_refused}
 
 -- an answer's number has 16 bits
-accepted_low : (m n : ℕ) → m < word → Accepted m ≡ Accepted n → n < word
+accepted_low : (m n : ℕ) → m < word → ◌≡◌ {A = Answer} (Ok m) (Ok n) → n < word
 accepted_low m n h e = let same : m ≡ n = cc in omega arith
 
 -- a refusal answers no number
-refused_low : (r : Refusal) (n : ℕ) → Refused r ≡ Accepted n → n < word
+refused_low : (r : Refusal) (n : ℕ) → ◌≡◌ {A = Answer} (Err r) (Ok n) → n < word
 refused_low r n e = let z : ◌≡◌ {A = ℕ} 0 1 = cc in absurd (omega arith)
 
 -- an acceptance has no second number, and a refusal its own
-accepted_second : (m : ℕ) (r : Refusal) → Accepted m ≡ Refused r → second_number r < word
+accepted_second : (m : ℕ) (r : Refusal) → ◌≡◌ {A = Answer} (Ok m) (Err r) → second_number r < word
 accepted_second m r e = let z : ◌≡◌ {A = ℕ} 0 1 = cc in absurd (omega arith)
 
-refused_second : (q r : Refusal) → second_number q < word → Refused q ≡ Refused r → second_number r < word
+refused_second : (q r : Refusal) → second_number q < word → ◌≡◌ {A = Answer} (Err q) (Err r) → second_number r < word
 refused_second q r h e = let same : q ≡ r = cc in subst (λ (x : Refusal). second_number x < word) same h
 
 -- what a call leaves and answers
 abbrev LeftFits : record { cells : Cells; answer : Answer } → Type 0
-LeftFits y = Fitting y.cells × ((n : ℕ) → y.answer ≡ Accepted n → n < word) × ((r : Refusal) → y.answer ≡ Refused r → second_number r < word)
+LeftFits y = Fitting y.cells × ((n : ℕ) → y.answer ≡ Ok n → n < word) × ((r : Refusal) → y.answer ≡ Err r → second_number r < word)
 
 pub widths_by_laws : WidthsByLaws
 unfolding step_cells
@@ -54,17 +52,17 @@ widths_by_laws compile holds law d c k x l = let b = by_decoded (decoded x) refl
   where
     by_refusal : (q : Request) → Fields (call_of q x.text) → (o : Option Refusal) → first_refusal (conditions compile (state_of d) q x.text) ≡ o
         → LeftFits (judged_cells compile d q x.text o)
-    by_refusal q h none e =
+    by_refusal q h None e =
         let s = fit_accepted compile holds law d c k x.text q h e in
         let n = answer compile (state_of d) q x.text in
         (s.stored, (λ m. accepted_low n m s.answered), accepted_second n)
-    by_refusal q h (some r) e =
+    by_refusal q h (Some r) e =
         let second = fit_refused compile d c k x.text q r e in
         (k, refused_low r, (λ y. refused_second r y second))
 
     by_decoded : (y : Decoded) → decoded x ≡ y → LeftFits (step_cells_decoded compile d y x.text)
-    by_decoded NotWellFormed e = (k, refused_low Corrupt, (λ y. refused_second Corrupt y (omega arith)))
-    by_decoded (WellFormed q) e =
+    by_decoded None e = (k, refused_low Corrupt, (λ y. refused_second Corrupt y (omega arith)))
+    by_decoded (Some q) e =
         by_refusal q (subst Fields ((requests_exactly x q).0 e) l) (first_refusal (conditions compile (state_of d) q x.text)) refl
 
 -- ---- every list of calls

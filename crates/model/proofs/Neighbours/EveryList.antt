@@ -12,7 +12,7 @@ use Rattle.base.proofs.Truth.{and_right}
 use Rattle.formula.specs.Outcome.{outcome_of}
 use Rattle.formula.specs.Compiler.{Compiler}
 use Rattle.call.specs.Calls.{Call}
-use Rattle.model.specs.declared.answer.Answer.{Answer}
+use Rattle.model.specs.Answers.{Answer}
 use Rattle.model.specs.State.{State, empty_state}
 use Rattle.model.specs.Model.{step}
 use Rattle.model.specs.History.{Event, event}

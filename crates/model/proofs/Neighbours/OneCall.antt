@@ -1,9 +1,9 @@
 -- One call on a state and on what thread n sees of it: if it isn't struck out, both come to the same, but for the
 -- number of another thread's E; if it is, thread n sees no change. Each letter has a line in each of the four tables.
+use Rattle.std.specs.Prelude.{Ok, Option, None, Some}
 use mathlib.Core.Path.{◌≡◌, refl, sym, ap, ◌∙◌}
 use mathlib.Core.Bool.{Bool, true, false, not, cond, false≢true}
 use mathlib.Core.List.{List, map}
-use mathlib.Core.Option.{Option, none, some}
 use Prim.Native.Nat.{ℕ}
 use lib.Dec.{eqb}
 use borrow.Author.Tests.{eqb-true, not-true, not-false}
@@ -12,14 +12,12 @@ use Rattle.base.proofs.Conditions.{all_fail}
 use Rattle.formula.specs.Compiler.{Compiler}
 use Rattle.call.specs.declared.request.Request.{Request}
 use Rattle.call.specs.declared.request.Request.TheVariants as request
-use Rattle.call.specs.declared.request.Decoded.{Decoded}
-use Rattle.call.specs.declared.request.Decoded.TheVariants.{WellFormed, Corrupt as NotWellFormed}
+use Rattle.call.specs.Calls.{Decoded}
 use Rattle.call.specs.Calls.{Call, decoded}
 use Rattle.call.specs.Requests.{call_of}
 use Rattle.call.proofs.Requests.{requests_exactly}
 use Rattle.model.specs.declared.answer.Refusal.{Refusal}
-use Rattle.model.specs.declared.answer.Answer.{Answer}
-use Rattle.model.specs.declared.answer.Answer.TheVariants.{Accepted}
+use Rattle.model.specs.Answers.{Answer}
 use Rattle.model.specs.Threads.{Thread}
 use Rattle.model.specs.State.{State, fresh_thread, is_free, is_live, free, taken}
 use Rattle.model.specs.Refusals.{opening_product, tightest_product, conditions}
@@ -96,7 +94,7 @@ module _ (compile : Compiler) (n : ℕ) (text : List ℕ) where
       ap (with_places d) (change_unseen n d.places a f h (not-true _ other) (lives a d.places (not-false _ live)))
 
   update_unseen : (d : State) (q : Request) → is_struck n (call_of q text) ≡ true
-      → first_refusal (conditions compile d q text) ≡ none → view n (update compile d q text) ≡ view n d
+      → first_refusal (conditions compile d q text) ≡ None → view n (update compile d q text) ≡ view n d
   unfolding update conditions
   update_unseen d request.NewUser h e = absurd (false≢true h)
   update_unseen d (request.StartThread a) h e = absurd (false≢true h)
@@ -123,9 +121,9 @@ module _ (compile : Compiler) (n : ℕ) where
 
   numbers_same : (d : State) (q : Request) (text : List ℕ) → is_struck n (call_of q text) ≡ false
       → (another : Bool) → ends_another n (call_of q text) ≡ another
-      → shown another (Accepted (answer compile d q text)) ≡ shown another (Accepted (answer compile (view n d) q text))
+      → shown another (Ok (answer compile d q text)) ≡ shown another (Ok (answer compile (view n d) q text))
   numbers_same d q text h true e = refl
-  numbers_same d q text h false e = ap Accepted (sym (answer_same compile n text d q h e))
+  numbers_same d q text h false e = ap Ok (sym (answer_same compile n text d q h e))
 
   seen_alike : (d : State) (x : Call) → is_struck n x ≡ false → Alike (ends_another n x) (step compile d x) (step compile (view n d) x)
   unfolding step
@@ -133,13 +131,13 @@ module _ (compile : Compiler) (n : ℕ) where
     where
       by_refusal : (q : Request) → x ≡ call_of q x.text → (o : Option Refusal)
           → Alike (ends_another n x) (judged compile d q x.text o) (judged compile (view n d) q x.text o)
-      by_refusal q s none =
+      by_refusal q s None =
           (update_same compile n x.text d q, numbers_same d q x.text (sym (ap (is_struck n) s) ∙ h) (ends_another n x) (sym (ap (ends_another n) s)))
-      by_refusal q s (some r) = (idle compile n x.text d d, refl)
+      by_refusal q s (Some r) = (idle compile n x.text d d, refl)
 
       by_decoded : (k : Decoded) → decoded x ≡ k → Alike (ends_another n x) (step_decoded compile d k x.text) (step_decoded compile (view n d) k x.text)
-      by_decoded NotWellFormed e = (idle compile n x.text d d, refl)
-      by_decoded (WellFormed q) e =
+      by_decoded None e = (idle compile n x.text d d, refl)
+      by_decoded (Some q) e =
           let s = (requests_exactly x q).0 e in
           rw (conditions_same compile n x.text d q (sym (ap (is_struck n) s) ∙ h)) (by_refusal q s (first_refusal (conditions compile d q x.text)))
 
@@ -149,12 +147,12 @@ module _ (compile : Compiler) (n : ℕ) where
     where
       by_refusal : (q : Request) → x ≡ call_of q x.text → (o : Option Refusal) → first_refusal (conditions compile d q x.text) ≡ o
           → view n (judged compile d q x.text o).state ≡ view n d
-      by_refusal q s none e = update_unseen compile n x.text d q (sym (ap (is_struck n) s) ∙ h) e
-      by_refusal q s (some r) e = refl
+      by_refusal q s None e = update_unseen compile n x.text d q (sym (ap (is_struck n) s) ∙ h) e
+      by_refusal q s (Some r) e = refl
 
       by_decoded : (k : Decoded) → decoded x ≡ k → view n (step_decoded compile d k x.text).state ≡ view n d
-      by_decoded NotWellFormed e = refl
-      by_decoded (WellFormed q) e = by_refusal q ((requests_exactly x q).0 e) (first_refusal (conditions compile d q x.text)) refl
+      by_decoded None e = refl
+      by_decoded (Some q) e = by_refusal q ((requests_exactly x q).0 e) (first_refusal (conditions compile d q x.text)) refl
 
   -- the same call on two states that thread n sees alike
   pub left_alike : (d e : State) → view n d ≡ view n e → (x : Call) → is_struck n x ≡ false → Alike (ends_another n x) (step compile d x) (step compile e x)

@@ -1,18 +1,17 @@
 -- The arrays hold the model: every call, accepted or not, and every list of calls.
+use Rattle.std.specs.Prelude.{Option, None, Some}
 use mathlib.Core.Path.{◌≡◌, refl, ap, ap₂, ◌∙◌}
 use mathlib.Core.List.{List, [], ◌∷◌}
-use mathlib.Core.Option.{Option, none, some}
 use Rattle.formula.specs.Outcome.{outcome_of}
 use Rattle.formula.specs.Meaning.{text_holds, Meaning}
 use Rattle.formula.specs.Compiler.{Compiler, Laws}
 use Rattle.formula.proofs.Opening.{laws}
 use Rattle.call.specs.declared.request.Request.{Request}
-use Rattle.call.specs.declared.request.Decoded.{Decoded}
-use Rattle.call.specs.declared.request.Decoded.TheVariants.{WellFormed, Corrupt as NotWellFormed}
+use Rattle.call.specs.Calls.{Decoded}
 use Rattle.call.specs.Calls.{Call, decoded}
 use Rattle.base.specs.Conditions.{first_refusal}
 use Rattle.model.specs.declared.answer.Refusal.{Refusal}
-use Rattle.model.specs.declared.answer.Answer.{Answer}
+use Rattle.model.specs.Answers.{Answer}
 use Rattle.model.specs.State.{State, empty_state}
 use Rattle.model.specs.Refusals.{conditions}
 use Rattle.model.specs.Model.{judged, step_decoded, step}
@@ -34,12 +33,12 @@ refinement_by_laws compile holds law d c x = let b = by_decoded (decoded x) in r
   where
     by_refusal : (q : Request) (o : Option Refusal) → first_refusal (conditions compile (state_of d) q x.text) ≡ o
         → Beside (judged_cells compile d q x.text o) (judged compile (state_of d) q x.text o)
-    by_refusal q none e = let s = store_accepted compile holds law x.text d c q e in (s.state, refl, s.sized)
-    by_refusal q (some r) e = (refl, refl, c)
+    by_refusal q None e = let s = store_accepted compile holds law x.text d c q e in (s.state, refl, s.sized)
+    by_refusal q (Some r) e = (refl, refl, c)
 
     by_decoded : (k : Decoded) → Beside (step_cells_decoded compile d k x.text) (step_decoded compile (state_of d) k x.text)
-    by_decoded NotWellFormed = (refl, refl, c)
-    by_decoded (WellFormed q) = by_refusal q (first_refusal (conditions compile (state_of d) q x.text)) refl
+    by_decoded None = (refl, refl, c)
+    by_decoded (Some q) = by_refusal q (first_refusal (conditions compile (state_of d) q x.text)) refl
 
 module _ (compile : Compiler) (holds : Meaning) (law : Laws compile holds) where
   same_events : (xs : List Call) (d : Cells) → Sized d → events_in compile d xs ≡ events_of compile (state_of d) xs

@@ -11,10 +11,10 @@ use lib.Seq.{get_or-set_same, get_or-set_other}
 use borrow.Author.Tests.{eqb-true, eqb-false, ne_eqb, eq-eqb, ltb-true, ltb-false}
 use Rattle.product.specs.declared.literal.Key.{Key}
 use Rattle.product.specs.declared.literal.Key.TheVariants.{Defined}
-use Rattle.product.specs.Atom.{atom_of, compare_atoms, order_of}
+use Rattle.product.specs.Atom.{atom_of, compare_atoms}
 use Rattle.product.specs.Product.{All as Each}
 use Rattle.product.specs.Sum.{Sum}
-use Rattle.product.proofs.NumberOrder.{order_tests}
+use Rattle.std.specs.Cmp.{unsigned_tied}
 use Rattle.product.proofs.EveryLiteral.{all_mapped}
 use Rattle.formula.specs.declared.text.Issued.{Issued}
 use Rattle.formula.specs.Text.{issued_to}
@@ -50,13 +50,13 @@ has_key_below x lt = let e : eqb x no_key ≡ false = ne_eqb x no_key (λ q. ome
 
 -- the code of a defined key tells it from every other key
 pub same_code : (k y : ℕ) → same_key (Defined k) (key_in y) ≡ eqb (defined_cell k) y
-unfolding compare_atoms order_of
+unfolding compare_atoms
 same_code k y =
     case_bool (ltb y most_segments)
     (λ e. let l = ltb-true y most_segments e in
     let n : eqb (defined_cell k) y ≡ false = ne_eqb (defined_cell k) y (λ q. omega arith) in simp (e, n))
     (λ e. let l = ltb-false y most_segments e in
-    simp e ((order_tests k (y - most_segments)).1 ∙ case_bool (eqb k (y - most_segments))
+    simp e (unsigned_tied k (y - most_segments) ∙ case_bool (eqb k (y - most_segments))
     (λ f. let q = eqb-true k (y - most_segments) f in let n : eqb (defined_cell k) y ≡ true = eq-eqb (defined_cell k) y (omega arith) in f ∙ sym n)
     (λ f. let q = eqb-false k (y - most_segments) f in let n : eqb (defined_cell k) y ≡ false = ne_eqb (defined_cell k) y (λ z. q (omega arith)) in f ∙ sym n)))
 

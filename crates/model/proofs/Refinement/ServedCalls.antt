@@ -1,9 +1,9 @@
 -- How a function of the guard meets its promise: a refusal is the first condition that holds, and leaves the arrays; an
 -- accepted call's answer and arrays are the definitions'. And what the tests that the code makes on the arrays say of
 -- the state that they hold.
+use Rattle.std.specs.Prelude.{Ok, Err, Option, None, Some}
 use mathlib.Core.Path.{◌≡◌, sym, ap, ◌∙◌}
 use mathlib.Core.List.{List}
-use mathlib.Core.Option.{Option, none, some}
 use Prim.Native.Nat.{ℕ, ◌<◌, min}
 use native.Mathlib.Omega.{arith}
 use lib.Dec.{ltb}
@@ -11,8 +11,7 @@ use Rattle.formula.specs.Outcome.{outcome_of}
 use Rattle.call.specs.declared.request.Request.{Request}
 use Rattle.base.specs.Conditions.{first_refusal}
 use Rattle.model.specs.declared.answer.Refusal.{Refusal}
-use Rattle.model.specs.declared.answer.Answer.{Answer}
-use Rattle.model.specs.declared.answer.Answer.TheVariants.{Accepted, Refused}
+use Rattle.model.specs.Answers.{Answer}
 use Rattle.model.specs.Limits.{most_segments}
 use Rattle.model.specs.Refusals.{conditions}
 use Rattle.model.specs.Effects.{answer}
@@ -26,15 +25,15 @@ module _ (d : Cells) (q : Request) (text : List ℕ) where
   unfoldable after : Option Refusal → record { cells : Cells; answer : Answer }
   after o = judged_cells outcome_of d q text o
 
-  pub serves_refused : {r : Refusal} → first_refusal (conditions outcome_of (state_of d) q text) ≡ some r → Serves d q text (Refused r) d
+  pub serves_refused : {r : Refusal} → first_refusal (conditions outcome_of (state_of d) q text) ≡ Some r → Serves d q text (Err r) d
   unfolding after
   serves_refused e = record { answer = sym (ap (λ (o : Option Refusal). (after o).answer) e); cells = sym (ap (λ (o : Option Refusal). (after o).cells) e) }
 
-  pub serves_accepted : {n : ℕ} {d' : Cells} → first_refusal (conditions outcome_of (state_of d) q text) ≡ none
-      → n ≡ answer outcome_of (state_of d) q text → d' ≡ store outcome_of d q text → Serves d q text (Accepted n) d'
+  pub serves_accepted : {n : ℕ} {d' : Cells} → first_refusal (conditions outcome_of (state_of d) q text) ≡ None
+      → n ≡ answer outcome_of (state_of d) q text → d' ≡ store outcome_of d q text → Serves d q text (Ok n) d'
   unfolding after
   serves_accepted e a s =
-      record { answer = ap Accepted a ∙ sym (ap (λ (o : Option Refusal). (after o).answer) e); cells = s ∙ sym (ap (λ (o : Option Refusal). (after o).cells) e) }
+      record { answer = ap Ok a ∙ sym (ap (λ (o : Option Refusal). (after o).answer) e); cells = s ∙ sym (ap (λ (o : Option Refusal). (after o).cells) e) }
 
 -- how many segments the arrays hold
 abbrev pub segments_in : Cells → ℕ

@@ -1,8 +1,8 @@
 -- The arrays hold the model: for each request, what is stored is read back as what the model changes, and the sizes
 -- stay.
+use Rattle.std.specs.Prelude.{Option, None}
 use mathlib.Core.Path.{◌≡◌, refl, ap}
 use mathlib.Core.List.{List, map}
-use mathlib.Core.Option.{Option, none}
 use Prim.Native.Nat.{ℕ, suc, ◌+◌, ◌≤◌, ◌<◌}
 use native.Mathlib.Omega.{arith}
 use lib.ListN.{length}
@@ -34,7 +34,7 @@ use Rattle.model.proofs.Refinement.LockStores.{drop_held, add_held}
 module _ (compile : Compiler) (holds : Meaning) (law : Laws compile holds) (text : List ℕ) (d : Cells) (c : Sized d) where
   -- an accepted request
   abbrev pub Stored : Request → Type 0
-  Stored q = first_refusal (conditions compile (state_of d) q text) ≡ none → Holds (store compile d q text) (update compile (state_of d) q text)
+  Stored q = first_refusal (conditions compile (state_of d) q text) ≡ None → Holds (store compile d q text) (update compile (state_of d) q text)
 
   pub store_accepted : (q : Request) → Stored q
   unfolding conditions update store state_of

@@ -2,8 +2,7 @@
 -- 'Trial desks' (marked *), which stand as one theorem, with what is printed, in `StarredTrials` (transcript);
 -- a few more; and lists of calls after which the premises of `Granting` hold. Proved in
 -- `proofs/Computed/Examples.antt`, by computing.
-use Rattle.std.specs.Prelude.{◌≡◌, true, List, [], ◌∷◌, ◌++◌, ℕ, replicate, take}
-use Rattle.std.proofs.Math.Option.{some}
+use Rattle.std.specs.Prelude.{◌≡◌, true, List, [], ◌∷◌, ◌++◌, ℕ, replicate, take, Some}
 use Rattle.product.specs.declared.literal.Key.TheVariants.{User, Segment as SegmentKey, Defined}
 use Rattle.product.specs.declared.literal.Literal.TheVariants.{Plain, Barred}
 use Rattle.formula.specs.Outcome.{outcome_of}
@@ -182,7 +181,7 @@ pub record Examples : Type 0 where
   -- after the first return the S key is held, by the history and by the arrays
   pub twice_held :
       map_option (λ t. key_set 0 t (SegmentKey 0)) ((history_of outcome_of (calls_of (take 9 twice))).threads 0)
-      ≡ some true
+      ≡ Some true
   pub twice_stored :
       key_set 0 (thread_at (state_of (reached outcome_of (calls_of (take 9 twice)))) 0) (SegmentKey 0) ≡ true
   pub back_happens : Happens back
@@ -199,9 +198,9 @@ pub record Examples : Type 0 where
   -- the premises of `Granting` hold before the first C of the route, before its first A, which is granted, and before
   -- its last, which isn't
   pub call_fits : Fits (before 9) (C 0 0) (calls 0 0)
-  pub call_live : (before 9).threads 0 ≡ some (record { user = 0; frames = [] })
+  pub call_live : (before 9).threads 0 ≡ Some (record { user = 0; frames = [] })
   pub access_fits : Fits (before 12) (A 0 2 4) (accesses 0 2 4)
   pub access_live : (before 12).threads 0
-      ≡ some (record { user = 0; frames = opened 1 ∷ opened 0 ∷ [] })
+      ≡ Some (record { user = 0; frames = opened 1 ∷ opened 0 ∷ [] })
   pub last_fits : Fits (before 15) (A 0 2 4) (accesses 0 2 4)
-  pub last_live : (before 15).threads 0 ≡ some (record { user = 0; frames = opened 0 ∷ [] })
+  pub last_live : (before 15).threads 0 ≡ Some (record { user = 0; frames = opened 0 ∷ [] })

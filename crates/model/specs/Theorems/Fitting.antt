@@ -2,16 +2,13 @@
 -- out and takes it.' `Granting`, `TightestLock` and `SameGrants` are about a live thread's C or A that fits. Which
 -- those are is told by the answers: all that are refused with neither 3 nor 7. So every accepted one is a live thread's
 -- and fits. Proved in `proofs/Agreement/Fitting.antt`.
-use Rattle.std.specs.Prelude.{◌≡◌, List, ℕ}
-use Rattle.std.proofs.Math.Option.{some}
+use Rattle.std.specs.Prelude.{◌≡◌, List, ℕ, Ok, Err, Some}
 use Rattle.formula.specs.Outcome.{outcome_of}
 use Rattle.formula.specs.Meaning.{Meaning}
 use Rattle.formula.specs.Compiler.{Compiler, Laws}
-use Rattle.call.specs.declared.request.Decoded.TheVariants.{WellFormed}
 use Rattle.call.specs.Calls.{Call, decoded}
 use Rattle.model.specs.declared.answer.Refusal.TheVariants.{NoSegment, Unfit}
-use Rattle.model.specs.declared.answer.Answer.{Answer}
-use Rattle.model.specs.declared.answer.Answer.TheVariants.{Accepted, Refused}
+use Rattle.model.specs.Answers.{Answer}
 use Rattle.model.specs.Threads.{Thread}
 use Rattle.model.specs.History.{Event, History, history}
 use Rattle.model.specs.HistoryCheck.{Operation, request_of, thread_of, Fits}
@@ -20,15 +17,15 @@ use Rattle.model.specs.Replay.{events, answer_to}
 -- the call is a live thread's, and fits
 pub record Judged (h : History) (next : Call) (o : Operation) : Type 0 where
   pub thread : Thread
-  pub live : h.threads (thread_of o) ≡ some thread
+  pub live : h.threads (thread_of o) ≡ Some thread
   pub fits : Fits h next o
 
 -- What the events before the next call, a C or an A, say of its answer r.
 pub record FitsBy (es : List Event) (next : Call) (r : Answer) : Type 0 where
-  pub unrefused : (o : Operation) (t : Thread) → decoded next ≡ WellFormed (request_of o)
-      → (history es).threads (thread_of o) ≡ some t → (r ≡ Refused NoSegment → ⊥) → (r ≡ Refused Unfit → ⊥)
+  pub unrefused : (o : Operation) (t : Thread) → decoded next ≡ Some (request_of o)
+      → (history es).threads (thread_of o) ≡ Some t → (r ≡ Err NoSegment → ⊥) → (r ≡ Err Unfit → ⊥)
       → Fits (history es) next o
-  pub accepted : (o : Operation) (n : ℕ) → decoded next ≡ WellFormed (request_of o) → r ≡ Accepted n
+  pub accepted : (o : Operation) (n : ℕ) → decoded next ≡ Some (request_of o) → r ≡ Ok n
       → Judged (history es) next o
 
 abbrev pub FittingByLaws : Type 0

@@ -6,16 +6,13 @@
 -- answers alone.' Since request P5 'a still open call now hands over its list less what was taken since, and the
 -- history reads that way' (`Revocation`), and since request P6 the tightest lock answers (`TightestLock`). Proved in
 -- `proofs/Agreement/Granting.antt`.
-use Rattle.std.specs.Prelude.{◌≡◌, true, List, ◌↔◌, ℕ}
-use Rattle.std.proofs.Math.Option.{some}
+use Rattle.std.specs.Prelude.{◌≡◌, true, List, ◌↔◌, ℕ, Ok, Some}
 use Rattle.formula.specs.Outcome.{outcome_of}
 use Rattle.formula.specs.Meaning.{text_holds, Meaning}
 use Rattle.formula.specs.Compiler.{Compiler, Laws}
 use Rattle.call.specs.declared.request.Request.{Request}
-use Rattle.call.specs.declared.request.Decoded.TheVariants.{WellFormed}
 use Rattle.call.specs.Calls.{Call, decoded}
-use Rattle.model.specs.declared.answer.Answer.{Answer}
-use Rattle.model.specs.declared.answer.Answer.TheVariants.{Accepted}
+use Rattle.model.specs.Answers.{Answer}
 use Rattle.model.specs.Answers.{is_accepted}
 use Rattle.model.specs.Threads.{Thread}
 use Rattle.model.specs.History.{Event, history, hands_out, accepted_of}
@@ -26,13 +23,13 @@ use Rattle.model.specs.HistoryCheck.{Operation, thread_of, Fits, granted, Grante
 -- ('Granted means accepted'), and its whole answer; and 'the number that an accepted U, S, N, K or L answers is the
 -- count of that letter's accepted calls earlier in the list'.
 pub record Grants (compile : Compiler) (holds : Meaning) (es : List Event) (next : Call) (r : Answer) : Type 0 where
-  pub equation : (o : Operation) (t : Thread) → Fits (history es) next o → (history es).threads (thread_of o) ≡ some t
+  pub equation : (o : Operation) (t : Thread) → Fits (history es) next o → (history es).threads (thread_of o) ≡ Some t
       → is_accepted r ≡ granted holds (history es) o t
-  pub exactly : (o : Operation) (t : Thread) → Fits (history es) next o → (history es).threads (thread_of o) ≡ some t
+  pub exactly : (o : Operation) (t : Thread) → Fits (history es) next o → (history es).threads (thread_of o) ≡ Some t
       → (is_accepted r ≡ true) ↔ Granted holds (history es) o t
-  pub answer : (o : Operation) (t : Thread) → Fits (history es) next o → (history es).threads (thread_of o) ≡ some t
+  pub answer : (o : Operation) (t : Thread) → Fits (history es) next o → (history es).threads (thread_of o) ≡ Some t
       → r ≡ answer_from compile holds (history es) o t
-  pub number : (q : Request) (n : ℕ) → decoded next ≡ WellFormed q → hands_out q ≡ true → r ≡ Accepted n
+  pub number : (q : Request) (n : ℕ) → decoded next ≡ Some q → hands_out q ≡ true → r ≡ Ok n
       → n ≡ accepted_of next.letter es
 
 -- for whatever compiler keeps the laws

@@ -3,9 +3,8 @@
 -- and 15 are in `Granting`, 11 to 13 and what 10 asks in L in `LockTexts`, what is stored for locks in `StoredLocks`.)
 -- And the text of each standing lock spells a formula, which is what the text holds for. Proved in
 -- `proofs/Agreement/Mirror.antt`.
-use Rattle.std.specs.Prelude.{◌≡◌, Bool, ℕ, ◌+◌, eqb}
+use Rattle.std.specs.Prelude.{◌≡◌, Bool, ℕ, ◌+◌, eqb, Some}
 use mathlib.Core.List.{List, ◌∷◌, Memᴰ}
-use Rattle.std.proofs.Math.Option.{some}
 use Rattle.product.specs.declared.literal.Key.{Key}
 use Rattle.product.specs.declared.literal.Key.TheVariants.{Segment as SegmentKey}
 use Rattle.product.specs.Atom.{Atom}
@@ -34,15 +33,15 @@ pub record Mirrors (es : List Event) (d : State) : Type 0 where
   -- live threads, as many as S started and E did not end, with their user and frames
   pub threads : live_in d.places + accepted_of letters.E es ≡ accepted_of letters.S es
   pub live : (n : ℕ) → is_live d n ≡ is_some ((history es).threads n)
-  pub thread : (n : ℕ) (t : Thread) → (history es).threads n ≡ some t → thread_at d n ≡ t
+  pub thread : (n : ℕ) (t : Thread) → (history es).threads n ≡ Some t → thread_at d n ≡ t
   -- who edits: the user of the thread that field a names, if it is live
   pub editors : (n : ℕ) → editor d n ≡ map_option (λ t. t.user) ((history es).threads n)
   -- segments, with their owner, kind and key list, which starts with its own S key
   pub segment : (s : ℕ) → is_segment d s ≡ is_some ((history es).segments s)
-  pub owner : (s : ℕ) (e : Entry) → (history es).segments s ≡ some e → (segment_at d s).owner ≡ e.owner
-  pub kind : (s : ℕ) (e : Entry) → (history es).segments s ≡ some e → (segment_at d s).kind ≡ e.kind
-  pub keys : (s : ℕ) (e : Entry) → (history es).segments s ≡ some e → (segment_at d s).keys ≡ e.keys
-  pub own : (s : ℕ) (e : Entry) → (history es).segments s ≡ some e → (rest : List Key) × (e.keys ≡ SegmentKey s ∷ rest)
+  pub owner : (s : ℕ) (e : Entry) → (history es).segments s ≡ Some e → (segment_at d s).owner ≡ e.owner
+  pub kind : (s : ℕ) (e : Entry) → (history es).segments s ≡ Some e → (segment_at d s).kind ≡ e.kind
+  pub keys : (s : ℕ) (e : Entry) → (history es).segments s ≡ Some e → (segment_at d s).keys ≡ e.keys
+  pub own : (s : ℕ) (e : Entry) → (history es).segments s ≡ Some e → (rest : List Key) × (e.keys ≡ SegmentKey s ∷ rest)
   -- standing locks, with their segment
   pub lock : (n : ℕ) → is_lock d n ≡ any (λ l. eqb l.number n) (history es).locks
   pub segment_for : (l : Lock) → Memᴰ l (history es).locks → lock_segment d l.number ≡ l.segment

@@ -3,13 +3,12 @@
 -- all lists from an empty desk.' The lists are answered on the arrays: `events` are the answers of `step_cells`, which
 -- the guard's entry promises of each call (`Answers`), one after the other from `empty_cells`. In what follows n is the
 -- number of the one thread. Proved in `proofs/Neighbours/EveryList.antt`.
-use Rattle.std.specs.Prelude.{◌≡◌, Bool, ◌&&◌, not, cond, List, [], ◌∷◌, map, ℕ, eqb}
+use Rattle.std.specs.Prelude.{◌≡◌, Bool, ◌&&◌, not, cond, List, [], ◌∷◌, map, ℕ, eqb, Ok, Err}
 use Rattle.base.specs.Lists.{any, keep}
 use Rattle.formula.specs.Outcome.{outcome_of}
 use Rattle.call.specs.Letters as letters
 use Rattle.call.specs.Calls.{Call}
-use Rattle.model.specs.declared.answer.Answer.{Answer}
-use Rattle.model.specs.declared.answer.Answer.TheVariants.{Accepted, Refused}
+use Rattle.model.specs.Answers.{Answer}
 use Rattle.model.specs.History.{Event, event}
 use Rattle.model.specs.Replay.{events}
 
@@ -53,8 +52,8 @@ abbrev pub ends_another : ℕ → Call → Bool
 ends_another n x = has_letter (letters.E ∷ []) x && not (eqb x.a n)
 
 abbrev pub without_number : Answer → Answer
-without_number (Accepted k) = Accepted 0
-without_number (Refused r) = Refused r
+without_number (Ok k) = Ok 0
+without_number (Err r) = Err r
 
 -- the event, but for the number that an accepted E of another thread answers
 abbrev pub seen : ℕ → Event → Event

@@ -1,16 +1,13 @@
 -- Document 01, 'Twelve calls': what an accepted E, G, T, D or R answers, from the list of calls and answers before it.
 -- What the others answer is in `Granting`. Proved in `proofs/Agreement/Numbering.antt`.
-use Rattle.std.specs.Prelude.{◌≡◌, true, ℕ, length}
+use Rattle.std.specs.Prelude.{◌≡◌, true, ℕ, length, Ok, Some}
 use mathlib.Core.List.{List, ◌∷◌, map, Memᴰ}
-use Rattle.std.proofs.Math.Option.{some}
 use Rattle.formula.specs.Outcome.{outcome_of}
 use Rattle.formula.specs.Compiler.{Compiler, Laws}
 use Rattle.formula.specs.Meaning.{Meaning}
 use Rattle.call.specs.declared.request.Request.TheVariants.{EndThread, GiveKey, TakeKey, DropLock, ReturnCall}
-use Rattle.call.specs.declared.request.Decoded.TheVariants.{WellFormed}
 use Rattle.call.specs.Calls.{Call, decoded}
-use Rattle.model.specs.declared.answer.Answer.{Answer}
-use Rattle.model.specs.declared.answer.Answer.TheVariants.{Accepted}
+use Rattle.model.specs.Answers.{Answer}
 use Rattle.base.specs.Lists.{rising}
 use Rattle.model.specs.Threads.{Frame, Thread}
 use Rattle.model.specs.History.{Event, Lock, event, advance, history, list_of}
@@ -21,19 +18,19 @@ use Rattle.model.specs.HistoryLocks.{products_of}
 -- lock that it names: that is `Mirror` with `Refusing`.
 pub record Numbers (compile : Compiler) (es : List Event) (next : Call) (r : Answer) : Type 0 where
   -- E: open calls closed
-  pub ended : (a n : ℕ) → decoded next ≡ WellFormed (EndThread a) → r ≡ Accepted n
-      → (t : Thread) → (history es).threads a ≡ some t → n ≡ length t.frames
+  pub ended : (a n : ℕ) → decoded next ≡ Some (EndThread a) → r ≡ Ok n
+      → (t : Thread) → (history es).threads a ≡ Some t → n ≡ length t.frames
   -- G and T: keys now in the list
-  pub key_given : (a b c n : ℕ) → decoded next ≡ WellFormed (GiveKey a b c) → r ≡ Accepted n
+  pub key_given : (a b c n : ℕ) → decoded next ≡ Some (GiveKey a b c) → r ≡ Ok n
       → n ≡ length (list_of (advance (history es) (event next r)) b)
-  pub key_taken : (a b c n : ℕ) → decoded next ≡ WellFormed (TakeKey a b c) → r ≡ Accepted n
+  pub key_taken : (a b c n : ℕ) → decoded next ≡ Some (TakeKey a b c) → r ≡ Ok n
       → n ≡ length (list_of (advance (history es) (event next r)) b)
   -- D: products removed, those of the lock's text
-  pub dropped : (a b n : ℕ) → decoded next ≡ WellFormed (DropLock a b) → r ≡ Accepted n
+  pub dropped : (a b n : ℕ) → decoded next ≡ Some (DropLock a b) → r ≡ Ok n
       → (l : Lock) → Memᴰ l (history es).locks → l.number ≡ b → n ≡ length (products_of compile l.text)
   -- R: the segment left
-  pub left : (a n : ℕ) → decoded next ≡ WellFormed (ReturnCall a) → r ≡ Accepted n
-      → (t : Thread) → (history es).threads a ≡ some t → (f : Frame) (fs : List Frame) → t.frames ≡ f ∷ fs
+  pub left : (a n : ℕ) → decoded next ≡ Some (ReturnCall a) → r ≡ Ok n
+      → (t : Thread) → (history es).threads a ≡ Some t → (f : Frame) (fs : List Frame) → t.frames ≡ f ∷ fs
       → n ≡ f.segment
   -- the standing locks are in the order of their numbers
   pub in_order : rising (map (λ l. l.number) (history es).locks) ≡ true

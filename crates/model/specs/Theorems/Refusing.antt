@@ -1,16 +1,14 @@
 -- Demand 1: 'Refused are calls .. that meet a condition in document 01's table, each by the first such number in its
 -- order and never otherwise, with the desk and every lent byte unchanged. Accepted is all the rest.' Over the arrays,
 -- whatever numbers are in them, and over every compiler. Proved in `proofs/Refusals/Refusing.antt`.
-use Rattle.std.specs.Prelude.{◌≡◌, Bool, true, false, ◌↔◌, ℕ, ◌≤◌, eqb}
+use Rattle.std.specs.Prelude.{◌≡◌, Bool, true, false, ◌↔◌, ℕ, ◌≤◌, eqb, Err, Some, None}
 use mathlib.Core.List.{List, [], ◌∷◌, ◌++◌, map, Memᴰ}
 use Rattle.formula.specs.Compiler.{Compiler}
 use Rattle.call.specs.declared.request.Request.{Request}
-use Rattle.call.specs.declared.request.Decoded.TheVariants.{WellFormed, Corrupt as NotWellFormed}
 use Rattle.call.specs.Calls.{Call, decoded}
 use Rattle.base.specs.Conditions.{Condition}
 use Rattle.model.specs.declared.answer.Refusal.{Refusal}
 use Rattle.model.specs.declared.answer.Refusal.TheVariants.{Corrupt}
-use Rattle.model.specs.declared.answer.Answer.TheVariants.{Refused}
 use Rattle.model.specs.Answers.{refusal_number, is_accepted}
 use Rattle.base.specs.Lists.{any, index_of, rising}
 use Rattle.model.specs.State.{State}
@@ -40,20 +38,20 @@ rank r = index_of (eqb (refusal_number r)) order
 
 pub record Refuses (compile : Compiler) (d : Cells) (x : Call) : Type 0 where
   -- 18 'before all else', exactly where the call is not well formed
-  pub corrupt : ((step_cells compile d x).answer ≡ Refused Corrupt) ↔ (decoded x ≡ NotWellFormed)
+  pub corrupt : ((step_cells compile d x).answer ≡ Err Corrupt) ↔ (decoded x ≡ None)
   -- a well formed call is refused exactly by the first of its conditions that holds, and accepted exactly where none
   -- does
-  pub refused : (q : Request) → decoded x ≡ WellFormed q → (r : Refusal)
-      → ((step_cells compile d x).answer ≡ Refused r) ↔ FirstHolds r (conditions compile (state_of d) q x.text)
-  pub accepted : (q : Request) → decoded x ≡ WellFormed q
+  pub refused : (q : Request) → decoded x ≡ Some q → (r : Refusal)
+      → ((step_cells compile d x).answer ≡ Err r) ↔ FirstHolds r (conditions compile (state_of d) q x.text)
+  pub accepted : (q : Request) → decoded x ≡ Some q
       → (is_accepted (step_cells compile d x).answer ≡ true)
       ↔ (some_holds (conditions compile (state_of d) q x.text) ≡ false)
   -- no condition that holds is earlier in the table
-  pub earliest : (q : Request) → decoded x ≡ WellFormed q → (r : Refusal) → (step_cells compile d x).answer ≡ Refused r
+  pub earliest : (q : Request) → decoded x ≡ Some q → (r : Refusal) → (step_cells compile d x).answer ≡ Err r
       → (c : Condition Refusal) → Memᴰ c (conditions compile (state_of d) q x.text) → c.holds ≡ true
       → rank r ≤ rank c.refusal
   -- a refusal changes no cell
-  pub unchanged : (r : Refusal) → (step_cells compile d x).answer ≡ Refused r → (step_cells compile d x).cells ≡ d
+  pub unchanged : (r : Refusal) → (step_cells compile d x).answer ≡ Err r → (step_cells compile d x).cells ≡ d
 
 abbrev pub Refusing : Type 0
 Refusing = (compile : Compiler) (d : Cells) (x : Call) → Refuses compile d x

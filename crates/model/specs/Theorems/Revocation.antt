@@ -1,18 +1,16 @@
 -- Request P5: 'An accepted T withdraws the key from every open call of that segment. Giving it again serves later calls
 -- only. The same key from another segment's open call is still held. So a still open call now hands over its list less
 -- what was taken since, and the history reads that way.' Proved in `proofs/Agreement/Revocation.antt`.
-use Rattle.std.specs.Prelude.{◌≡◌, true, false, ◌&&◌, ◌||◌, not, cond, ◌↔◌, ℕ, eqb}
+use Rattle.std.specs.Prelude.{◌≡◌, true, false, ◌&&◌, ◌||◌, not, cond, ◌↔◌, ℕ, eqb, Option, Some}
 use mathlib.Core.List.{List, [], ◌∷◌, ◌++◌, map, Memᴰ}
-use Rattle.std.proofs.Math.Option.{Option, some}
 use Rattle.product.specs.declared.literal.Key.{Key}
 use Rattle.product.specs.declared.literal.Key.TheVariants.{Segment as SegmentKey, Defined}
 use Rattle.formula.specs.Outcome.{outcome_of}
 use Rattle.call.specs.declared.request.Request.TheVariants.{TakeKey, ReturnCall}
-use Rattle.call.specs.declared.request.Decoded.TheVariants.{WellFormed}
 use Rattle.call.specs.Calls.{Call, decoded}
 use Rattle.call.specs.Letters as letters
 use Rattle.base.specs.Lists.{keep, tail_of, map_option}
-use Rattle.model.specs.declared.answer.Answer.{Answer}
+use Rattle.model.specs.Answers.{Answer}
 use Rattle.model.specs.Answers.{is_accepted, answer_value}
 use Rattle.model.specs.Threads.{Frame, Thread, same_key, is_in, hands}
 use Rattle.model.specs.State.{segment_at, thread_at}
@@ -93,9 +91,9 @@ lock_made x n = record { number = n; segment = x.b; operations = x.c; text = x.t
 -- before it.
 pub record Revokes (es : List Event) (next : Call) (r : Answer) : Type 0 where
   -- an accepted T, of every live thread, whosever it is
-  pub taken : (a b c : ℕ) → decoded next ≡ WellFormed (TakeKey a b c) → is_accepted r ≡ true
-      → (n : ℕ) (t : Thread) → (history es).threads n ≡ some t
-      → (u : Thread) × ((history (es ++ event next r ∷ [])).threads n ≡ some u) × (u.user ≡ t.user)
+  pub taken : (a b c : ℕ) → decoded next ≡ Some (TakeKey a b c) → is_accepted r ≡ true
+      → (n : ℕ) (t : Thread) → (history es).threads n ≡ Some t
+      → (u : Thread) × ((history (es ++ event next r ∷ [])).threads n ≡ Some u) × (u.user ≡ t.user)
       × AllWithdrawn b c t.frames u.frames
   -- a refused call, so also a T, withdraws nothing; that it changes no cell is `unchanged` of `Refusing`
   pub refused : is_accepted r ≡ false → history (es ++ event next r ∷ []) ≡ history es
@@ -109,30 +107,30 @@ pub record Revokes (es : List Event) (next : Call) (r : Answer) : Type 0 where
   -- a segment's kind is given by an accepted N, and standing locks by an accepted L until an accepted D; nothing else,
   -- so no T, changes them
   pub kinds : (s : ℕ) → kind_in (es ++ event next r ∷ []) s
-      ≡ cond (counts letters.N (event next r) && eqb s (answer_value r)) (some next.b) (kind_in es s)
+      ≡ cond (counts letters.N (event next r) && eqb s (answer_value r)) (Some next.b) (kind_in es s)
   pub locks : (history (es ++ event next r ∷ [])).locks
       ≡ cond (counts letters.L (event next r)) ((history es).locks ++ lock_made next (answer_value r) ∷ [])
       (cond (counts letters.D (event next r)) (keep (λ l. not (eqb l.number next.b)) (history es).locks)
       (history es).locks)
   -- R is accepted exactly where the thread has an open call, whatever that still hands over
-  pub returned : (a : ℕ) → decoded next ≡ WellFormed (ReturnCall a)
+  pub returned : (a : ℕ) → decoded next ≡ Some (ReturnCall a)
       → (is_accepted r ≡ true)
-      ↔ ((t : Thread) × (f : Frame) × (fs : List Frame) × ((history es).threads a ≡ some t) × (t.frames ≡ f ∷ fs))
+      ↔ ((t : Thread) × (f : Frame) × (fs : List Frame) × ((history es).threads a ≡ Some t) × (t.frames ≡ f ∷ fs))
 
 pub record Revocation : Type 0 where
   -- an open call hands over the keys that it has
   pub hands_exactly : (f : Frame) (k : Key) → (hands f k ≡ true) ↔ Memᴰ k f.keys
   pub revokes : (xs : List Call) (next : Call) → Revokes (events outcome_of xs) next (answer_to outcome_of xs next)
   -- the same of the arrays, whatever numbers are in them
-  pub withdrawn : (d : Cells) → Sized d → (next : Call) (a b c : ℕ) → decoded next ≡ WellFormed (TakeKey a b c)
+  pub withdrawn : (d : Cells) → Sized d → (next : Call) (a b c : ℕ) → decoded next ≡ Some (TakeKey a b c)
       → is_accepted (step_cells outcome_of d next).answer ≡ true → (n : ℕ)
       → AllWithdrawn b c (frames_at d n) (frames_at (step_cells outcome_of d next).cells n)
   -- 'a still open call now hands over its list less what was taken since'
-  pub handed : (xs : List Call) (n : ℕ) (t : Thread) → (history_of outcome_of xs).threads n ≡ some t
+  pub handed : (xs : List Call) (n : ℕ) (t : Thread) → (history_of outcome_of xs).threads n ≡ Some t
       → t.frames ≡ map handed_over (open_calls n (events outcome_of xs))
   -- So the D keys that an open call hands over are in its segment's list as it stands now: in the history, and in the
   -- arrays.
-  pub current : (xs : List Call) (n : ℕ) (t : Thread) → (history_of outcome_of xs).threads n ≡ some t
+  pub current : (xs : List Call) (n : ℕ) (t : Thread) → (history_of outcome_of xs).threads n ≡ Some t
       → (f : Frame) → Memᴰ f t.frames → (k : ℕ) → hands f (Defined k) ≡ true
       → is_in (Defined k) (list_of (history_of outcome_of xs) f.segment) ≡ true
   pub stored : (xs : List Call) (n : ℕ) (f : Frame) → Memᴰ f (frames_at (reached outcome_of xs) n)

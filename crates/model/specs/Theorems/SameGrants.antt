@@ -3,14 +3,12 @@
 -- included. It is said twice: of the next check, both answers read from the history of calls and answers; and of every
 -- list of calls, beside the model with the answers as they were, which are the history's. Proved in
 -- `proofs/Agreement/SameGrants.antt`.
-use Rattle.std.specs.Prelude.{◌≡◌, Bool, false, ◌||◌, cond, List, [], ◌∷◌, ◌↔◌, ℕ, eqb}
-use Rattle.std.proofs.Math.Option.{Option, none, some}
+use Rattle.std.specs.Prelude.{◌≡◌, Bool, false, ◌||◌, cond, List, [], ◌∷◌, ◌↔◌, ℕ, eqb, Ok, Err, Option, None, Some}
 use Rattle.formula.specs.Outcome.{outcome_of}
 use Rattle.formula.specs.Meaning.{text_holds, Meaning}
 use Rattle.formula.specs.Compiler.{Compiler}
 use Rattle.call.specs.declared.request.Request.{Request}
-use Rattle.call.specs.declared.request.Decoded.{Decoded}
-use Rattle.call.specs.declared.request.Decoded.TheVariants.{WellFormed, Corrupt as NotWellFormed}
+use Rattle.call.specs.Calls.{Decoded}
 use Rattle.call.specs.Calls.{Call, decoded}
 use Rattle.call.specs.Letters as letters
 use Rattle.call.specs.Requests.{call_of}
@@ -18,8 +16,7 @@ use Rattle.base.specs.Conditions.{first_refusal}
 use Rattle.base.specs.Lists.{first}
 use Rattle.model.specs.declared.answer.Refusal.{Refusal}
 use Rattle.model.specs.declared.answer.Refusal.TheVariants.{Corrupt}
-use Rattle.model.specs.declared.answer.Answer.{Answer}
-use Rattle.model.specs.declared.answer.Answer.TheVariants.{Accepted, Refused}
+use Rattle.model.specs.Answers.{Answer}
 use Rattle.model.specs.Answers.{is_accepted}
 use Rattle.model.specs.Operations.{execute, denies, grants}
 use Rattle.model.specs.Threads.{Thread}
@@ -34,7 +31,7 @@ use Rattle.model.specs.Replay.{reached, events, answer_to}
 -- accepted together, and refused alike
 pub record Alike (before now : Answer) : Type 0 where
   pub accepted : is_accepted now ≡ is_accepted before
-  pub refused : (r : Refusal) → (now ≡ Refused r) ↔ (before ≡ Refused r)
+  pub refused : (r : Refusal) → (now ≡ Err r) ↔ (before ≡ Err r)
 
 -- ---- of the next check, from the history
 
@@ -47,7 +44,7 @@ lowest_answer holds h o t =
 
 abbrev pub SameChecks : Meaning → List Event → Call → Answer → Type 0
 SameChecks holds es next r =
-    (o : Operation) (t : Thread) → Fits (history es) next o → (history es).threads (thread_of o) ≡ some t
+    (o : Operation) (t : Thread) → Fits (history es) next o → (history es).threads (thread_of o) ≡ Some t
     → Alike (lowest_answer holds (history es) o t) r
 
 -- ---- of every list of calls
@@ -66,12 +63,12 @@ module _ (compile : Compiler) where
       (answer compile d q text))
 
   abbrev pub judged_before : State → Request → List ℕ → Option Refusal → record { state : State; answer : Answer }
-  judged_before d q text none = record { state = update compile d q text; answer = Accepted (answer_before d q text) }
-  judged_before d q text (some r) = record { state = d; answer = Refused r }
+  judged_before d q text None = record { state = update compile d q text; answer = Ok (answer_before d q text) }
+  judged_before d q text (Some r) = record { state = d; answer = Err r }
 
   abbrev pub decoded_before : State → Decoded → List ℕ → record { state : State; answer : Answer }
-  decoded_before d NotWellFormed text = record { state = d; answer = Refused Corrupt }
-  decoded_before d (WellFormed q) text = judged_before d q text (first_refusal (conditions compile d q text))
+  decoded_before d None text = record { state = d; answer = Err Corrupt }
+  decoded_before d (Some q) text = judged_before d q text (first_refusal (conditions compile d q text))
 
   unfoldable pub step_before : State → Call → record { state : State; answer : Answer }
   step_before d x = decoded_before d (decoded x) x.text
@@ -89,14 +86,14 @@ module _ (compile : Compiler) where
     pub state : state_of (reached compile xs) ≡ state_before empty_state xs
     pub answers : Alike (step_before (state_before empty_state xs) next).answer (answer_to compile xs next)
     -- what isn't checked is answered as before
-    pub others : (q : Request) → decoded next ≡ WellFormed q → is_checked q ≡ false
+    pub others : (q : Request) → decoded next ≡ Some q → is_checked q ≡ false
         → answer_to compile xs next ≡ (step_before (state_before empty_state xs) next).answer
 
 -- the two answers as they were are one: the model's is the lowest grant lock's that opens, as the history tells it
 abbrev pub SameBefore : Compiler → Meaning → List Call → Call → Type 0
 SameBefore compile holds xs next =
     let h = history (events compile xs) in
-    (o : Operation) (t : Thread) → Fits h next o → h.threads (thread_of o) ≡ some t
+    (o : Operation) (t : Thread) → Fits h next o → h.threads (thread_of o) ≡ Some t
     → (step_before compile (state_before compile empty_state xs) next).answer ≡ lowest_answer holds h o t
 
 pub record SameGrants : Type 0 where

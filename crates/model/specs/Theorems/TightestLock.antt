@@ -3,18 +3,15 @@
 -- locks keep their order.' From the list of calls and answers before a live thread's fitting C or A, and in words:
 -- `greatest` and `tightness`, by which the answer is worked out, don't stand here. Which C and A fit is `Fitting`, and
 -- that the grants are the same set as before is `SameGrants`. Proved in `proofs/Agreement/TightestLock.antt`.
-use Rattle.std.specs.Prelude.{◌≡◌, true, ◌↔◌, ℕ, ◌≤◌, length}
+use Rattle.std.specs.Prelude.{◌≡◌, true, ◌↔◌, ℕ, ◌≤◌, length, Ok, Err, Some}
 use mathlib.Core.List.{List, Memᴰ}
-use Rattle.std.proofs.Math.Option.{some}
 use Rattle.product.specs.Product.{Product, opens}
 use Rattle.formula.specs.Outcome.{outcome_of}
 use Rattle.formula.specs.Meaning.{text_holds, Meaning}
 use Rattle.formula.specs.Compiler.{Compiler, Laws}
-use Rattle.call.specs.declared.request.Decoded.TheVariants.{WellFormed}
 use Rattle.call.specs.Calls.{Call, decoded}
 use Rattle.model.specs.declared.answer.Refusal.TheVariants.{Denied}
-use Rattle.model.specs.declared.answer.Answer.{Answer}
-use Rattle.model.specs.declared.answer.Answer.TheVariants.{Accepted, Refused}
+use Rattle.model.specs.Answers.{Answer}
 use Rattle.model.specs.Answers.{is_accepted}
 use Rattle.model.specs.Operations.{denies, grants}
 use Rattle.model.specs.Threads.{Thread, key_set}
@@ -53,26 +50,26 @@ module _ (compile : Compiler) (holds : Meaning) (h : History) (o : Operation) (t
   -- The answer r. An accepted one is the tightest lock's number, and whatever number is the tightest lock's is the one
   -- answered. 14 comes with the lowest deny lock's, exactly where one opens.
   pub record AnswersTightest (r : Answer) : Type 0 where
-    pub tightest : (n : ℕ) → r ≡ Accepted n → Tightest n
-    pub only : (n : ℕ) → is_accepted r ≡ true → Tightest n → r ≡ Accepted n
-    pub denied : (n : ℕ) → (r ≡ Refused (Denied n)) ↔ LowestDeny n
+    pub tightest : (n : ℕ) → r ≡ Ok n → Tightest n
+    pub only : (n : ℕ) → is_accepted r ≡ true → Tightest n → r ≡ Ok n
+    pub denied : (n : ℕ) → (r ≡ Err (Denied n)) ↔ LowestDeny n
 
 -- What the events before the next call say of its answer r.
 abbrev pub AnswersBy : Compiler → Meaning → List Event → Call → Answer → Type 0
 AnswersBy compile holds es next r =
-    (o : Operation) (t : Thread) → Fits (history es) next o → (history es).threads (thread_of o) ≡ some t
+    (o : Operation) (t : Thread) → Fits (history es) next o → (history es).threads (thread_of o) ≡ Some t
     → AnswersTightest compile holds (history es) o t r
 
 -- an accepted C or A, of whatever thread and segment: its answer is the tightest lock's number
 pub record AcceptedTightest (compile : Compiler) (holds : Meaning) (h : History) (o : Operation) (n : ℕ) : Type 0 where
   pub thread : Thread
-  pub live : h.threads (thread_of o) ≡ some thread
+  pub live : h.threads (thread_of o) ≡ Some thread
   pub tightest : Tightest compile holds h o thread n
 
 pub record AnswersAfter (compile : Compiler) (holds : Meaning) (xs : List Call) (next : Call) : Type 0 where
   pub fitting : AnswersBy compile holds (events compile xs) next (answer_to compile xs next)
-  pub accepted : (o : Operation) (n : ℕ) → decoded next ≡ WellFormed (request_of o)
-      → answer_to compile xs next ≡ Accepted n → AcceptedTightest compile holds (history (events compile xs)) o n
+  pub accepted : (o : Operation) (n : ℕ) → decoded next ≡ Some (request_of o)
+      → answer_to compile xs next ≡ Ok n → AcceptedTightest compile holds (history (events compile xs)) o n
 
 -- for whatever compiler keeps the laws
 abbrev pub TightestLockByLaws : Type 0

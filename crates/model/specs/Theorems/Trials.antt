@@ -2,8 +2,7 @@
 -- and often with a later one that holds too; calls that are not well formed; who edits; what a T withdraws; which lock
 -- answers; the limits from both sides; and places that are freed and used again. Each letter of the table of calls
 -- occurs accepted and refused. Proved in `proofs/Computed/Trials.antt`, by computing.
-use Rattle.std.specs.Prelude.{◌≡◌, Bool, true, false, ◌&&◌, ◌||◌, not, List, [], ◌∷◌, ◌++◌, map, ℕ, ◌+◌, eqb, length, replicate}
-use Rattle.std.proofs.Math.Option.{Option, none, some}
+use Rattle.std.specs.Prelude.{◌≡◌, Bool, true, false, ◌&&◌, ◌||◌, not, List, [], ◌∷◌, ◌++◌, map, ℕ, ◌+◌, eqb, length, replicate, Option, None, Some}
 use Rattle.product.specs.declared.literal.Key.{Key}
 use Rattle.product.specs.declared.literal.Key.TheVariants.{Segment as SegmentKey, Defined}
 use Rattle.formula.specs.Outcome.{outcome_of}
@@ -501,26 +500,26 @@ pub record Trials : Type 0 where
   pub editors_happen : Happens editors
   -- whose threads 0 to 5, segments 0 to 3 and keys are then, by the history
   pub editors_users : map (user_in (events outcome_of (calls_of editors))) (0 ∷ 1 ∷ 2 ∷ 3 ∷ 4 ∷ 5 ∷ [])
-      ≡ some 1 ∷ none ∷ some 0 ∷ some 3 ∷ some 2 ∷ some 3 ∷ []
+      ≡ Some 1 ∷ None ∷ Some 0 ∷ Some 3 ∷ Some 2 ∷ Some 3 ∷ []
   pub editors_owners : map (owner_in (events outcome_of (calls_of editors))) (0 ∷ 1 ∷ 2 ∷ 3 ∷ [])
-      ≡ some 0 ∷ some 3 ∷ some 2 ∷ none ∷ []
+      ≡ Some 0 ∷ Some 3 ∷ Some 2 ∷ None ∷ []
   pub editors_makers : makers_of (events outcome_of (calls_of editors)) ≡ 0 ∷ 3 ∷ []
   pub revoked_happens : Happens revoked
   -- what the open calls of threads 0 to 2 hand over before the withdrawal, after it and at the end
   pub handed_before : map (hands_then in_progress) (0 ∷ 1 ∷ 2 ∷ [])
-      ≡ some (opened 0 (Defined 0 ∷ Defined 1 ∷ []) ∷ [])
-      ∷ some (opened 0 (Defined 0 ∷ Defined 1 ∷ []) ∷ opened 0 (Defined 0 ∷ Defined 1 ∷ []) ∷ [])
-      ∷ some (opened 1 (Defined 0 ∷ []) ∷ opened 0 (Defined 0 ∷ Defined 1 ∷ []) ∷ [])
+      ≡ Some (opened 0 (Defined 0 ∷ Defined 1 ∷ []) ∷ [])
+      ∷ Some (opened 0 (Defined 0 ∷ Defined 1 ∷ []) ∷ opened 0 (Defined 0 ∷ Defined 1 ∷ []) ∷ [])
+      ∷ Some (opened 1 (Defined 0 ∷ []) ∷ opened 0 (Defined 0 ∷ Defined 1 ∷ []) ∷ [])
       ∷ []
   pub handed_after : map (hands_then (in_progress ++ withdrawal)) (0 ∷ 1 ∷ 2 ∷ [])
-      ≡ some (opened 0 (Defined 1 ∷ []) ∷ [])
-      ∷ some (opened 0 (Defined 1 ∷ []) ∷ opened 0 (Defined 1 ∷ []) ∷ [])
-      ∷ some (opened 1 (Defined 0 ∷ []) ∷ opened 0 (Defined 1 ∷ []) ∷ [])
+      ≡ Some (opened 0 (Defined 1 ∷ []) ∷ [])
+      ∷ Some (opened 0 (Defined 1 ∷ []) ∷ opened 0 (Defined 1 ∷ []) ∷ [])
+      ∷ Some (opened 1 (Defined 0 ∷ []) ∷ opened 0 (Defined 1 ∷ []) ∷ [])
       ∷ []
   pub handed_last : map (hands_then revoked) (0 ∷ 1 ∷ 2 ∷ [])
-      ≡ some (opened 0 (Defined 1 ∷ []) ∷ [])
-      ∷ none
-      ∷ some (opened 0 (Defined 1 ∷ []) ∷ [])
+      ≡ Some (opened 0 (Defined 1 ∷ []) ∷ [])
+      ∷ None
+      ∷ Some (opened 0 (Defined 1 ∷ []) ∷ [])
       ∷ []
   pub several_happen : Happens several_locks
   pub products_happen : Happens locks_of_products

@@ -2,13 +2,12 @@
 -- threads and 32 bits of counts and lock rows, and the call's fields have 16 bits, it is so after the call, and an
 -- accepted call's answer and a refusal's second number have 16 bits. So it is after every list of such calls from the
 -- empty state. Proved in `proofs/Limits/Widths.antt`.
-use Rattle.std.specs.Prelude.{◌≡◌, List, [], ◌∷◌, ℕ, ◌<◌}
+use Rattle.std.specs.Prelude.{◌≡◌, List, [], ◌∷◌, ℕ, ◌<◌, Ok, Err}
 use Rattle.formula.specs.Outcome.{outcome_of}
 use Rattle.formula.specs.Compiler.{Compiler, Laws}
 use Rattle.formula.specs.Meaning.{Meaning}
 use Rattle.call.specs.Calls.{Call}
 use Rattle.model.specs.declared.answer.Refusal.{Refusal}
-use Rattle.model.specs.declared.answer.Answer.TheVariants.{Accepted, Refused}
 use Rattle.model.specs.Answers.{second_number}
 use Rattle.model.specs.Cells.{Cells, Sized, cell, row_at, table_at}
 use Rattle.model.specs.Stores.{step_cells}
@@ -35,8 +34,8 @@ pub record Fields (x : Call) : Type 0 where
 
 pub record Contained (compile : Compiler) (d : Cells) (x : Call) : Type 0 where
   pub stored : Fitting (step_cells compile d x).cells
-  pub answered : (n : ℕ) → (step_cells compile d x).answer ≡ Accepted n → n < word
-  pub refused : (r : Refusal) → (step_cells compile d x).answer ≡ Refused r → second_number r < word
+  pub answered : (n : ℕ) → (step_cells compile d x).answer ≡ Ok n → n < word
+  pub refused : (r : Refusal) → (step_cells compile d x).answer ≡ Err r → second_number r < word
 
 abbrev pub WidthsByLaws : Type 0
 WidthsByLaws =

@@ -1,7 +1,6 @@
 -- Worked examples of products and sums, by document 01's 'Lock text', each answer written out. Proved in
 -- `proofs/Examples.antt`, by computing.
-use Rattle.std.specs.Prelude.{◌≡◌, Bool, true, false, List, [], ◌∷◌, map, ℕ, replicate}
-use Rattle.std.proofs.Math.Option.{none, some}
+use Rattle.std.specs.Prelude.{◌≡◌, Bool, true, false, List, [], ◌∷◌, map, ℕ, replicate, None, Some}
 use Rattle.product.specs.declared.literal.Key.TheVariants.{User, Thread, Segment}
 use Rattle.product.specs.declared.literal.Literal.TheVariants.{Plain, Barred}
 use Rattle.product.specs.Product.{Product, opens, union, contradictory, same_product}
@@ -58,9 +57,9 @@ pub record Examples : Type 0 where
   pub barred_alone : opens_for [] (barred 0 ∷ []) ≡ true
   pub plain_alone : opens_for [] (plain 0 ∷ []) ≡ false
   -- one product that opens is enough, and none of a sum that is too wide does
-  pub second_opens : opens_sum (held_by (196609 ∷ [])) (some ((plain 0 ∷ []) ∷ (plain 1 ∷ []) ∷ [])) ≡ true
-  pub none_opens : opens_sum (held_by (196610 ∷ [])) (some ((plain 0 ∷ []) ∷ (plain 1 ∷ []) ∷ [])) ≡ false
-  pub wide_opens : opens_sum (held_by (196608 ∷ [])) none ≡ false
+  pub second_opens : opens_sum (held_by (196609 ∷ [])) (Some ((plain 0 ∷ []) ∷ (plain 1 ∷ []) ∷ [])) ≡ true
+  pub none_opens : opens_sum (held_by (196610 ∷ [])) (Some ((plain 0 ∷ []) ∷ (plain 1 ∷ []) ∷ [])) ≡ false
+  pub wide_opens : opens_sum (held_by (196608 ∷ [])) None ≡ false
   -- OR joins the left list and the right, and of repeats the first stays
   pub either : disjoin ((plain 1 ∷ []) ∷ (plain 0 ∷ []) ∷ []) ((plain 2 ∷ []) ∷ (plain 1 ∷ []) ∷ [])
       ≡ (plain 1 ∷ []) ∷ (plain 0 ∷ []) ∷ (plain 2 ∷ []) ∷ []
@@ -69,12 +68,12 @@ pub record Examples : Type 0 where
       ≡ (plain 0 ∷ plain 2 ∷ []) ∷ (plain 1 ∷ plain 2 ∷ []) ∷ (barred 0 ∷ plain 1 ∷ []) ∷ []
   -- a node fits with 8 products and not with 9, of 6 literals and not of 7
   pub eight : cap (map (λ n. plain n ∷ []) (0 ∷ 1 ∷ 2 ∷ 3 ∷ 4 ∷ 5 ∷ 6 ∷ 7 ∷ []))
-      ≡ some (map (λ n. plain n ∷ []) (0 ∷ 1 ∷ 2 ∷ 3 ∷ 4 ∷ 5 ∷ 6 ∷ 7 ∷ []))
-  pub nine : cap (map (λ n. plain n ∷ []) (0 ∷ 1 ∷ 2 ∷ 3 ∷ 4 ∷ 5 ∷ 6 ∷ 7 ∷ 8 ∷ [])) ≡ none
-  pub six : cap (map plain (0 ∷ 1 ∷ 2 ∷ 3 ∷ 4 ∷ 5 ∷ []) ∷ []) ≡ some (map plain (0 ∷ 1 ∷ 2 ∷ 3 ∷ 4 ∷ 5 ∷ []) ∷ [])
-  pub seven : cap ((plain 0 ∷ []) ∷ map plain (0 ∷ 1 ∷ 2 ∷ 3 ∷ 4 ∷ 5 ∷ 6 ∷ []) ∷ []) ≡ none
-  pub wide_left : joined disjoin none (some []) ≡ none
-  pub wide_right : joined disjoin (some []) none ≡ none
+      ≡ Some (map (λ n. plain n ∷ []) (0 ∷ 1 ∷ 2 ∷ 3 ∷ 4 ∷ 5 ∷ 6 ∷ 7 ∷ []))
+  pub nine : cap (map (λ n. plain n ∷ []) (0 ∷ 1 ∷ 2 ∷ 3 ∷ 4 ∷ 5 ∷ 6 ∷ 7 ∷ 8 ∷ [])) ≡ None
+  pub six : cap (map plain (0 ∷ 1 ∷ 2 ∷ 3 ∷ 4 ∷ 5 ∷ []) ∷ []) ≡ Some (map plain (0 ∷ 1 ∷ 2 ∷ 3 ∷ 4 ∷ 5 ∷ []) ∷ [])
+  pub seven : cap ((plain 0 ∷ []) ∷ map plain (0 ∷ 1 ∷ 2 ∷ 3 ∷ 4 ∷ 5 ∷ 6 ∷ []) ∷ []) ≡ None
+  pub wide_left : joined disjoin None (Some []) ≡ None
+  pub wide_right : joined disjoin (Some []) None ≡ None
   -- the number of a cell: twice the key's, and 1 more where it is barred; 65,536 keys of a kind
   pub codes :
       map code_of
@@ -90,5 +89,5 @@ pub record Examples : Type 0 where
   pub rows : rows_of ((barred 0 ∷ barred 1 ∷ []) ∷ [])
       ≡ (393217 ∷ 393219 ∷ 0 ∷ 0 ∷ 0 ∷ 0 ∷ 0 ∷ 2 ∷ []) ∷ replicate 7 blank_row
   pub first_rows : sum_of 1 ((1 ∷ 0 ∷ 0 ∷ 0 ∷ 0 ∷ 0 ∷ 0 ∷ 1 ∷ []) ∷ replicate 7 blank_row)
-      ≡ some ((Barred (User 0) ∷ []) ∷ [])
-  pub too_many_rows : sum_of 9 (replicate 8 blank_row) ≡ none
+      ≡ Some ((Barred (User 0) ∷ []) ∷ [])
+  pub too_many_rows : sum_of 9 (replicate 8 blank_row) ≡ None

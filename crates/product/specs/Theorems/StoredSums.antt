@@ -1,7 +1,6 @@
 -- What is stored as numbers is read back: a literal whose key has a number of 16 bits, a product of such literals that
 -- fits a row, and a sum of such products that fits 8 rows. Proved in `proofs/StoredSums.antt`.
-use Rattle.std.specs.Prelude.{◌≡◌, ℕ, ◌≤◌, ◌<◌, length}
-use Rattle.std.proofs.Math.Option.{some}
+use Rattle.std.specs.Prelude.{◌≡◌, ℕ, ◌≤◌, ◌<◌, length, Some}
 use Rattle.product.specs.declared.literal.Literal.{Literal}
 use Rattle.product.specs.Product.{Product, All}
 use Rattle.product.specs.Sum.{Sum, most_products, most_literals}
@@ -23,4 +22,4 @@ abbrev pub ProductBack : Type 0
 ProductBack = (p : Product) → Storable p → product_of (row_of p) ≡ p
 
 abbrev pub SumBack : Type 0
-SumBack = (ps : Sum) → length ps ≤ most_products → All Storable ps → sum_of (length ps) (rows_of ps) ≡ some ps
+SumBack = (ps : Sum) → length ps ≤ most_products → All Storable ps → sum_of (length ps) (rows_of ps) ≡ Some ps

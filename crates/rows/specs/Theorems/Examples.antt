@@ -1,12 +1,11 @@
 -- Listings worked out by hand, after calls that make three locks on a sheet: lock 0 grants writing, lock 1 denies
 -- reading and writing and has two products, lock 3 grants reading (lock 2 was dropped). Proved in
 -- `proofs/Examples.antt`, by computing.
-use Rattle.std.specs.Prelude.{◌≡◌, List, [], ◌∷◌, ◌++◌, ℕ, replicate}
+use Rattle.std.specs.Prelude.{◌≡◌, List, [], ◌∷◌, ◌++◌, ℕ, replicate, Ok}
 use Rattle.product.specs.declared.literal.Key.TheVariants.{User, Thread, Segment, Defined}
 use Rattle.product.specs.declared.literal.Literal.TheVariants.{Plain, Barred}
 use Rattle.formula.specs.Outcome.{outcome_of}
 use Rattle.base.specs.Bytes.{bytes}
-use Rattle.model.specs.declared.answer.Answer.TheVariants.{Accepted}
 use Rattle.model.specs.Answers.{answer_number, answer_value}
 use Rattle.base.specs.Lists.{concat_map}
 use Rattle.model.specs.State.{State, segment_at}
@@ -112,7 +111,7 @@ scribbles n = replicate n scribble
 
 -- user u, who lends n scribbled rows, gets so many rows of segment s, and these stand in the lent rows afterwards
 abbrev pub Gets : State → ℕ → ℕ → ℕ → ℕ → List Row → Type 0
-Gets d u s n count rows = listed d u s (scribbles n) ≡ record { answer = Accepted count; rows = rows }
+Gets d u s n count rows = listed d u s (scribbles n) ≡ record { answer = Ok count; rows = rows }
 
 -- and here is refused by document 01's or 02's number, and gets his rows back as they were
 abbrev pub Fails : State → ℕ → ℕ → ℕ → ℕ → Type 0

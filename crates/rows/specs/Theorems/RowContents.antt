@@ -1,22 +1,20 @@
 -- A row has all of a lock and of a product that fits: nothing is cut, and nothing is changed. Proved in
 -- `proofs/RowContents.antt`.
-use Rattle.std.specs.Prelude.{◌≡◌, cond, List, [], ◌∷◌, ℕ, ◌+◌, ◌≤◌, ◌<◌, length}
+use Rattle.std.specs.Prelude.{◌≡◌, cond, List, [], ◌∷◌, ℕ, ◌+◌, ◌≤◌, ◌<◌, length, Option, None, Some}
+use Rattle.product.specs.declared.literal.Literal.{Literal}
 use Rattle.product.specs.Product.{Product}
 use Rattle.product.specs.Sum.{most_literals}
 use Rattle.model.specs.Operations.{deny, operation_sets}
-use Rattle.rows.specs.declared.row.Content.{Content}
-use Rattle.rows.specs.declared.row.Content.TheVariants.{Blank, Signed}
-use Rattle.rows.specs.declared.row.Slot.{Slot}
 use Rattle.rows.specs.Rows.{list_row}
 
-abbrev pub and_signed : Content → Product → Product
-and_signed Blank p = p
-and_signed (Signed x) p = x ∷ p
+abbrev pub and_signed : Option Literal → Product → Product
+and_signed None p = p
+and_signed (Some x) p = x ∷ p
 
 -- the signed keys of slots
-abbrev pub signed_in : List Slot → Product
+abbrev pub signed_in : List (Option Literal) → Product
 signed_in [] = []
-signed_in (s ∷ ss) = and_signed s.content (signed_in ss)
+signed_in (s ∷ ss) = and_signed s (signed_in ss)
 
 -- the row of lock n with a set of operations and the keys of a product
 pub record RowContents : Type 0 where

@@ -1,14 +1,23 @@
 -- The thread's place, and the newest frame of its table.
-use Rattle.search.proofs.ThreadSearched.{missing, at_place_lem, at_none}
+use Rattle.std.proofs.Common.{rules}
+use Rattle.std.specs.Prelude.{Err}
+use Rattle.std.specs.Option.{option_map}
+use mathlib.Core.Path.{◌≡◌, ap, ◌∙◌}
+use Rattle.model.specs.declared.answer.Refusal.TheVariants.{NoThread}
+use Rattle.model.specs.Cells.{threads_are}
+use Rattle.search.specs.Searching.{Searched}
+use Rattle.search.proofs.Exactly.{found}
+use Rattle.search.proofs.ThreadSearched.{same_value, missing, at_place}
 use Rattle.search.proofs.find_key.Goals as goal
 
-pub returns-then-place-ge-MOST_THREADS : goal.returns-then-place-ge-MOST_THREADS
-returns-then-place-ge-MOST_THREADS c = λ d. missing _ _ _ _ c.find-place.ensures c.if-place-ge-MOST_THREADS.true
+pub returns-in_err-place : goal.returns-in_err-place
+returns-in_err-place c =
+    let refused : ◌≡◌ {A = Searched} c.from_residual.result (Err NoThread) = search rules in
+    λ d. refused ∙ missing (threads_are c.args.threads.now d) c.args.key (rw c.in_err-place.ensures.ok_part at c.find.ensures)
 
-pub returns-then-newest-lt-MOST_FRAMES : goal.returns-then-newest-lt-MOST_FRAMES
-returns-then-newest-lt-MOST_FRAMES c = λ d.
-    at_place_lem _ _ _ _ c.find-place.ensures c.if-place-ge-MOST_THREADS.false c.newest_call-newest.ensures c.if-newest-lt-MOST_FRAMES.true
-
-pub returns-else-newest-lt-MOST_FRAMES : goal.returns-else-newest-lt-MOST_FRAMES
-returns-else-newest-lt-MOST_FRAMES c = λ d.
-    at_none _ _ _ _ c.find-place.ensures c.if-place-ge-MOST_THREADS.false c.newest_call-newest.ensures c.if-newest-lt-MOST_FRAMES.false
+pub returns : goal.returns
+returns c =
+    let same : c.map.result ≡ option_map (λ x. x) c.newest_call.result = search rules in
+    λ d.
+    ap found (same ∙ same_value c.newest_call.result)
+    ∙ at_place (threads_are c.args.threads.now d) c.args.key (rw c.in_ok-place.ensures.ok_part at c.find.ensures) c.newest_call.ensures

@@ -1,6 +1,6 @@
 -- Searches worked out by hand, after a list of calls: which open call of a thread hands a key over, the newest first.
 -- Proved in `proofs/Examples.antt`, by computing.
-use Rattle.std.specs.Prelude.{◌≡◌, true, false, List, [], ◌∷◌, ◌++◌, map, ℕ, replicate}
+use Rattle.std.specs.Prelude.{◌≡◌, true, false, List, [], ◌∷◌, ◌++◌, map, ℕ, replicate, Ok, Err, None, Some}
 use Rattle.base.specs.Bytes.{bytes}
 use Rattle.product.specs.declared.literal.Key.TheVariants.{User, Thread, Segment, Defined}
 use Rattle.formula.specs.Outcome.{outcome_of}
@@ -10,9 +10,7 @@ use Rattle.model.specs.Cells.{state_of}
 use Rattle.model.specs.History.{Event}
 use Rattle.model.specs.Replay.{reached, events}
 use Rattle.model.specs.Notation.{Expected, U, S, E, N, K, G, T, L, C, R, ok, no, Happens, calls_of}
-use Rattle.search.specs.declared.Searched.{Searched}
-use Rattle.search.specs.declared.Searched.TheVariants.{At, Nowhere, Refused}
-use Rattle.search.specs.Searching.{searched, searched_number, searched_value, is_found}
+use Rattle.search.specs.Searching.{Searched, searched, searched_number, searched_value, is_found}
 use Rattle.search.specs.Theorems.KeySets.{is_own_key}
 use Rattle.search.specs.Theorems.HandedOut.{can_be_listed, can_be_listed_after}
 
@@ -88,47 +86,47 @@ pub record Examples : Type 0 where
   pub return_happens : Happens (office ++ route ++ return)
   pub deep_happens : Happens (office ++ route ++ deep)
   -- S1 is in two lists, D0 in three: the newest one's place; D3 is only in the oldest call
-  pub newest : searched desk 0 (Segment 2) ≡ At 0
-  pub second : searched desk 0 (Segment 1) ≡ At 1
-  pub shared : searched desk 0 (Defined 0) ≡ At 1
-  pub oldest : searched desk 0 (Segment 0) ≡ At 3
-  pub oldest_only : searched desk 0 (Defined 3) ≡ At 3
+  pub newest : searched desk 0 (Segment 2) ≡ Ok (Some 0)
+  pub second : searched desk 0 (Segment 1) ≡ Ok (Some 1)
+  pub shared : searched desk 0 (Defined 0) ≡ Ok (Some 1)
+  pub oldest : searched desk 0 (Segment 0) ≡ Ok (Some 3)
+  pub oldest_only : searched desk 0 (Defined 3) ≡ Ok (Some 3)
   -- taken since, and given again after the calls were made; given after the call was made
-  pub taken : searched desk 0 (Defined 1) ≡ Nowhere
-  pub given : searched desk 0 (Defined 2) ≡ Nowhere
+  pub taken : searched desk 0 (Defined 1) ≡ Ok None
+  pub given : searched desk 0 (Defined 2) ≡ Ok None
   -- its own U and R keys, held but handed over by no call; and another user's
-  pub own_user : searched desk 0 (User 0) ≡ Nowhere
-  pub own_thread : searched desk 0 (Thread 0) ≡ Nowhere
-  pub other_user : searched desk 0 (User 1) ≡ Nowhere
+  pub own_user : searched desk 0 (User 0) ≡ Ok None
+  pub own_thread : searched desk 0 (Thread 0) ≡ Ok None
+  pub other_user : searched desk 0 (User 1) ≡ Ok None
   -- never handed out: no 4
-  pub no_segment : searched desk 0 (Segment 3) ≡ Nowhere
-  pub no_key : searched desk 0 (Defined 4) ≡ Nowhere
+  pub no_segment : searched desk 0 (Segment 3) ≡ Ok None
+  pub no_key : searched desk 0 (Defined 4) ≡ Ok None
   -- in the cells of a list D0, D1 are 64 and 65, no key is 65535; and 65536, in 16 bits, would be S0
-  pub segment64 : searched desk 0 (Segment 64) ≡ Nowhere
-  pub segment65 : searched desk 0 (Segment 65) ≡ Nowhere
-  pub segment65535 : searched desk 0 (Segment 65535) ≡ Nowhere
-  pub defined65471 : searched desk 0 (Defined 65471) ≡ Nowhere
-  pub defined65472 : searched desk 0 (Defined 65472) ≡ Nowhere
-  pub defined65473 : searched desk 0 (Defined 65473) ≡ Nowhere
+  pub segment64 : searched desk 0 (Segment 64) ≡ Ok None
+  pub segment65 : searched desk 0 (Segment 65) ≡ Ok None
+  pub segment65535 : searched desk 0 (Segment 65535) ≡ Ok None
+  pub defined65471 : searched desk 0 (Defined 65471) ≡ Ok None
+  pub defined65472 : searched desk 0 (Defined 65472) ≡ Ok None
+  pub defined65473 : searched desk 0 (Defined 65473) ≡ Ok None
   -- thread 1, which has D2
-  pub another : searched desk 1 (Defined 2) ≡ At 0
-  pub another_lacks : searched desk 1 (Segment 1) ≡ Nowhere
+  pub another : searched desk 1 (Defined 2) ≡ Ok (Some 0)
+  pub another_lacks : searched desk 1 (Segment 1) ≡ Ok None
   -- ended, and never started: 2 before all else
-  pub ended : searched desk 2 (Segment 0) ≡ Refused NoThread
-  pub ended_own : searched desk 2 (User 0) ≡ Refused NoThread
-  pub unknown : searched desk 3 (Segment 64) ≡ Refused NoThread
+  pub ended : searched desk 2 (Segment 0) ≡ Err NoThread
+  pub ended_own : searched desk 2 (User 0) ≡ Err NoThread
+  pub unknown : searched desk 3 (Segment 64) ≡ Err NoThread
   -- after the return, and at depth 16: places count all open calls, whatever they hand over
-  pub returned : searched after_return 0 (Segment 2) ≡ Nowhere
-  pub returned_first : searched after_return 0 (Defined 0) ≡ At 0
-  pub returned_last : searched after_return 0 (Segment 0) ≡ At 2
-  pub deep_first : searched at_depth 0 (Segment 2) ≡ At 0
-  pub deep_shared : searched at_depth 0 (Defined 0) ≡ At 13
-  pub deep_last : searched at_depth 0 (Segment 0) ≡ At 15
+  pub returned : searched after_return 0 (Segment 2) ≡ Ok None
+  pub returned_first : searched after_return 0 (Defined 0) ≡ Ok (Some 0)
+  pub returned_last : searched after_return 0 (Segment 0) ≡ Ok (Some 2)
+  pub deep_first : searched at_depth 0 (Segment 2) ≡ Ok (Some 0)
+  pub deep_shared : searched at_depth 0 (Defined 0) ≡ Ok (Some 13)
+  pub deep_last : searched at_depth 0 (Segment 0) ≡ Ok (Some 15)
   -- the numbers of each kind of answer, and whether the key is found
-  pub place : numbers (At 3) ≡ (0, 3)
-  pub none : numbers Nowhere ≡ (0, 65535)
-  pub no_thread : numbers (Refused NoThread) ≡ (2, 0)
-  pub found : map is_found (At 3 ∷ Nowhere ∷ Refused NoThread ∷ []) ≡ true ∷ false ∷ false ∷ []
+  pub place : numbers (Ok (Some 3)) ≡ (0, 3)
+  pub none : numbers (Ok None) ≡ (0, 65535)
+  pub no_thread : numbers (Err NoThread) ≡ (2, 0)
+  pub found : map is_found (Ok (Some 3) ∷ Ok None ∷ Err NoThread ∷ []) ≡ true ∷ false ∷ false ∷ []
   -- thread 0's own keys are U0 and R0, and those of a thread 2 of user 1 are U1 and R2
   pub own : map (is_own_key 0 (thread_at desk 0)) (User 0 ∷ User 1 ∷ Thread 0 ∷ Thread 1 ∷ Segment 0 ∷ Defined 0 ∷ [])
       ≡ true ∷ false ∷ true ∷ false ∷ false ∷ false ∷ []

@@ -5,9 +5,9 @@ use Rattle.model.specs.Cells.{cells_with}
 use Rattle.transcript.proofs.ReplayLoop.{ReplayLoop}
 use Rattle.transcript.proofs.replay.Given as goal
 
-abbrev pub invariant-loop-at : goal.invariant-loop-at
-invariant-loop-at l =
+abbrev pub invariant-loop-entry : goal.invariant-loop-entry
+invariant-loop-entry l =
     ReplayLoop l.file (cells_with l.initial.registry l.initial.makers l.initial.segments l.initial.locks l.initial.threads) l.initial.buffer (cells_with l.registry l.makers l.segments l.locks l.threads) l.buffer l.at l.place l.used
 
-abbrev pub decreases-loop-at : goal.decreases-loop-at
-decreases-loop-at l = length l.file - l.at
+abbrev pub decreases-loop-entry : goal.decreases-loop-entry
+decreases-loop-entry l = length l.file - l.at

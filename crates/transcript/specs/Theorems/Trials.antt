@@ -1,7 +1,7 @@
 -- The starred trials of document 01's 'Trial desks' as one theorem, `StarredTrials`, with document 01's numbers and
 -- lines: what the office program prints for each, byte by byte, and the number and the products of each starred text.
 -- And a few more worked examples of what is printed. Proved in `proofs/Trials.antt`.
-use Rattle.std.specs.Prelude.{◌≡◌, List, [], ◌∷◌, ◌++◌, ℕ}
+use Rattle.std.specs.Prelude.{◌≡◌, List, [], ◌∷◌, ◌++◌, ℕ, Ok, Err}
 use Prim.Native.String.{String}
 use Rattle.base.specs.Bytes.{bytes}
 use Rattle.product.specs.Notation.{plain, barred}
@@ -9,7 +9,6 @@ use Rattle.formula.specs.Notation.{compiled}
 use Rattle.call.specs.Calls.{Call}
 use Rattle.journal.specs.Format.{file_bytes}
 use Rattle.model.specs.declared.answer.Refusal.TheVariants.{Denied}
-use Rattle.model.specs.declared.answer.Answer.TheVariants.{Accepted, Refused}
 use Rattle.model.specs.Notation.{U, S, N, K, L, D, C, R, A}
 use Rattle.transcript.specs.Lines.{line, printed}
 
@@ -116,5 +115,5 @@ pub record Trials : Type 0 where
   pub version_one : printed (75 ∷ 76 ∷ 68 ∷ 1 ∷ 0 ∷ 0 ∷ 0 ∷ []) ≡ text ("file no 17" ∷ [])
   pub left_over : printed (75 ∷ 76 ∷ 68 ∷ 2 ∷ 0 ∷ 0 ∷ 0 ∷ 0 ∷ []) ≡ text ("file no 18" ∷ [])
   -- the second number
-  pub deny_lock : line 7279 67 (Refused (Denied 209)) ≡ text ("7279 C no 14 209" ∷ [])
-  pub largest : line 65535 76 (Accepted 65535) ≡ text ("65535 L ok 65535" ∷ [])
+  pub deny_lock : line 7279 67 (Err (Denied 209)) ≡ text ("7279 C no 14 209" ∷ [])
+  pub largest : line 65535 76 (Ok 65535) ≡ text ("65535 L ok 65535" ∷ [])

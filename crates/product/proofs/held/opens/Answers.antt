@@ -1,15 +1,19 @@
--- A sum of more than 8 products is too wide, and opens for no key set.
-use mathlib.Core.Path.{sym, ap, ◌∙◌}
-use Rattle.product.proofs.FilledRows.{sum_few, sum_wide}
+-- The sum's rows, one after the other.
+use Rattle.std.proofs.Common.{rules, tests, sym, ap, ◌∙◌}
+use Rattle.std.proofs.lemmas.Iterator.{YieldsList-from_slice}
+use Rattle.std.proofs.lemmas.Iterator.Search.{any_from_yields_List}
+use lib.ListN.{take}
+use Rattle.product.specs.Product.{opens}
+use Rattle.product.specs.Cells.{product_of}
 use Rattle.product.specs.Held.{held_by, opens_sum}
+use Rattle.product.proofs.FilledRows.{sum_few}
+use Rattle.product.proofs.KeySets.{opens_some}
 use Rattle.product.proofs.held.opens.Goals as goal
 
-pub returns-then-n-gt-MOST_PRODUCTS : goal.returns-then-n-gt-MOST_PRODUCTS
-returns-then-n-gt-MOST_PRODUCTS c =
+pub returns-then-n-le-MOST_PRODUCTS : goal.returns-then-n-le-MOST_PRODUCTS
+returns-then-n-le-MOST_PRODUCTS c =
     let a = c.args in
-    sym (ap (opens_sum (held_by a.keys.now)) (sum_wide a.rows.now c.if-n-gt-MOST_PRODUCTS.true))
-
-pub returns : goal.returns
-returns c =
-    let a = c.args in
-    c.some_opens.ensures ∙ sym (ap (opens_sum (held_by a.keys.now)) (sum_few a.rows.now c.if-n-gt-MOST_PRODUCTS.false))
+    let ρ = held_by a.keys.now in
+    let rows = take a.n a.rows.now in
+    any_from_yields_List (λ row. opens ρ (product_of row)) _ _ c.any.result c.any.ensures.ran (YieldsList-from_slice rows cc) (λ x b q k. search (rules, tests))
+    ∙ opens_some ρ rows ∙ sym (ap (opens_sum ρ) (sum_few a.rows.now c.if-n-le-MOST_PRODUCTS.true))

@@ -1,24 +1,19 @@
--- What is left from place i on has the answer of the whole.
-use borrow.Author.Rules.{rules}
-use mathlib.Core.Path.{refl, sym, ◌∙◌}
-use Rattle.product.proofs.KeySets.{opens_next, opens_past}
+-- The row's literals, one after the other.
+use Rattle.std.proofs.Common.{rules, tests, ◌∙◌}
+use Rattle.std.proofs.lemmas.Iterator.{YieldsList-from_slice}
+use Rattle.std.proofs.lemmas.Iterator.Search.{all_from_yields_List}
+use lib.ListN.{take}
+use Rattle.product.specs.Atom.{agrees}
+use Rattle.product.specs.Code.{literal_of}
 use Rattle.product.specs.Held.{held_by}
+use Rattle.product.specs.Cells.{size_of}
+use Rattle.product.proofs.KeySets.{opens_all}
 use Rattle.product.proofs.held.product_opens.Goals as goal
-
-pub loop-i-init : goal.loop-i-init
-loop-i-init c = refl
-
-pub returns-then-not-agrees : goal.returns-then-not-agrees
-returns-then-not-agrees c =
-    let keys = c.args.keys.now in
-    sym (c.loop-i.invariant ∙ rw (opens_next c.size-n.ensures (held_by keys) c.loop-i.i (search rules), ← c.decode-x.ensures, ← c.agrees.ensures, c.if-not-agrees.true))
-
-pub loop-i-preserved : goal.loop-i-preserved
-loop-i-preserved c =
-    let keys = c.args.keys.now in
-    c.loop-i.invariant ∙ rw (opens_next c.size-n.ensures (held_by keys) c.loop-i.i (search rules), ← c.decode-x.ensures, ← c.agrees.ensures, c.if-not-agrees.false)
 
 pub returns : goal.returns
 returns c =
-    let keys = c.args.keys.now in
-    sym (c.loop-i.invariant ∙ opens_past c.size-n.ensures (held_by keys) c.loop-i.i (search rules))
+    let row = c.args.row.now in
+    let ρ = held_by c.args.keys.now in
+    let cells = take (size_of row) row in
+    all_from_yields_List (λ x. agrees ρ (literal_of x)) _ _ c.all.result c.all.ensures.ran (YieldsList-from_slice cells cc) (λ x b q k. search (rules, tests))
+    ∙ opens_all ρ cells

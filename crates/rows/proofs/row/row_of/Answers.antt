@@ -1,7 +1,11 @@
--- Slot by slot.
-use Rattle.rows.proofs.RowMade.{row_made}
+-- Each key is made by its number, and the rest is read from the head.
+use Rattle.std.proofs.Common.{rules}
+use Rattle.std.specs.Prelude.{None}
+use Rattle.rows.specs.Internal.{key_in}
+use Rattle.rows.proofs.RowMade.{row_made, array_made}
 use Rattle.rows.proofs.row.row_of.Goals as goal
 
 pub returns : goal.returns
 returns c =
-    row_made _ _ c.literals_in-n.ensures c.slot_at.ensures c.slot_at-2.ensures c.slot_at-3.ensures c.slot_at-4.ensures c.slot_at-5.ensures c.slot_at-6.ensures c.lock_in.ensures c.has.ensures
+    row_made c.args.shown c.args.cells.now (search rules)
+    (array_made _ (key_in c.if-shown.n c.args.cells.now) _ (λ i y q k. search rules) None _ 6 c.from_fn.ensures.items) c.has.ensures

@@ -1,25 +1,18 @@
 -- The user's cell of the thread's table.
-use mathlib.Core.Path.{◌≡◌, sym, ap}
-use Prim.Native.Nat.{ℕ, ◌≤◌, ◌<◌}
+use Rattle.std.proofs.Common.{rules}
+use Rattle.std.specs.Prelude.{Err}
+use mathlib.Core.Path.{◌≡◌, sym, ap, ◌∙◌}
 use Rattle.model.specs.declared.answer.Refusal.TheVariants.{NoThread}
-use Rattle.model.specs.declared.answer.Answer.TheVariants.{Accepted, Refused}
-use Rattle.model.specs.Limits.{most_threads}
-use Rattle.model.specs.State.{is_thread, editor}
-use Rattle.model.specs.Cells.{Cells, cell, row_at, table_at, user_cell, state_of}
-use Rattle.threads.specs.Places.{Placed}
+use Rattle.model.specs.Answers.{Answer}
+use Rattle.model.specs.Cells.{threads_are}
 use Rattle.threads.specs.Editors.{editor_answer}
 use Rattle.threads.proofs.FoundThread.{stands, no_editor}
 use Rattle.threads.proofs.editor.editor.Goals as goal
 
-module _ (d : Cells) (n i : ℕ) (found : Placed d.threads n (is_thread n) i) where
-  nobody : most_threads ≤ i → Refused NoThread ≡ editor_answer (editor (state_of d) n)
-  nobody high = sym (ap editor_answer (no_editor d n i found.count found.place high))
-
-  somebody : i < most_threads → Accepted (cell (row_at (table_at d.threads i) 0) user_cell) ≡ editor_answer (editor (state_of d) n)
-  somebody low = sym (ap editor_answer (stands d n i found.count found.place low).edits)
-
-pub returns-then-place-ge-MOST_THREADS : goal.returns-then-place-ge-MOST_THREADS
-returns-then-place-ge-MOST_THREADS c = λ d. nobody _ _ _ c.find-place.ensures c.if-place-ge-MOST_THREADS.true
+pub returns-in_err-place : goal.returns-in_err-place
+returns-in_err-place c =
+    let refused : ◌≡◌ {A = Answer} c.from_residual.result (Err NoThread) = search rules in
+    λ d. refused ∙ sym (ap editor_answer (no_editor (threads_are c.args.threads.now d) (rw c.in_err-place.ensures.ok_part at c.find.ensures)))
 
 pub returns : goal.returns
-returns c = λ d. somebody _ _ _ c.find-place.ensures c.if-place-ge-MOST_THREADS.false
+returns c = λ d. sym (ap editor_answer (stands (threads_are c.args.threads.now d) (rw c.in_ok-place.ensures.ok_part at c.find.ensures)).edits)

@@ -1,16 +1,7 @@
--- The thread's own place first, then the scan.
-use mathlib.Core.Path.{sym, ◌∙◌}
-use native.Mathlib.Omega.{arith}
-use borrow.Author.Rules.{scaled_Fits}
-use lib.Dec.{lit<}
-use Rattle.threads.proofs.PlaceScan.{home_low, home_hit, home_miss}
+-- The test is whether it is free.
+use Rattle.std.proofs.Common.{rules}
+use Rattle.model.specs.State.{is_free}
 use Rattle.threads.proofs.place.find_free.Goals as goal
 
-pub offset_bounds-threads-home : goal.offset_bounds-threads-home
-offset_bounds-threads-home c = scaled_Fits _ 64 272 ((home_low _ _ (omega arith))) (lit< tt)
-
-pub returns-then-is_free : goal.returns-then-is_free
-returns-then-is_free c = home_hit _ _ (omega arith) (omega arith) (sym c.is_free.ensures ∙ c.if-is_free.true)
-
 pub returns : goal.returns
-returns c = home_miss _ _ (omega arith) (sym c.is_free.ensures ∙ c.if-is_free.false) c.first_free.ensures
+returns c = c.place_for.ensures is_free (λ t r h. search rules)

@@ -1,32 +1,24 @@
 -- The three pieces of the line are put one after the other, where there is room for them.
+use mathlib.Core.Path.{refl}
 use native.Mathlib.Omega.{arith}
-use Rattle.transcript.proofs.PutLines.{no_room_lem, room, file_line_put, file_small, file_digits}
+use Rattle.std.proofs.Common.{rules}
+use Rattle.transcript.proofs.PutBytes.{room_left}
+use Rattle.transcript.proofs.PutLines.{room, file_line_put, file_digits}
 use Rattle.transcript.proofs.lines.file_line.Goals as goal
 
-pub returns-then-buffer-lt-MOST_FILE_LINE : goal.returns-then-buffer-lt-MOST_FILE_LINE
-returns-then-buffer-lt-MOST_FILE_LINE c = no_room_lem 11 _ _ _ (omega arith)
+pub decimal-requires : goal.decimal-requires
+decimal-requires c =
+    room_left 11 _ c.put.ensures (omega arith) (omega (arith, file_digits c.args.refusal c.from.ensures))
 
-pub returns-then-buffer-at : goal.returns-then-buffer-at
-returns-then-buffer-at c = no_room_lem 11 _ _ _ (omega arith)
-
-pub overflow_cast-refusal_number : goal.overflow_cast-refusal_number
-overflow_cast-refusal_number c =
-    let f = c.args.refusal in
-    omega (arith, file_small f, c.refusal_number.ensures)
-
-pub decimal-second-requires : goal.decimal-second-requires
-decimal-second-requires c =
-    let f = c.args.refusal in
-    omega (arith, file_digits f c.refusal_number.ensures, c.put-first.ensures.ends)
-
-pub put-requires : goal.put-requires
-put-requires c =
-    let f = c.args.refusal in
-    omega (arith, file_digits f c.refusal_number.ensures, c.put-first.ensures.ends, c.decimal-second.ensures.ends)
+pub put-requires-2 : goal.put-requires-2
+put-requires-2 c =
+    room_left 3 1 c.decimal.ensures (room_left 11 3 c.put.ensures (omega arith) (omega arith))
+    (omega (arith, file_digits c.args.refusal c.from.ensures))
 
 pub returns : goal.returns
 returns c =
-    let a = c.args in
-    room 11 (omega arith)
-    (omega (arith, file_digits a.refusal c.refusal_number.ensures, c.put-first.ensures.ends, c.decimal-second.ensures.ends, c.put.ensures.ends))
-    (file_line_put a.refusal c.refusal_number.result c.refusal_number.ensures c.put-first.ensures c.decimal-second.ensures c.put.ensures)
+    let f = c.args.refusal in
+    let whole = file_line_put f c.from.result c.from.ensures c.put.ensures c.decimal.ensures c.put-2.ensures in
+    room 11 refl (search (rules, whole.same)) (omega arith)
+    (omega (arith, file_digits f c.from.ensures, c.put.ensures.ends, c.decimal.ensures.ends, c.put-2.ensures.ends))
+    whole

@@ -1,44 +1,44 @@
 -- The four pieces of a line are put one after the other, where there is room for the longest line.
+use mathlib.Core.Path.{refl}
 use Prim.Native.Nat.{◌<◌}
 use native.Mathlib.Omega.{arith}
+use Rattle.std.proofs.Common.{rules}
 use Rattle.transcript.proofs.Decimals.{five_digits}
-use Rattle.transcript.proofs.PutLines.{no_room_lem, room, line_put}
+use Rattle.transcript.proofs.PutBytes.{room_left}
+use Rattle.transcript.proofs.PutLines.{room, line_put}
 use Rattle.transcript.proofs.lines.line.Goals as goal
 
-pub returns-then-buffer-lt-MOST_LINE : goal.returns-then-buffer-lt-MOST_LINE
-returns-then-buffer-lt-MOST_LINE c = no_room_lem 20 _ _ _ (omega arith)
-
-pub returns-then-buffer-at : goal.returns-then-buffer-at
-returns-then-buffer-at c = no_room_lem 20 _ _ _ (omega arith)
-
-pub decimal-first-requires : goal.decimal-first-requires
-decimal-first-requires c =
+pub decimal-requires : goal.decimal-requires
+decimal-requires c =
     let place = c.args.place in
     let word : place < 65536 = omega arith in
     omega (arith, five_digits place word)
-
-pub put-second-requires : goal.put-second-requires
-put-second-requires c =
-    let place = c.args.place in
-    let word : place < 65536 = omega arith in
-    omega (arith, five_digits place word, c.decimal-first.ensures.ends)
-
-pub outcome-third-requires : goal.outcome-third-requires
-outcome-third-requires c =
-    let place = c.args.place in
-    let word : place < 65536 = omega arith in
-    omega (arith, five_digits place word, c.decimal-first.ensures.ends, c.put-second.ensures.ends)
 
 pub put-requires : goal.put-requires
 put-requires c =
     let place = c.args.place in
     let word : place < 65536 = omega arith in
-    omega (arith, five_digits place word, c.decimal-first.ensures.ends, c.put-second.ensures.ends, c.outcome-third.ensures.1)
+    room_left 20 3 c.decimal.ensures (omega arith) (omega (arith, five_digits place word))
+
+pub outcome-requires : goal.outcome-requires
+outcome-requires c =
+    let place = c.args.place in
+    let word : place < 65536 = omega arith in
+    room_left 15 11 c.put.ensures (room_left 20 15 c.decimal.ensures (omega arith) (omega (arith, five_digits place word))) (omega arith)
+
+pub put-requires-2 : goal.put-requires-2
+put-requires-2 c =
+    let place = c.args.place in
+    let word : place < 65536 = omega arith in
+    room_left 12 1 c.outcome.ensures.0
+    (room_left 15 12 c.put.ensures (room_left 20 15 c.decimal.ensures (omega arith) (omega (arith, five_digits place word))) (omega arith))
+    (omega (arith, c.outcome.ensures.0.ends, c.outcome.ensures.1))
 
 pub returns : goal.returns
 returns c =
     let a = c.args in
     let word : a.place < 65536 = omega arith in
-    room 20 (omega arith)
-    (omega (arith, five_digits a.place word, c.decimal-first.ensures.ends, c.put-second.ensures.ends, c.outcome-third.ensures.1, c.put.ensures.ends))
-    (line_put a.place a.answer c.decimal-first.ensures c.put-second.ensures c.outcome-third.ensures.0 c.put.ensures)
+    let whole = line_put a.place a.answer c.decimal.ensures c.put.ensures c.outcome.ensures.0 c.put-2.ensures in
+    room 20 refl (search (rules, whole.same)) (omega arith)
+    (omega (arith, five_digits a.place word, c.decimal.ensures.ends, c.put.ensures.ends, c.outcome.ensures.1, c.put-2.ensures.ends))
+    whole

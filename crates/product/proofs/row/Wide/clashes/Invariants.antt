@@ -1,0 +1,9 @@
+-- What is left from place i on has the answer of the whole.
+use mathlib.Core.Path.{◌≡◌}
+use lib.ListN.{drop}
+use Rattle.product.specs.Product.{clashes}
+use Rattle.product.specs.Internal.{wide_of}
+use Rattle.product.proofs.row.Wide.clashes.Given as goal
+
+abbrev pub invariant-loop-i : goal.invariant-loop-i
+invariant-loop-i l = let p = wide_of l.self-inside.size l.self-inside.cells in clashes l.x (drop l.from p) ≡ clashes l.x (drop l.i p)
