@@ -1,4 +1,3 @@
-pub mod Outcomes
 pub mod FilesInOrder
 pub mod Examples
 pub mod AnswerCodes

@@ -11,12 +11,14 @@ const MOST_TEXT: usize = 96;
 impl Fields {
     // Whether the letter is known, the fields that it does not name are 0, and the length of the call's text is right:
     // 1 to 96 bytes with L, else 0.
-    #[tactic(auto, using(crate::proofs::Texts::judged_alone))]
     pub fn fits(self, size: usize) -> bool
         ensures { result ≡ record_fits self.letter self.a self.b self.c size }
     {
         // The text is judged here alone, so the fields are judged as without one.
-        self.decode(0).is_some() & text_fits(self.letter, size)
+        match self.decode(0) {
+            Some(_) => text_fits(self.letter, size),
+            None => false,
+        }
     }
 }
 

@@ -13,7 +13,7 @@ pub(crate) fn literals(head: u32) -> usize
 }
 
 // An answer as one number: a grant lock's own, a deny lock's from here on, and one for none. It is kept for speed:
-// tried as a `Checked`, which goes through memory, it takes 11 instructions more a check, and C then misses its limit.
+// tried as a `Checked`, which goes through memory, a check takes 11 instructions more, and an A more than it ever took.
 const DENIED: u32 = 65536;
 
 pub(crate) const NOT_GRANTED: u32 = 131072;

@@ -1,6 +1,0 @@
--- The call's answer as a number.
-use Rattle.abi.proofs.AnswerCodes.{tells}
-use Rattle.abi.proofs.calls.rotundaaloe_raw_call_segment.Goals as goal
-
-pub returns : goal.returns
-returns c = λ text d. tells _ _ _ _ (c.call_segment.ensures text d) c.answer_code.ensures

@@ -1,6 +1,0 @@
--- The return's answer as a number.
-use Rattle.abi.proofs.AnswerCodes.{tells}
-use Rattle.abi.proofs.calls.rotundaaloe_raw_return_call.Goals as goal
-
-pub returns : goal.returns
-returns c = λ text d. tells _ _ _ _ (c.return_call.ensures text d) c.answer_code.ensures
