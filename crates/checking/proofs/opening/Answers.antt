@@ -3,9 +3,8 @@
 use mathlib.Core.Path.{◌≡◌, refl, sym, ap, ◌∙◌}
 use Prim.Native.Nat.{ℕ}
 use native.Mathlib.Omega.{arith}
-use borrow.Author.Rules.{rules}
 use Rattle.checking.specs.Internal.{head_checked, code_checked}
-use Rattle.checking.proofs.LoopSteps.{left_listable, left_hit, left_miss, left_end, deciding_start, rest_past, rest_stop, rest_idle, rest_shut, rest_denied, rest_first, grant_head}
+use Rattle.checking.proofs.LoopSteps.{left_hit, left_miss, left_end, deciding_start, rest_past, rest_stop, rest_idle, rest_shut, rest_denied, rest_first}
 use Rattle.checking.proofs.opening.Goals as goal
 
 -- with no row that opens there is no grant
@@ -16,23 +15,10 @@ none_opens e = ap head_checked e
 pub products-init : goal.products-init
 products-init c = deciding_start _ _ c.of-frames.ensures
 
--- the row that opened is a grant lock's
-pub decided_after-requires : goal.decided_after-requires
-decided_after-requires c =
-    let grant =
-    grant_head (sym c.told-products) c.products.invariant (omega arith) _ c.has.ensures c.if-has.true _ c.has-then-has.ensures
-    c.if-has-2.false in
-    search (rules, grant)
-
 pub products-preserved-then-not-agrees : goal.products-preserved-then-not-agrees
 products-preserved-then-not-agrees c =
     rest_shut (sym c.told-products) c.products.invariant (omega arith) _ c.has.ensures c.if-has.true
     (left_miss c.loop-k.invariant (λ z. omega arith) _ c.literal_in-literal.ensures _ c.agrees.ensures c.if-not-agrees.true)
-
-pub agrees-requires : goal.agrees-requires
-agrees-requires c =
-    let low = left_listable c.loop-k.invariant _ c.literal_in-literal.ensures in
-    search (rules, low)
 
 pub loop-k-preserved : goal.loop-k-preserved
 loop-k-preserved c = left_hit c.loop-k.invariant (λ z. omega arith) _ c.literal_in-literal.ensures _ c.agrees.ensures c.if-not-agrees.false

@@ -1,8 +1,7 @@
 -- The key says its kind.
 use mathlib.Core.Path.{◌∙◌}
-use borrow.Author.Rules.{rules}
 use Rattle.model.specs.Cells.{depth_of}
-use Rattle.checking.proofs.KeyCells.{user_key, thread_key, segment_key, defined_key, defined_low}
+use Rattle.checking.proofs.KeyCells.{user_key, thread_key, segment_key, defined_key}
 use Rattle.checking.proofs.keys.is_held.Goals as goal
 use Rattle.checking.proofs.keys.is_held.Goals.{in-Segment, in-Defined}
 
@@ -11,9 +10,6 @@ returns-in-User c = let t = c.args.frames.thread.now in user_key t (depth_of t) 
 
 pub returns-in-Thread : goal.returns-in-Thread
 returns-in-Thread c = let t = c.args.frames.thread.now in thread_key t (depth_of t) c.in-Thread.is
-
-pub overflow_add-code : goal.overflow_add-code
-overflow_add-code c = let low = defined_low c.in-Defined.is c.requires in search (rules, low)
 
 pub returns : goal.returns
 returns c =

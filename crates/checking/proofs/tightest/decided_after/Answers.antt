@@ -3,9 +3,8 @@
 use mathlib.Core.Path.{◌≡◌, sym, ap, subst, ◌∙◌}
 use Prim.Native.Nat.{ℕ}
 use native.Mathlib.Omega.{arith}
-use borrow.Author.Rules.{rules}
 use Rattle.checking.specs.Internal.{GrantHead, head_checked}
-use Rattle.checking.proofs.LoopSteps.{left_listable, left_hit, left_miss, left_end, deciding_as, rest_past, rest_stop, rest_idle, rest_shut, rest_denied, rest_longer, rest_looser, grant_head}
+use Rattle.checking.proofs.LoopSteps.{left_hit, left_miss, left_end, deciding_as, rest_past, rest_stop, rest_idle, rest_shut, rest_denied, rest_longer, rest_looser, grant_head}
 use Rattle.checking.proofs.tightest.decided_after.Goals as goal
 use Rattle.checking.proofs.tightest.decided_after.Goals.{then-has+then-can_change+else-loop-k-test+else-has-2, then-has+else-can_change, else-has+else-head-eq0, else-products-test, then-products-test+else-has+then-head-eq0}
 
@@ -19,11 +18,6 @@ products-preserved-then-not-agrees c =
       rest_shut (sym c.told-products) inv.1 (omega arith) _ c.has.ensures c.if-has.true
           (left_miss c.loop-k.invariant (λ z. omega arith) _ c.literal_in-literal.ensures _ c.agrees.ensures c.if-not-agrees.true),
     )
-
-pub agrees-requires : goal.agrees-requires
-agrees-requires c =
-    let low = left_listable c.loop-k.invariant _ c.literal_in-literal.ensures in
-    search (rules, low)
 
 pub loop-k-preserved : goal.loop-k-preserved
 loop-k-preserved c = left_hit c.loop-k.invariant (λ z. omega arith) _ c.literal_in-literal.ensures _ c.agrees.ensures c.if-not-agrees.false
@@ -51,10 +45,6 @@ products-preserved c =
             deciding_as w.found-is (rest_idle (sym c.told-products) inv.1 (omega arith) _ stands w.if-has.false w.if-head-eq0.false)
       ],
     )
-
--- the answer by the head that decides
-pub granted-requires : goal.granted-requires
-granted-requires c = c.products.invariant.0
 
 pub returns-then-has-2 : goal.returns-then-has-2
 returns-then-has-2 c =
