@@ -1,7 +1,7 @@
 -- Lists, optional values and maps from numbers, as the definitions use them.
 use Rattle.std.specs.Prelude.{Bool, true, false, ◌&&◌, ◌||◌, cond, List, [], ◌∷◌, ◌++◌, ℕ, zero, suc, max, ◌+◌, eqb, ltb, Option, None, Some}
 
-module _ {A : Type 0} where
+module _ {ℓ} {A : Type ℓ} where
   abbrev pub any : (A → Bool) → List A → Bool
   any p [] = false
   any p (x ∷ xs) = p x || any p xs
@@ -15,6 +15,7 @@ module _ {A : Type 0} where
   keep p [] = []
   keep p (x ∷ xs) = keep_if (p x) x (keep p xs)
 
+module _ {A : Type 0} where
   abbrev pub or_else : Bool → A → Option A → Option A
   or_else true x o = Some x
   or_else false x o = o
@@ -37,14 +38,15 @@ module _ {A : Type 0} where
   abbrev pub greatest : (A → ℕ) → List A → Option A
   greatest size xs = greatest_from size None xs
 
+  abbrev pub is_some : Option A → Bool
+  is_some None = false
+  is_some (Some x) = true
+
+module _ {ℓ} {A : Type ℓ} where
   -- the place of the first element that passes the test; the length if none does
   abbrev pub index_of : (A → Bool) → List A → ℕ
   index_of p [] = 0
   index_of p (x ∷ xs) = cond (p x) 0 (suc (index_of p xs))
-
-  abbrev pub is_some : Option A → Bool
-  is_some None = false
-  is_some (Some x) = true
 
   abbrev pub tail_of : List A → List A
   tail_of [] = []

@@ -2,6 +2,7 @@
 -- The reader need not be believed: `MalformedExactly` (Theorems/Grammar), `TooWideExactly` (Theorems/Width),
 -- `UnsatisfiableExactly` (Theorems/Unsatisfiable) and `OpeningLaw` (Theorems/Opening) say each answer without it.
 use Rattle.std.specs.Prelude.{false, cond, List, [], ◌∷◌, ℕ, leb, length, Option, None, Some, Result, Ok, Err}
+use Rattle.base.specs.Lists.{or_default}
 use Rattle.product.specs.Sum.{Sum, Sum?}
 use Rattle.product.specs.Cells.{rows_of}
 use Rattle.formula.specs.declared.text.Issued.{Issued}
@@ -38,12 +39,16 @@ refusal_number Malformed = 11
 refusal_number TooWide = 12
 refusal_number Unsatisfiable = 13
 
--- that of an outcome's; 0 of none
+-- what refuses an outcome's text
+abbrev pub refusal_in : Outcome → Option Refusal
+refusal_in (accepted ps) = None
+refusal_in malformed = Some Malformed
+refusal_in too_wide = Some TooWide
+refusal_in unsatisfiable = Some Unsatisfiable
+
+-- its number; 0 of none
 abbrev pub number_of_refusal : Outcome → ℕ
-number_of_refusal (accepted ps) = 0
-number_of_refusal malformed = refusal_number Malformed
-number_of_refusal too_wide = refusal_number TooWide
-number_of_refusal unsatisfiable = refusal_number Unsatisfiable
+number_of_refusal o = or_default 0 refusal_number (refusal_in o)
 
 abbrev pub sum_in : Outcome → Sum
 sum_in (accepted ps) = ps
@@ -52,11 +57,12 @@ sum_in too_wide = []
 sum_in unsatisfiable = []
 
 -- the answer in arrays, every place of it: the products' rows, and blank rows after them; or the refusal alone
+abbrev pub answered : Sum → Option Refusal → Result Compiled Refusal
+answered ps None = Ok (record { count = length ps; rows = rows_of ps })
+answered ps (Some r) = Err r
+
 abbrev pub answer_of : Outcome → Result Compiled Refusal
-answer_of (accepted ps) = Ok (record { count = length ps; rows = rows_of ps })
-answer_of malformed = Err Malformed
-answer_of too_wide = Err TooWide
-answer_of unsatisfiable = Err Unsatisfiable
+answer_of o = answered (sum_in o) (refusal_in o)
 
 abbrev pub compiled_of : Issued → List ℕ → Result Compiled Refusal
 compiled_of i s = answer_of (outcome_of i s)

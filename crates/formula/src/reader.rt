@@ -34,8 +34,8 @@ pub(crate) struct Reader<'a> {
 impl Reader<'_> {
     // A whole formula: parts joined by `|`.
     #[cycle(readers)]
-    pub(crate) fn read_or(self, at: usize, rows: &mut Rows) -> Option<Node>
-        ensures { OrAt self.entry.issued self.entry.text.now self.entry.level self.entry.odd result rows.new at }
+    pub(crate) fn read_or(&self, at: usize, rows: &mut Rows) -> Option<Node>
+        ensures { OrAt self.now.issued self.now.text.now self.now.level self.now.odd result rows.new at }
     {
         let mut left = self.read_and(at, rows)?;
         while byte_at(self.text, left.end) == b'|' {
@@ -48,8 +48,8 @@ impl Reader<'_> {
 
     // Parts joined by `&`.
     #[cycle(readers)]
-    fn read_and(self, at: usize, rows: &mut Rows) -> Option<Node>
-        ensures { AndAt self.entry.issued self.entry.text.now self.entry.level self.entry.odd result rows.new at }
+    fn read_and(&self, at: usize, rows: &mut Rows) -> Option<Node>
+        ensures { AndAt self.now.issued self.now.text.now self.now.level self.now.odd result rows.new at }
     {
         let mut left = self.read_not(at, rows)?;
         while byte_at(self.text, left.end) == b'&' {
@@ -62,14 +62,14 @@ impl Reader<'_> {
 
     // A key, a bracket or a NOT.
     #[cycle(readers)]
-    fn read_not(self, at: usize, rows: &mut Rows) -> Option<Node>
-        ensures { NotAt self.entry.issued self.entry.text.now self.entry.level self.entry.odd result rows.new at }
+    fn read_not(&self, at: usize, rows: &mut Rows) -> Option<Node>
+        ensures { NotAt self.now.issued self.now.text.now self.now.level self.now.odd result rows.new at }
     {
         let b = byte_at(self.text, at);
         if b == b'!' {
             let negated = Reader {
                 odd: !self.odd,
-                ..self
+                ..*self
             };
             return negated.read_not(at + 1, rows);
         }
@@ -81,12 +81,12 @@ impl Reader<'_> {
 
     // A whole formula and its closing bracket, the opening one just read.
     #[cycle(readers)]
-    fn read_bracket(self, at: usize, rows: &mut Rows) -> Option<Node>
-        ensures { BracketAt self.entry.issued self.entry.text.now self.entry.level self.entry.odd result rows.new at }
+    fn read_bracket(&self, at: usize, rows: &mut Rows) -> Option<Node>
+        ensures { BracketAt self.now.issued self.now.text.now self.now.level self.now.odd result rows.new at }
     {
         let inside = Reader {
             level: self.level.checked_sub(1)?,
-            ..self
+            ..*self
         };
         let inner = inside.read_or(at, rows)?;
         if byte_at(self.text, inner.end) != b')' {
@@ -99,8 +99,8 @@ impl Reader<'_> {
     }
 
     // A key that was handed out.
-    fn read_atom(self, at: usize, rows: &mut Rows) -> Option<Node>
-        ensures { AtomAt self.entry.issued self.entry.text.now self.entry.odd result rows.new at }
+    fn read_atom(&self, at: usize, rows: &mut Rows) -> Option<Node>
+        ensures { AtomAt self.now.issued self.now.text.now self.now.odd result rows.new at }
     {
         let letter = *self.text.get(at)?;
         let (number, end) = read_number(self.text, at + 1)?;

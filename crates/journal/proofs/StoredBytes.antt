@@ -1,12 +1,12 @@
 -- Runs of bytes that are stored: one more of a run, two runs, and the stores of an append.
 use Prim.Native.Nat.{ℕ, suc, ◌+◌, ◌<◌, ◌≤◌}
-use mathlib.Core.Path.{◌≡◌, refl, sym, ap, ◌∙◌}
+use mathlib.Core.Path.{◌≡◌, refl, sym, ◌∙◌}
 use mathlib.Core.List.{List, [], ◌∷◌, ◌++◌}
 use native.Mathlib.Nat.{add-zero, le_of_lt}
 use native.Mathlib.Numerals.{add-one}
 use native.Mathlib.Omega.{arith}
 use lib.ListN.{length, get_or, take, drop, set, take-append-drop}
-use lib.Seq.{sets, sets-eq, length-sets, take-suc, length-take-le}
+use lib.Seq.{sets, sets-eq, take-suc, length-take-le}
 use borrow.Rule.Slice.PartMut.{put_mid}
 use Rattle.std.proofs.lemmas.Slice.{take-put_mid, drop-put_mid}
 use Rattle.call.specs.declared.request.Fields.{Fields}
@@ -18,6 +18,12 @@ use Rattle.journal.specs.Appending.{with_record}
 pub sets_append : (xs ys l : List ℕ) (i : ℕ) → sets l i (xs ++ ys) ≡ sets (sets l i xs) (i + length xs) ys
 sets_append [] ys l i = rw (add-zero i)
 sets_append (x ∷ xs) ys l i = let e : i + suc (length xs) ≡ suc i + length xs = omega arith in rw e (sets_append xs ys _ (suc i))
+
+-- one more byte is stored
+pub store_more : (d at : List ℕ) (i : ℕ) (s : List ℕ) (j : ℕ) → j < length s → at ≡ sets d i (take j s)
+    → set at (i + j) (get_or s j 0) ≡ sets d i (take (j + 1) s)
+store_more d at i s j h e =
+    rw (e, add-one j, take-suc s j 0 h, sets_append (take j s) (get_or s j 0 ∷ []) d i, length-take-le j s (le_of_lt h))
 
 -- a run is copied to its place
 pub run_copied : (d e s : List ℕ) (at k : ℕ) → at + length s ≤ length d → k ≡ length s → e ≡ s → put_mid at k d e ≡ sets d at s

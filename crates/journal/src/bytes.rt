@@ -18,11 +18,13 @@ pub(crate) fn store_word(d: &mut [u8], at: usize, word: u16)
     store(d, at, &word.to_le_bytes());
 }
 
-// Stores `s` in `d` from a place on.
-#[tactic(auto, using(crate::proofs::StoredBytes::run_copied))]
+// Stores `s` in `d` from a place on, byte by byte: `copy_from_slice` would be a call of C's `memmove`, which the
+// library for C would need from outside.
 pub(crate) fn store(d: &mut [u8], at: usize, s: &[u8])
     requires { at + length s.now ≤ length d.old }
     ensures { d.new ≡ sets d.old at s.now }
 {
-    d[at..at + s.len()].copy_from_slice(s);
+    for (i, byte) in s.iter().enumerate() {
+        d[at + i] = *byte;
+    }
 }

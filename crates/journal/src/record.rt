@@ -52,12 +52,7 @@ pub(crate) fn record_at(file: &[u8], at: usize) -> Result<Option<Entry>, Refusal
 pub(crate) fn record_size(file: &[u8], at: usize) -> Option<usize>
     ensures { result ≡ size_at file.now at }
 {
-    // with `checked_sub` the check of a file of short records takes 1.6 times as long
-    if file.len() <= at {
-        return None;
-    }
-    let left = file.len() - at;
-    if left < RECORD_HEAD {
+    if file.len() < RECORD_HEAD || file.len() - RECORD_HEAD < at {
         return None;
     }
     let text = word_at(file, at + TEXT_LENGTH_AT) as usize;
@@ -65,7 +60,7 @@ pub(crate) fn record_size(file: &[u8], at: usize) -> Option<usize>
         return None;
     }
     let size = RECORD_HEAD + text;
-    if left < size {
+    if file.len() < at + size {
         return None;
     }
     Some(size)

@@ -2,18 +2,18 @@
 -- one is of a lock.
 use Rattle.std.specs.Prelude.{Option, None, Some}
 use Rattle.std.specs.Option.{unwrap_or}
-use Rattle.std.specs.List.{list_any, position}
+use Rattle.std.specs.List.{list_any, position, prefix_len}
 use mathlib.Core.Path.{◌≡◌, refl, ap, ◌∙◌}
-use mathlib.Core.Bool.{Bool, ◌||◌}
+use mathlib.Core.Bool.{Bool, ◌||◌, not}
 use mathlib.Core.List.{[], ◌∷◌}
-use Prim.Native.Nat.{ℕ, suc}
+use Prim.Native.Nat.{ℕ, suc, ◌+◌}
 use native.Mathlib.Omega.{arith}
 use lib.ListN.{length, take}
-use Rattle.base.specs.Lists.{any, index_of}
+use Rattle.base.specs.Lists.{index_of}
 use Rattle.model.specs.Limits.{most_standing}
-use Rattle.model.specs.Cells.{Table, used_rows}
+use Rattle.model.specs.Cells.{Row, Table, used_rows}
 use Rattle.base.proofs.Lists.{case_bool}
-use Rattle.model.proofs.Refinement.ProductRows.{take_used, length_used}
+use Rattle.model.proofs.Refinement.ProductRows.{length_used}
 use Rattle.locks.proofs.FirstFound.{first_some, first_none}
 use Rattle.locks.specs.Internal.{ends, UsedCount, is_of, has_row}
 
@@ -33,10 +33,12 @@ used_count {t} most (Some n) e f =
     let (s, h) = first_some ends t e in
     record { count = f ∙ s ∙ i; low = omega arith }
 
-asked : (lock : ℕ) (t : Table) → list_any (is_of lock) t ≡ any (is_of lock) t
-asked lock [] = refl
-asked lock (w ∷ t) = ap (λ (b : Bool). is_of lock w || b) (asked lock t)
+-- a used row begins with another number
+abbrev pub begins : Row → Bool
+begins w = not (ends w)
 
-pub row_asked : (lock n : ℕ) (t : Table) {r : Bool} → UsedCount t n → r ≡ list_any (is_of lock) (take n t) → r ≡ has_row lock t
-row_asked lock n t used e =
-    e ∙ ap (λ (m : ℕ). list_any (is_of lock) (take m t)) used.count ∙ ap (list_any (is_of lock)) (take_used t) ∙ asked lock (used_rows t)
+pub row_asked : (lock : ℕ) (t : Table) → list_any (is_of lock) (take (prefix_len begins t) t) ≡ has_row lock t
+row_asked lock [] = refl
+row_asked lock (w ∷ t) =
+    let one : 1 + prefix_len begins t ≡ suc (prefix_len begins t) = omega arith in
+    case_bool (ends w) (λ e. simp e) (λ e. simp (e, one) (ap (λ (b : Bool). is_of lock w || b) (row_asked lock t)))

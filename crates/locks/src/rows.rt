@@ -1,7 +1,6 @@
 // The product rows of one segment's standing locks, each with its lock number: the used ones are those before the first
 // that begins with 0.
 ghost use Rattle.std.specs.Prelude.{◌≡◌, ◌+◌, ◌≤◌, position};
-ghost use Rattle.std.specs.List.{list_any};
 ghost use Rattle.model.specs.Limits.{most_standing};
 ghost use Rattle.model.specs.Stores.{end_rows, store_rows};
 ghost use Rattle.locks.specs.Internal.{ends, UsedCount, is_of, has_row, segment_of_lock};
@@ -28,13 +27,11 @@ fn end(products: &Products) -> Option<usize>
 fn has_row(products: &Products, lock: u16) -> bool
     ensures { result ≡ has_row lock products.now }
 {
-    some_is_of(&products[..used(products)], lock)
-}
-
-fn some_is_of(rows: &[[u32; 8]], lock: u16) -> bool
-    ensures { result ≡ list_any (is_of lock) rows.now }
-{
-    rows.iter().any(|row| is_of(row, lock))
+    // one pass: over the rows that `used` counts, a D takes up to three times as long
+    products
+        .iter()
+        .take_while(|row| row[0] != 0)
+        .any(|row| is_of(row, lock))
 }
 
 fn is_of(row: &[u32; 8], lock: u16) -> bool

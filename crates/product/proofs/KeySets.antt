@@ -1,15 +1,12 @@
--- A key set asked element by element: over its keys, over a row's literals and over rows; and what a literal's sign
--- makes of the answer for its key.
-use mathlib.Core.Path.{◌≡◌, refl, sym, ap, ap₂, ◌∙◌}
-use mathlib.Core.Bool.{Bool, not, ◌&&◌, ◌||◌}
+-- A key set asked element by element: over its keys, over a row's literals and over rows.
+use mathlib.Core.Path.{◌≡◌, refl, ap, ap₂, ◌∙◌}
+use mathlib.Core.Bool.{Bool, ◌&&◌, ◌||◌}
 use mathlib.Core.List.{List, [], ◌∷◌, map}
 use Rattle.std.specs.List.{list_any, list_all}
 use Rattle.std.specs.Cmp.{nat_eq_equiv}
 use Prim.Native.Nat.{ℕ}
 use lib.Dec.{eqb}
 use Rattle.product.specs.declared.literal.Key.{Key}
-use Rattle.product.specs.declared.literal.Literal.{Literal}
-use Rattle.product.specs.declared.literal.Literal.TheVariants.{Plain, Barred}
 use Rattle.product.specs.Atom.{Atom, agrees}
 use Rattle.product.specs.Product.{opens}
 use Rattle.product.specs.Sum.{opens_any}
@@ -24,17 +21,8 @@ unfolding member
 member_any k [] = refl
 member_any k (y ∷ keys) = ap₂ (λ (a b : Bool). a || b) (nat_eq_equiv.symm y k) (member_any k keys)
 
--- a literal, by its sign
-
-module _ (keys : List ℕ) (k : Key) {c : ℕ} (e : EncodedKey k c) {r : Bool} (h : r ≡ list_any (λ y. eqb y c) keys) where
-  held : r ≡ held_by keys k
-  held = h ∙ member_any c keys ∙ ap (λ (n : ℕ). member n keys) e.code
-
-  pub plain_agrees : {l : Literal} → l ≡ Plain k → r ≡ agrees (held_by keys) l
-  plain_agrees i = held ∙ ap (agrees (held_by keys)) (sym i)
-
-  pub barred_agrees : {l : Literal} → l ≡ Barred k → not r ≡ agrees (held_by keys) l
-  barred_agrees i = ap not held ∙ ap (agrees (held_by keys)) (sym i)
+pub any_held : (keys : List ℕ) (k : Key) {c : ℕ} → EncodedKey k c → {r : Bool} → r ≡ list_any (λ y. eqb y c) keys → r ≡ held_by keys k
+any_held keys k {c} e h = h ∙ member_any c keys ∙ ap (λ (n : ℕ). member n keys) e.code
 
 -- a row's product, and the products of rows
 

@@ -5,7 +5,7 @@ ghost use Rattle.product.specs.Product.{opens};
 ghost use Rattle.product.specs.Cells.{product_of, sum_of};
 ghost use Rattle.product.specs.Held.{held_by, opens_sum};
 
-use crate::literal::Literal;
+use crate::literal::{Key, Literal};
 use crate::row::{Cells, size};
 use crate::sum::{MOST_PRODUCTS, Rows};
 
@@ -31,7 +31,21 @@ fn agrees(l: Literal, keys: &[u32]) -> bool
     ensures { result ≡ agrees (held_by keys.now) l }
 {
     match l {
-        Literal::Plain(key) => keys.contains(&u32::from(key)),
-        Literal::Barred(key) => !keys.contains(&u32::from(key)),
+        Literal::Plain(key) => is_held(key, keys),
+        Literal::Barred(key) => !is_held(key, keys),
     }
+}
+
+// With fewer keys a call of `contains` costs more than it saves.
+const MANY_KEYS: usize = 8;
+
+// The key's number is among those of the key set.
+fn is_held(key: Key, keys: &[u32]) -> bool
+    ensures { result ≡ held_by keys.now key }
+{
+    let number = u32::from(key);
+    if keys.len() < MANY_KEYS {
+        return keys.iter().any(|&x| x == number);
+    }
+    keys.contains(&number)
 }

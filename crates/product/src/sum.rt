@@ -126,14 +126,13 @@ impl SumRows {
     }
 
     // Leaves no cell of a sum that is too wide.
-    fn store(self, rows: &mut Rows) -> usize
-        ensures { HoldsSum self rows.new result }
+    fn store(&self, rows: &mut Rows) -> usize
+        ensures { HoldsSum self.now rows.new result }
     {
         if MOST_PRODUCTS < self.count {
             return store_too_wide(rows);
         }
-        let made = self.rows;
-        *rows = made;
+        rows.copy_from_slice(&self.rows);
         self.count
     }
 }

@@ -3,7 +3,7 @@ ghost use Rattle.call.specs.declared.request.Request.TheVariants.{NewSegment, Ne
 ghost use Rattle.model.specs.Cells.{registry_is, makers_are, segments_are, locks_are, threads_are, ◌and◌};
 ghost use Rattle.model.specs.Serving.{ServesLent};
 
-use crate::list::{Kept, key_list, without};
+use crate::list::{Kept, is_listed, key_list, without};
 use crate::names::test_names;
 use model::answer::{Answer, Refusal};
 use model::arrays::{
@@ -98,7 +98,7 @@ pub fn give_key(
     }
     let list = key_list(segments, segment);
     let code = DEFINED_CODES + key;
-    if list.contains(&code) {
+    if is_listed(&list, code) {
         return Err(Refusal::AlreadyPresent);
     }
     let Kept { mut cells, count } = without(&list, code);
@@ -134,7 +134,7 @@ pub fn take_key(
     }
     let list = key_list(segments, segment);
     let code = DEFINED_CODES + key;
-    if !list.contains(&code) {
+    if !is_listed(&list, code) {
         return Err(Refusal::NotPresent);
     }
     let Kept { cells, count } = without(&list, code);

@@ -1,5 +1,6 @@
 // Document 01: a segment's key list. A row of 8 cells, each a key or none.
-ghost use Rattle.std.specs.Prelude.{◌≡◌, ◌<◌};
+ghost use Rattle.std.specs.Prelude.{◌≡◌, ◌<◌, eqb};
+ghost use Rattle.std.specs.List.{list_any};
 ghost use Rattle.model.specs.Limits.{most_segments};
 ghost use Rattle.model.specs.Cells.{table_at, list_row};
 ghost use Rattle.segments.specs.Internal.{Without};
@@ -14,6 +15,13 @@ pub(crate) fn key_list(segments: &Segments, segment: u16) -> Row
     let mut list = segments[segment as usize][1];
     list[0] = segment;
     list
+}
+
+// Cell by cell: `contains` reads the eight at once, and waits for the first, which was just written.
+pub(crate) fn is_listed(list: &Row, code: u16) -> bool
+    ensures { result ≡ list_any (λ x. eqb x code) list.now }
+{
+    list.iter().any(|&x| x == code)
 }
 
 // Keys closed up in a row's first cells, and how many they are: no `Vec`, since the guard has no heap.

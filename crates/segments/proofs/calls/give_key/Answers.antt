@@ -136,14 +136,14 @@ returns-then-owner-user c =
       | then-owner-user-via-else-owner-user+then-maker-user w ↦ simp (eq-eqb _ _ w.if-owner-user.false, ne_eqb _ _ w.if-maker-user.true)
     ])
 
-pub returns-then-contains : goal.returns-then-contains
-returns-then-contains c =
-    λ text d. present _ text _ _ _ c.editor.ensures c.in_ok-user.was c.test_names.ensures.tested c.in_ok-test_names.was c.if-owner-user.false c.if-maker-user.false c.key_list-list.ensures c.contains.ensures.value c.if-contains.true
+pub returns-then-is_listed : goal.returns-then-is_listed
+returns-then-is_listed c =
+    λ text d. present _ text _ _ _ c.editor.ensures c.in_ok-user.was c.test_names.ensures.tested c.in_ok-test_names.was c.if-owner-user.false c.if-maker-user.false c.key_list-list.ensures c.is_listed.ensures c.if-is_listed.true
 
 pub returns-then-count-ge-MOST_LISTED : goal.returns-then-count-ge-MOST_LISTED
 returns-then-count-ge-MOST_LISTED c =
-    λ text d. full _ text _ _ _ c.editor.ensures c.in_ok-user.was c.test_names.ensures.tested c.in_ok-test_names.was c.if-owner-user.false c.if-maker-user.false c.key_list-list.ensures c.contains.ensures.value c.if-contains.false c.without-count.ensures c.if-count-ge-MOST_LISTED.true
+    λ text d. full _ text _ _ _ c.editor.ensures c.in_ok-user.was c.test_names.ensures.tested c.in_ok-test_names.was c.if-owner-user.false c.if-maker-user.false c.key_list-list.ensures c.is_listed.ensures c.if-is_listed.false c.without-count.ensures c.if-count-ge-MOST_LISTED.true
 
 pub returns : goal.returns
 returns c =
-    λ text d. given _ text _ _ _ c.editor.ensures c.in_ok-user.was c.test_names.ensures.tested c.in_ok-test_names.was c.if-owner-user.false c.if-maker-user.false c.key_list-list.ensures c.contains.ensures.value c.if-contains.false c.without-count.ensures c.if-count-ge-MOST_LISTED.false
+    λ text d. given _ text _ _ _ c.editor.ensures c.in_ok-user.was c.test_names.ensures.tested c.in_ok-test_names.was c.if-owner-user.false c.if-maker-user.false c.key_list-list.ensures c.is_listed.ensures c.if-is_listed.false c.without-count.ensures c.if-count-ge-MOST_LISTED.false

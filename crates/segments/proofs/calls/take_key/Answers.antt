@@ -92,10 +92,10 @@ returns-in_err-test_names c =
 pub returns-then-owner-user : goal.returns-then-owner-user
 returns-then-owner-user c = λ text d. not_owner _ text _ _ _ c.editor.ensures c.in_ok-user.was c.test_names.ensures.tested c.in_ok-test_names.was c.if-owner-user.true
 
-pub returns-then-not-contains : goal.returns-then-not-contains
-returns-then-not-contains c =
-    λ text d. absent _ text _ _ _ c.editor.ensures c.in_ok-user.was c.test_names.ensures.tested c.in_ok-test_names.was c.if-owner-user.false c.key_list-list.ensures c.contains.ensures.value c.if-not-contains.true
+pub returns-then-not-is_listed : goal.returns-then-not-is_listed
+returns-then-not-is_listed c =
+    λ text d. absent _ text _ _ _ c.editor.ensures c.in_ok-user.was c.test_names.ensures.tested c.in_ok-test_names.was c.if-owner-user.false c.key_list-list.ensures c.is_listed.ensures c.if-not-is_listed.true
 
 pub returns : goal.returns
 returns c =
-    λ text d. taken _ text _ _ _ c.editor.ensures c.in_ok-user.was c.test_names.ensures.tested c.in_ok-test_names.was c.if-owner-user.false c.key_list-list.ensures c.contains.ensures.value c.if-not-contains.false c.without-count.ensures c.revoke.ensures
+    λ text d. taken _ text _ _ _ c.editor.ensures c.in_ok-user.was c.test_names.ensures.tested c.in_ok-test_names.was c.if-owner-user.false c.key_list-list.ensures c.is_listed.ensures c.if-not-is_listed.false c.without-count.ensures c.revoke.ensures

@@ -5,16 +5,16 @@ use Rattle.formula.proofs.ReaderSteps.{Joined, and_chain, or_chain}
 use Rattle.formula.proofs.reader.Reader.+readers.Given as goal
 
 abbrev pub decreases-read_and : goal.decreases-read_and
-decreases-read_and l = 4 * (length l.self.text.now - l.at) + 2
+decreases-read_and l = 4 * (length l.self.now.text.now - l.at) + 2
 
 abbrev pub decreases-read_bracket : goal.decreases-read_bracket
-decreases-read_bracket l = 4 * (length l.self.text.now - l.at) + 4
+decreases-read_bracket l = 4 * (length l.self.now.text.now - l.at) + 4
 
 abbrev pub decreases-read_not : goal.decreases-read_not
-decreases-read_not l = 4 * (length l.self.text.now - l.at) + 1
+decreases-read_not l = 4 * (length l.self.now.text.now - l.at) + 1
 
 abbrev pub decreases-read_or : goal.decreases-read_or
-decreases-read_or l = 4 * (length l.self.text.now - l.at) + 3
+decreases-read_or l = 4 * (length l.self.now.text.now - l.at) + 3
 
 abbrev pub invariant-read_and-loop-right : goal.invariant-read_and-loop-right
 invariant-read_and-loop-right l = Joined (and_chain l.self.issued l.self.level l.self.odd) l.self.text.now l.at l.left l.rows
